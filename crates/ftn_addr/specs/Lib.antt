@@ -1,0 +1,11 @@
+pub mod Address
+pub mod Content
+pub mod Counts
+pub mod Digits
+pub mod Frames
+pub mod Key
+pub mod Limits
+pub mod Parts
+pub mod Reading
+pub mod Views
+pub mod Writing
