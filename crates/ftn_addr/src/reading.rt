@@ -94,10 +94,8 @@ fn domain_or(alloc: Global, part: Option<Part<'_>>, missing: &Bytes) -> Result<B
     }
 }
 
-/// Reads an address. What the text leaves out is the home's, and a missing point is 0.
-pub fn read_addr(alloc: Global, text: &[u8], home: &Addr) -> Result<Addr, AddrFault>
-    ensures reads { Gives address result (reading text.now (address home.now)) }
-    ensures limits { IsAddress (address home.now) → IfOk result (λ addr. IsAddress (address addr)) }
+fn spelled(alloc: Global, text: &[u8], home: &Addr) -> Result<Addr, AddrFault>
+    ensures { Gives address result (reading text.now (address home.now)) }
 {
     let parts = Parts::of(text).ok_or(AddrFault::NoNet)?;
     let zone = number_or(parts.zone, home.zone)?;
@@ -112,4 +110,13 @@ pub fn read_addr(alloc: Global, text: &[u8], home: &Addr) -> Result<Addr, AddrFa
         point,
         domain,
     })
+}
+
+/// Reads an address. What the text leaves out is the home's, and a missing point is 0; the leftmost bad
+/// part is told. Of a home within the limits only addresses within the limits are read.
+pub fn read_addr(alloc: Global, text: &[u8], home: &Addr) -> Result<Addr, AddrFault>
+    ensures reads { Gives address result (reading text.now (address home.now)) }
+    ensures limits { IsAddress (address home.now) → IfOk result (λ addr. IsAddress (address addr)) }
+{
+    spelled(alloc, text, home)
 }
