@@ -1,0 +1,10 @@
+pub mod Calls
+pub mod Durable
+pub mod Images
+pub mod Items
+pub mod Lists
+pub mod Node
+pub mod Rows
+pub mod Stores
+pub mod Talk
+pub mod Turns

@@ -1,0 +1,16 @@
+//! The state of a FidoNet node, its steps, and the store that keeps it.
+//!
+//! The definitions stand in `specs/`: what a node keeps over a stop (`Durable`), what it has while it runs
+//! (`Node`), its steps (`Rows`, `Calls`) and what a stop may leave of them (`Images`), the rows of a session
+//! over messages (`Talk`), turns of seats (`Turns`), and what a store's calls do (`Stores`). In code there
+//! are the trait [`Store`] with its words, and [`ListStore`], a store in memory that nothing outlives.
+//!
+//! Left out: the desk that makes a node's steps over a store, sessions over bytes, and stores on a disk.
+#![tactic(auto)]
+
+mod store;
+mod words;
+
+pub use ftn_addr::{Action, Failed, NoMemory};
+pub use store::{PartAt, Store, StoreFault};
+pub use words::{Flavour, Known, Role};
