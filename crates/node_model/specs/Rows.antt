@@ -44,8 +44,11 @@ abbrev pub new_session : ℕ → Role → Address → List Address → Bool → 
 new_session number role first others secure moment =
     record { number = number; role = role; first = first; others = others; secure = secure; moment = moment; claim = None; skipped = []; hold = None; missed = []; claim_places = 0; hold_places = 0 }
 
--- a session opens under the next number, with what is handed in
-pub record OpenRow (seat : ℕ) (role : Role) (first : Address) (others : List Address) (secure : Bool) (moment : ℕ) (old new : Node) : Type 0 where
+-- a session opens under the next number, with what is handed in; the peer's first address is the sender of its files
+pub record OpenRow (seat : ℕ) (role : Role) (peers : List Address) (secure : Bool) (moment : ℕ) (old new : Node) : Type 0 where
+  pub first : Address
+  pub others : List Address
+  pub has_first : peers ≡ first ∷ others
   pub none_yet : session_at old seat ≡ None
   pub after : new ≡ record (with_session seat (Some (new_session (old.begun + 1) role first others secure moment)) old) { begun = old.begun + 1 }
 

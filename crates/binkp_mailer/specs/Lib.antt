@@ -1,0 +1,4 @@
+pub mod Desks
+pub mod Lines
+pub mod Machine
+pub mod Sessions

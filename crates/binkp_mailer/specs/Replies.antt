@@ -1,0 +1,97 @@
+-- How the code's rows stand to the session's: what was asked of the desk, and what was written.
+use Rattle.std.specs.Prelude.{◌≡◌, ◌⊎◌, ℕ, Bool, true, false, List, [], ◌∷◌, ◌++◌, map, Option, Some, None, Result, Ok, Err, codes}
+use Rattle.ftn_addr.specs.Address.{address}
+use Rattle.ftn_addr.specs.Key.{Key, key_of}
+use Rattle.binkp_args.specs.Command.{Error}
+use Rattle.node_model.specs.Calls.{Event}
+use Rattle.node_model.specs.Images.{Stand, Ran}
+use Rattle.node_model.specs.Talk.{Got, Talk, Part, Out_of_turn, Too_much, Refused_by, Outcome, Goes_on, Ends, Verdict}
+use Rattle.binkp_mailer.specs.declared.desk.DeskFault.{DeskFault}
+use Rattle.binkp_mailer.specs.declared.desk.DeskFault.TheVariants as D
+use Rattle.binkp_mailer.specs.declared.ending.Cause.{Cause}
+use Rattle.binkp_mailer.specs.declared.ending.Cause.TheVariants as C
+use Rattle.binkp_mailer.specs.declared.ending.End.TheVariants as E
+use Rattle.binkp_mailer.specs.declared.ending.Gave.{Gave}
+use Rattle.binkp_mailer.specs.declared.ending.Gave.TheVariants as G
+use Rattle.binkp_mailer.specs.declared.ending.Took.{Took}
+use Rattle.binkp_mailer.specs.declared.ending.Took.TheVariants as T
+use Rattle.binkp_mailer.specs.declared.receiver.Receiver.{Receiver}
+use Rattle.binkp_mailer.specs.declared.receiver.Receiver.TheVariants as R
+use Rattle.binkp_mailer.specs.declared.receiver.RecvStep.{RecvStep}
+use Rattle.binkp_mailer.specs.declared.receiver.RecvStep.TheVariants as S
+use Rattle.binkp_mailer.specs.declared.session.Stage.{Stage as CodeStage}
+use Rattle.binkp_mailer.specs.declared.session.Stage.TheVariants as K
+use Rattle.binkp_mailer.specs.declared.session.Talking.{Talking}
+use Rattle.binkp_mailer.specs.declared.terms.Setting.{Setting as CodeSetting}
+use Rattle.binkp_mailer.specs.Desks.{fault_of}
+use Rattle.binkp_mailer.specs.Sessions.{Setting, Stage, Awaits_address, Awaits_password, Talks, Reply, Turn, Said, GiveRow, command_bytes, broken_frame, said_bytes, held_along}
+
+-- Views.
+
+abbrev pub setting_of : CodeSetting → Setting
+setting_of s = record { home = address s.home; moment = s.moment; limit = s.limit }
+
+abbrev pub held_of : Receiver → Option Part
+held_of R.Idle = None
+held_of (R.Taking held) = Some (record { key = key_of held.key; left = held.left; taking = true })
+
+abbrev pub talk_of : Talking → Talk
+talk_of t = record { role = t.role; sending = None; own_end = t.own_end; peer_end = t.peer_end }
+
+abbrev pub stage_of : CodeStage → Stage
+stage_of K.AwaitsAddress = Awaits_address
+stage_of (K.AwaitsPassword peers) = Awaits_password (map address peers.items)
+stage_of (K.Talks talking) = Talks (talk_of talking) (held_of talking.receiver)
+
+-- What was written.
+
+-- the text of the M_ERR that a cause owes
+abbrev pub cause_bytes : Cause → List ℕ
+cause_bytes C.Late = command_bytes (Error (codes "offset again"))
+cause_bytes _ = broken_frame
+
+-- the output grew by what a row says, or by a front of it for want of memory
+pub record Writes (old new output : List ℕ) (goal took : Took) : Type 0 where
+  pub written : List ℕ
+  pub said : Said output goal written took
+  pub grew : new ≡ old ++ written
+
+-- a row was made
+pub record Did (P : List Event → Reply → Type 0) (alone : Bool) (old new : Stand) (stage : Stage) (out out' : List ℕ) (took : Took) : Type 0 where
+  pub events : List Event
+  pub reply : Reply
+  pub row : P events reply
+  pub ran : Ran alone old events new
+  pub stage_is : stage ≡ reply.stage
+  pub writes : Writes out out' reply.output reply.took took
+
+-- A row over a message was made, before its end is told.
+
+abbrev pub step_outcome : Result RecvStep DeskFault → Outcome
+step_outcome (Ok S.More) = Goes_on
+step_outcome (Ok S.OutOfTurn) = Ends Out_of_turn
+step_outcome (Ok S.TooMuch) = Ends Too_much
+step_outcome (Err fault) = Ends (Refused_by (fault_of fault))
+
+abbrev pub WritesStep : List ℕ → List ℕ → Verdict → Result RecvStep DeskFault → Type 0
+WritesStep out out' v step =
+    ((step_outcome step ≡ v.outcome) × (out' ≡ out ++ said_bytes v.said)) ⊎ ((step ≡ Err D.NoMemory) × (out' ≡ out))
+
+pub record DidTake (P : List Event → Verdict → Type 0) (alone : Bool) (old new : Stand) (held held' : Option Part) (out out' : List ℕ) (step : Result RecvStep DeskFault) : Type 0 where
+  pub events : List Event
+  pub verdict : Verdict
+  pub row : P events verdict
+  pub ran : Ran alone old events new
+  pub held_is : held' ≡ held_along held events
+  pub writes : WritesStep out out' verdict step
+
+-- the own turn was made, or given up for want of memory
+pub record DidGive (old new : Stage) (out out' : List ℕ) (gave : Gave) : Type 0 where
+  pub turn : Turn
+  pub row : GiveRow old turn
+  pub is : ((gave ≡ turn.gave) × (new ≡ turn.stage) × (out' ≡ out ++ turn.output)) ⊎ ((gave ≡ G.Ended E.NoMemory) × (new ≡ old) × (out' ≡ out))
+
+-- an M_GOT was written, or nothing for want of memory
+abbrev pub Acknowledges : Key → List ℕ → List ℕ → Result RecvStep DeskFault → Type 0
+Acknowledges key out out' step =
+    ((step ≡ Ok S.More) × (out' ≡ out ++ said_bytes (Got key ∷ []))) ⊎ ((step ≡ Err D.NoMemory) × (out' ≡ out))
