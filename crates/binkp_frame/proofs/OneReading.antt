@@ -1,11 +1,11 @@
 -- A stream has one reading, pieces add up, and what is sent is read.
-use Rattle.std.proofs.Common.{◌≡◌, ℕ, suc, ◌+◌, ◌-◌, ◌*◌, ◌/◌, ◌%◌, ◌<◌, ◌≤◌, List, [], ◌∷◌, ◌++◌, length, take, drop, Bool, true, false, cond, refl, sym, ap, ◌∙◌, arith}
+use Rattle.std.proofs.Common.{◌≡◌, ℕ, suc, ◌+◌, ◌*◌, ◌/◌, ◌%◌, ◌<◌, List, [], ◌∷◌, ◌++◌, length, take, drop, Bool, true, false, cond, refl, sym, ap, ◌∙◌, arith}
 use Rattle.std.specs.List.{All, flat_map, filter_map}
 use Rattle.std.proofs.lemmas.List.{append_assoc, append-nil, take_at, drop_at, length-append}
 use Rattle.std.proofs.lemmas.List.Concat.{flat_map-append}
 use Rattle.std.proofs.lemmas.List.Elements.{All-append, All-push, filter_map-append}
 use Rattle.ftn_addr.specs.Frames.{FrameText, Command, Data, Block, CanSend, block_of, spelling, frame_bytes}
-use Rattle.binkp_frame.specs.Stream.{frame_in, Begins, Splits, Feeds, IsPartial}
+use Rattle.binkp_frame.specs.Stream.{frame_in, Splits, Feeds, IsPartial}
 
 -- lists of one length before two ends
 same_fronts : (a b x y : List ℕ) → length a ≡ length b → a ++ x ≡ b ++ y → (a ≡ b) × (x ≡ y)

@@ -1,12 +1,12 @@
 -- The steps of taking the frames of a stream one after another.
-use Rattle.std.proofs.Common.{◌≡◌, ℕ, ◌+◌, ◌-◌, ◌<◌, List, [], ◌∷◌, ◌++◌, length, drop, Bool, Option, Some, None, refl, sym, ap, ◌∙◌, arith}
+use Rattle.std.proofs.Common.{◌≡◌, ℕ, ◌+◌, ◌-◌, ◌<◌, List, [], ◌∷◌, ◌++◌, length, drop, Option, Some, None, refl, sym, ap, ◌∙◌, arith}
 use Rattle.std.specs.Option.{option_to_list}
 use Rattle.std.specs.List.{flat_map, filter_map, cons_option}
 use Rattle.std.proofs.lemmas.List.{append_assoc, append-nil, drop_at, length-append}
 use Rattle.std.proofs.lemmas.List.Concat.{flat_map-append}
 use Rattle.std.proofs.lemmas.List.Elements.{All-push, filter_map-append}
 use Rattle.ftn_addr.specs.Frames.{FrameText, Block, spelling}
-use Rattle.binkp_frame.specs.Stream.{frame_in, Begins, Splits, Feeds, IsPartial}
+use Rattle.binkp_frame.specs.Stream.{frame_in, Begins, Feeds, IsPartial}
 
 -- what was taken of the stream so far
 pub record Taken (old : List FrameText) (stream : List ℕ) (new : List FrameText) (rest : List ℕ) : Type 0 where

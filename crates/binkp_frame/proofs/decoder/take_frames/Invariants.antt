@@ -1,4 +1,4 @@
-use Rattle.std.proofs.Common.{length, ◌≤◌}
+use Rattle.std.proofs.Common.{length}
 use Rattle.binkp_frame.specs.Views.{Extends, frame_texts}
 use Rattle.binkp_frame.proofs.Taking.{Taken}
 use Rattle.binkp_frame.proofs.decoder.take_frames.Given as goal
