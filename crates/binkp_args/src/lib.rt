@@ -1,0 +1,15 @@
+//! The arguments of binkp's commands (FTS-1026, section 5), read and written.
+#![tactic(auto)]
+
+mod addresses;
+mod command;
+mod fault;
+mod file;
+mod names;
+mod reading;
+mod words;
+
+pub use command::Command;
+pub use fault::ArgFault;
+pub use names::{escape, reads_what_is_escaped, unescape};
+pub use reading::read_command;
