@@ -54,7 +54,8 @@ fn command_of(alloc: Global, number: u8, args: &[u8], home: &Addr) -> Result<Com
 }
 
 /// Reads a command frame's number and argument (FTS-1026, section 5). An address without a zone or a
-/// domain has the home's.
+/// domain has the home's. A file has a name of 1 to 200 bytes, a size of at most [`ftn_addr::MAX_SIZE`],
+/// a time below 2^63 and an offset of at most its size; addresses are within the home's limits.
 ///
 /// # Errors
 /// The first fault of the words from the left; then `TooLarge`, and then `PastEnd`. In an M_ADR words
@@ -66,6 +67,8 @@ pub fn read_command(
     home: &Addr,
 ) -> Result<Command, ArgFault>
     ensures reads { Gives command_text result (command_of (address home.now) number args.now) }
+    ensures files { IfOk result (λ command. HasFile (command_text command)) }
+    ensures addresses { IsAddress (address home.now) → IfOk result (λ command. HasAddresses (command_text command)) }
 {
     command_of(alloc, number, args, home)
 }
