@@ -1,0 +1,4 @@
+pub mod Rans
+pub mod Writings
+pub mod Dids
+pub mod Heard

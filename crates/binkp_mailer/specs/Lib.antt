@@ -1,4 +1,5 @@
 pub mod Desks
 pub mod Lines
 pub mod Machine
+pub mod Replies
 pub mod Sessions

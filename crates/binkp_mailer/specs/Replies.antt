@@ -1,8 +1,9 @@
 -- How the code's rows stand to the session's: what was asked of the desk, and what was written.
-use Rattle.std.specs.Prelude.{◌≡◌, ◌⊎◌, ℕ, Bool, true, false, List, [], ◌∷◌, ◌++◌, map, Option, Some, None, Result, Ok, Err, codes}
+use Rattle.std.specs.Prelude.{◌≡◌, ◌⊎◌, ℕ, Bool, true, false, List, [], ◌∷◌, ◌++◌, map, Option, Some, None, Result, Ok, Err}
 use Rattle.ftn_addr.specs.Address.{address}
 use Rattle.ftn_addr.specs.Key.{Key, key_of}
-use Rattle.binkp_args.specs.Command.{Error}
+use Rattle.ftn_addr.specs.Limits.{IsKey}
+use Rattle.binkp_args.specs.Limits.{AreAddresses}
 use Rattle.node_model.specs.Calls.{Event}
 use Rattle.node_model.specs.Images.{Stand, Ran}
 use Rattle.node_model.specs.Talk.{Got, Talk, Part, Out_of_turn, Too_much, Refused_by, Outcome, Goes_on, Ends, Verdict}
@@ -15,16 +16,18 @@ use Rattle.binkp_mailer.specs.declared.ending.Gave.{Gave}
 use Rattle.binkp_mailer.specs.declared.ending.Gave.TheVariants as G
 use Rattle.binkp_mailer.specs.declared.ending.Took.{Took}
 use Rattle.binkp_mailer.specs.declared.ending.Took.TheVariants as T
-use Rattle.binkp_mailer.specs.declared.receiver.Receiver.{Receiver}
-use Rattle.binkp_mailer.specs.declared.receiver.Receiver.TheVariants as R
+use Rattle.binkp_mailer.specs.declared.holding.Receiver.{Receiver}
+use Rattle.binkp_mailer.specs.declared.holding.Receiver.TheVariants as R
+use Rattle.binkp_mailer.specs.declared.hearing.Heard.{Heard as CodeHeard}
+use Rattle.binkp_mailer.specs.declared.hearing.Heard.TheVariants as H
 use Rattle.binkp_mailer.specs.declared.receiver.RecvStep.{RecvStep}
 use Rattle.binkp_mailer.specs.declared.receiver.RecvStep.TheVariants as S
-use Rattle.binkp_mailer.specs.declared.session.Stage.{Stage as CodeStage}
-use Rattle.binkp_mailer.specs.declared.session.Stage.TheVariants as K
-use Rattle.binkp_mailer.specs.declared.session.Talking.{Talking}
+use Rattle.binkp_mailer.specs.declared.stage.Stage.{Stage as CodeStage}
+use Rattle.binkp_mailer.specs.declared.stage.Stage.TheVariants as K
+use Rattle.binkp_mailer.specs.declared.stage.Talking.{Talking}
 use Rattle.binkp_mailer.specs.declared.terms.Setting.{Setting as CodeSetting}
-use Rattle.binkp_mailer.specs.Desks.{fault_of}
-use Rattle.binkp_mailer.specs.Sessions.{Setting, Stage, Awaits_address, Awaits_password, Talks, Reply, Turn, Said, GiveRow, command_bytes, broken_frame, said_bytes, held_along}
+use Rattle.binkp_mailer.specs.Desks.{DeskPart, fault_of}
+use Rattle.binkp_mailer.specs.Sessions.{Heard, Passed, Addresses, Password, Offers, Ends_batch, Unbuilt, Setting, Stage, IsSound, desk_part, Awaits_address, Awaits_password, Talks, Reply, Turn, Said, GiveRow, broken_frame, offset_again, said_bytes, held_along}
 
 -- Views.
 
@@ -43,12 +46,31 @@ stage_of K.AwaitsAddress = Awaits_address
 stage_of (K.AwaitsPassword peers) = Awaits_password (map address peers.items)
 stage_of (K.Talks talking) = Talks (talk_of talking) (held_of talking.receiver)
 
+abbrev pub heard_text : CodeHeard → Heard
+heard_text H.Passed = Passed
+heard_text (H.Addresses addresses) = Addresses (map address addresses.items)
+heard_text (H.Password text) = Password text.list
+heard_text (H.Offers key offset) = Offers (key_of key) offset
+heard_text H.EndsBatch = Ends_batch
+heard_text H.Unbuilt = Unbuilt
+
+-- addresses and a file within the limits
+abbrev pub IsWithin : Heard → Type 0
+IsWithin (Addresses addresses) = AreAddresses addresses
+IsWithin (Offers key offset) = IsKey key
+IsWithin heard = Unit {0}
+
 -- What was written.
 
 -- the text of the M_ERR that a cause owes
 abbrev pub cause_bytes : Cause → List ℕ
-cause_bytes C.Late = command_bytes (Error (codes "offset again"))
+cause_bytes C.Late = offset_again
 cause_bytes _ = broken_frame
+
+-- a fact of a session that goes on
+abbrev pub IfMore : Took → Type 0 → Type 0
+IfMore T.More P = P
+IfMore (T.Ended end) P = Unit {0}
 
 -- the output grew by what a row says, or by a front of it for want of memory
 pub record Writes (old new output : List ℕ) (goal took : Took) : Type 0 where
@@ -62,8 +84,24 @@ pub record Did (P : List Event → Reply → Type 0) (alone : Bool) (old new : S
   pub reply : Reply
   pub row : P events reply
   pub ran : Ran alone old events new
-  pub stage_is : stage ≡ reply.stage
+  pub stage_is : IfMore took (stage ≡ reply.stage)
   pub writes : Writes out out' reply.output reply.took took
+
+-- a row was made that asks the desk for nothing
+pub record DidPlain (reply : Reply) (stage : Stage) (out out' : List ℕ) (took : Took) : Type 0 where
+  pub stage_is : IfMore took (stage ≡ reply.stage)
+  pub writes : Writes out out' reply.output reply.took took
+
+-- a session sits at a desk that is ready for its stage
+pub record Sits (ready : Type 0) (part : DeskPart) (stage : Stage) : Type 0 where
+  pub is_ready : ready
+  pub part_is : part ≡ desk_part stage
+  pub sound : IsSound stage
+
+-- it sits there still, where the session goes on
+pub record SitsStill (ready : Type 0) (part : DeskPart) (stage : Stage) (took : Took) : Type 0 where
+  pub is_ready : ready
+  pub sits : IfMore took (Sits ready part stage)
 
 -- A row over a message was made, before its end is told.
 

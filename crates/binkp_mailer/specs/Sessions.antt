@@ -4,10 +4,12 @@ use Rattle.std.specs.Prelude.{◌≡◌, ◌⊎◌, ℕ, ◌+◌, ◌-◌, ◌^�
 use Rattle.std.specs.List.{flat_map}
 use Rattle.std.specs.Cmp.Lexicographic.{pointwise}
 use Rattle.ftn_addr.specs.Address.{Address, same_address}
+use Rattle.ftn_addr.specs.Key.{Key}
 use Rattle.ftn_addr.specs.Frames.{FrameText, Command as CommandFrame, Data as DataFrame, frame_bytes}
 use Rattle.binkp_args.specs.declared.fault.ArgFault.{ArgFault}
 use Rattle.binkp_args.specs.declared.fault.ArgFault.TheVariants.{NoAddress}
 use Rattle.binkp_args.specs.Command.{CommandText, Nul, Adr, Pwd, File as FileCommand, Accept, Eob, Got as GotCommand, Error, Bsy, Get as GetCommand, Skip as SkipCommand, Other, command_of}
+use Rattle.binkp_args.specs.Limits.{AreAddresses}
 use Rattle.binkp_args.specs.Writing.{frame_text_of}
 use Rattle.node_model.specs.declared.words.Role.TheVariants.{Answers}
 use Rattle.node_model.specs.Lists.{without}
@@ -34,6 +36,11 @@ pub data Stage : Type 0 where
   Awaits_password : (peers : List Address) → Stage
   Talks : (talk : Talk) (held : Option Part) → Stage
 
+-- the peer's addresses are within the limits, one at least
+abbrev pub IsSound : Stage → Type 0
+IsSound (Awaits_password peers) = AreAddresses peers
+IsSound stage = Unit {0}
+
 -- what the desk has of a session at that stage
 abbrev pub desk_part : Stage → DeskPart
 desk_part Awaits_address = record { open_now = false; held = None }
@@ -56,27 +63,39 @@ message_bytes EndMessage = command_bytes Eob
 abbrev pub said_bytes : List Message → List ℕ
 said_bytes said = flat_map message_bytes said
 
+unfoldable pub version : List ℕ
+version = command_bytes (Nul (codes "VER binkp_mailer/1.0 binkp/1.0"))
+
 -- VER alone, and the own address
 abbrev pub greeting : Address → List ℕ
-greeting home = command_bytes (Nul (codes "VER binkp_mailer/1.0 binkp/1.0")) ++ command_bytes (Adr (home ∷ []))
+greeting home = version ++ command_bytes (Adr (home ∷ []))
 
-abbrev pub welcome : List ℕ
+unfoldable pub welcome : List ℕ
 welcome = command_bytes (Accept (codes "non-secure"))
 
-abbrev pub broken_frame : List ℕ
+unfoldable pub broken_frame : List ℕ
 broken_frame = command_bytes (Error (codes "broken frame"))
+
+unfoldable pub offset_again : List ℕ
+offset_again = command_bytes (Error (codes "offset again"))
+
+unfoldable pub disk_fault : List ℕ
+disk_fault = command_bytes (Error (codes "disk fault"))
+
+unfoldable pub ledger_full : List ℕ
+ledger_full = command_bytes (Error (codes "ledger full"))
 
 -- the M_ERR that a refusal owes
 abbrev pub fault_bytes : Fault → List ℕ
-fault_bytes (Disk count) = command_bytes (Error (codes "disk fault"))
-fault_bytes (Read count) = command_bytes (Error (codes "disk fault"))
-fault_bytes Full = command_bytes (Error (codes "ledger full"))
+fault_bytes (Disk count) = disk_fault
+fault_bytes (Read count) = disk_fault
+fault_bytes Full = ledger_full
 fault_bytes No_memory = []
 
 abbrev pub last_words : RowEnd → List ℕ
 last_words Finished = []
 last_words Out_of_turn = broken_frame
-last_words Too_late = command_bytes (Error (codes "offset again"))
+last_words Too_late = offset_again
 last_words Too_much = broken_frame
 last_words (Refused_by fault) = fault_bytes fault
 
@@ -165,31 +184,65 @@ pub record TalkRow (n : ℕ) (talk : Talk) (held : Option Part) (message : Messa
   pub row : TakeRow held talk message es verdict
   pub is : r ≡ reply_of n held es verdict
 
--- a command that was read
-abbrev pub CommandRow : Setting → ℕ → Stage → CommandText → List Event → Reply → Type 0
-CommandRow s n Awaits_address (Nul text) es r = Plain (on Awaits_address []) es r
-CommandRow s n Awaits_address (Other number) es r = Plain (on Awaits_address []) es r
-CommandRow s n Awaits_address (Adr addresses) es r = Plain (named n (without (same_address s.home) addresses)) es r
-CommandRow s n (Awaits_password peers) (Nul text) es r = Plain (on (Awaits_password peers) []) es r
-CommandRow s n (Awaits_password peers) (Other number) es r = Plain (on (Awaits_password peers) []) es r
-CommandRow s n (Awaits_password peers) (Adr addresses) es r = Plain (on (Awaits_password peers) []) es r
-CommandRow s n (Awaits_password peers) (Pwd text) es r =
-    MatchBool (is_none text) (LoginRow s peers es r) (Plain (ends n (Awaits_password peers) Out_of_turn) es r)
-CommandRow s n (Talks talk held) (Nul text) es r = Plain (on (Talks talk held) []) es r
-CommandRow s n (Talks talk held) (Other number) es r = Plain (on (Talks talk held) []) es r
-CommandRow s n (Talks talk held) (Adr addresses) es r = Plain (on (Talks talk held) []) es r
-CommandRow s n (Talks talk held) (Pwd text) es r =
-    MatchBool (is_none text) (Plain (on (Talks talk held) []) es r) (Plain (ends n (Talks talk held) Out_of_turn) es r)
-CommandRow s n (Talks talk held) (FileCommand key offset) es r = TalkRow n talk held (File key offset) es r
-CommandRow s n (Talks talk held) Eob es r = TalkRow n talk held EndMessage es r
-CommandRow s n stage command es r = Plain (ends n stage Out_of_turn) es r
+-- what a command is to a session: one that is passed over, the peer's addresses, its password, a file that it offers,
+-- the end of its batch, or one whose rows come with later work
+pub data Heard : Type 0 where
+  Passed : Heard
+  Addresses : (addresses : List Address) → Heard
+  Password : (text : List ℕ) → Heard
+  Offers : (key : Key) (offset : ℕ) → Heard
+  Ends_batch : Heard
+  Unbuilt : Heard
 
--- M_OK, and the numbers from M_GOT to M_SKIP, come with later work; their arguments aren't read
+abbrev pub heard_of : CommandText → Heard
+heard_of (Nul text) = Passed
+heard_of (Other number) = Passed
+heard_of (Adr addresses) = Addresses addresses
+heard_of (Pwd text) = Password text
+heard_of (FileCommand key offset) = Offers key offset
+heard_of Eob = Ends_batch
+heard_of command = Unbuilt
+
+-- before the peer's addresses
+abbrev pub before_address : Address → ℕ → Heard → Reply
+before_address home n Passed = on Awaits_address []
+before_address home n (Addresses addresses) = named n (without (same_address home) addresses)
+before_address home n (Password text) = ends n Awaits_address Out_of_turn
+before_address home n (Offers key offset) = ends n Awaits_address Out_of_turn
+before_address home n Ends_batch = ends n Awaits_address Out_of_turn
+before_address home n Unbuilt = ends n Awaits_address Out_of_turn
+
+-- before the peer's password
+abbrev pub PasswordRow : Setting → ℕ → List Address → Heard → List Event → Reply → Type 0
+PasswordRow s n peers Passed es r = Plain (on (Awaits_password peers) []) es r
+PasswordRow s n peers (Addresses addresses) es r = Plain (on (Awaits_password peers) []) es r
+PasswordRow s n peers (Password text) es r =
+    MatchBool (is_none text) (LoginRow s peers es r) (Plain (ends n (Awaits_password peers) Out_of_turn) es r)
+PasswordRow s n peers (Offers key offset) es r = Plain (ends n (Awaits_password peers) Out_of_turn) es r
+PasswordRow s n peers Ends_batch es r = Plain (ends n (Awaits_password peers) Out_of_turn) es r
+PasswordRow s n peers Unbuilt es r = Plain (ends n (Awaits_password peers) Out_of_turn) es r
+
+-- after login
+abbrev pub LoggedRow : ℕ → Talk → Option Part → Heard → List Event → Reply → Type 0
+LoggedRow n talk held Passed es r = Plain (on (Talks talk held) []) es r
+LoggedRow n talk held (Addresses addresses) es r = Plain (on (Talks talk held) []) es r
+LoggedRow n talk held (Password text) es r =
+    MatchBool (is_none text) (Plain (on (Talks talk held) []) es r) (Plain (ends n (Talks talk held) Out_of_turn) es r)
+LoggedRow n talk held (Offers key offset) es r = TalkRow n talk held (File key offset) es r
+LoggedRow n talk held Ends_batch es r = TalkRow n talk held EndMessage es r
+LoggedRow n talk held Unbuilt es r = Plain (ends n (Talks talk held) Out_of_turn) es r
+
+abbrev pub HeardRow : Setting → ℕ → Stage → Heard → List Event → Reply → Type 0
+HeardRow s n Awaits_address heard es r = Plain (before_address s.home n heard) es r
+HeardRow s n (Awaits_password peers) heard es r = PasswordRow s n peers heard es r
+HeardRow s n (Talks talk held) heard es r = LoggedRow n talk held heard es r
+
+-- M_OK, and the numbers from M_GOT to M_SKIP; their arguments aren't read
 abbrev pub is_unbuilt : ℕ → Bool
 is_unbuilt number = number == 4 || (nat_le 6 number && nat_le number 10)
 
 abbrev pub ReadRow : Setting → ℕ → Stage → Result CommandText ArgFault → List Event → Reply → Type 0
-ReadRow s n stage (Ok command) es r = CommandRow s n stage command es r
+ReadRow s n stage (Ok command) es r = HeardRow s n stage (heard_of command) es r
 ReadRow s n stage (Err fault) es r = Plain (unreadable n stage fault) es r
 
 abbrev pub DataRow : ℕ → Stage → List ℕ → List Event → Reply → Type 0

@@ -3,10 +3,20 @@
 
 mod desk;
 mod ending;
+mod hearing;
+mod holding;
 mod link;
+mod logged;
+mod login;
+mod receiver;
+mod saying;
+mod session;
+mod stage;
+mod terms;
 
 pub use desk::{DataIn, Desk, DeskFault, FileIn, Knock};
 pub use ending::{Cause, End, Gave, Took};
 pub use link::{Line, ReadAnswer, Sink, WriteAnswer};
+pub use session::Session;
 
 fn main() {}

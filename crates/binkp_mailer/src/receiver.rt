@@ -1,31 +1,17 @@
 //! The receiving half of a session after login.
-ghost use Rattle.std.specs.Prelude.{◌≡◌, ◌≤◌, length, List, Some};
+ghost use Rattle.std.specs.Prelude.{◌≡◌, ◌<◌, ◌≤◌, length, true};
 ghost use Rattle.ftn_addr.specs.Key.{key_of};
 ghost use Rattle.ftn_addr.specs.Limits.{IsKey};
 ghost use Rattle.node_model.specs.Talk.{Talk, FileTaken, DataTaken};
 ghost use Rattle.binkp_mailer.specs.Replies.{Acknowledges, DidTake, held_of};
-ghost use Rattle.binkp_mailer.specs.declared.receiver.Receiver.TheVariants as R;
+ghost use Rattle.binkp_mailer.specs.declared.holding.Receiver.TheVariants as R;
 
+use crate::holding::{Held, Receiver};
 use crate::saying::say_got;
 use crate::{DataIn, Desk, DeskFault, FileIn};
 use ftn_addr::{Bytes, FileKey};
 use std::alloc::Global;
 use std::mem;
-
-/// A file that is being received, and how many bytes of it are still to come.
-#[derive(Debug, Drop)]
-pub struct Held {
-    pub key: FileKey,
-    pub left: u64,
-    ghost short: { length key.name.list ≤ 200 },
-}
-
-/// The file that the session holds, as its desk does.
-#[derive(Debug, Drop)]
-pub enum Receiver {
-    Idle,
-    Taking(Held),
-}
 
 /// What became of a message.
 #[derive(Clone, Copy, Debug, PartialEq, Eq)]
@@ -36,7 +22,7 @@ pub enum RecvStep {
 }
 
 fn acknowledge(alloc: Global, key: FileKey, out: &mut Bytes) -> Result<RecvStep, DeskFault>
-    requires { length key.name.list ≤ 200 }
+    requires { IsKey (key_of key) }
     ensures { Acknowledges (key_of key) out.old.list out.new.list result }
 {
     match say_got(alloc, key, out) {

@@ -1,21 +1,22 @@
 //! What a session says: one command, one frame.
-ghost use Rattle.std.specs.Prelude.{◌≡◌, ◌<◌, ◌≤◌, ◌++◌, ◌∷◌, [], length, codes, OnOk, OnErr};
+ghost use Rattle.std.specs.Prelude.{◌≡◌, ◌<◌, ◌≤◌, ◌++◌, ◌∷◌, [], length, OnOk, OnErr};
 ghost use Rattle.ftn_addr.specs.Key.{key_of};
-ghost use Rattle.binkp_args.specs.Command.{Accept, Eob, Error, Got, Nul, Adr};
+ghost use Rattle.binkp_args.specs.Command.{Accept, Eob, Error, Got, Adr};
 ghost use Rattle.ftn_addr.specs.Address.{address};
-ghost use Rattle.ftn_addr.specs.Limits.{IsAddress};
+ghost use Rattle.ftn_addr.specs.Limits.{IsAddress, IsKey};
 ghost use Rattle.binkp_mailer.specs.Replies.{Writes, cause_bytes};
 ghost use Rattle.binkp_mailer.specs.Desks.{fault_of};
-ghost use Rattle.binkp_mailer.specs.Sessions.{command_bytes, fault_bytes, fault_end, greeting, welcome};
+ghost use Rattle.binkp_mailer.specs.Sessions.{command_bytes, disk_fault, fault_bytes, fault_end, ledger_full, greeting, version, welcome};
 ghost use Rattle.binkp_mailer.specs.declared.ending.Took.TheVariants as T;
 ghost use Rattle.binkp_mailer.specs.declared.ending.End.TheVariants as E;
 
 use crate::{Cause, DeskFault, End, Took};
-use binkp_args::{Command, write_command};
+use binkp_args::{Command, fits_a_frame, write_command};
 use ftn_addr::{Addr, Bytes, FileKey, NoMemory};
 use std::alloc::Global;
 
 /// M_OK `non-secure`.
+#[tactic(auto, unfolding(crate::specs::Sessions::welcome))]
 pub fn say_welcome(alloc: Global, out: &mut Bytes) -> Result<(), NoMemory>
     ensures ok { OnOk result (out.new.list ≡ out.old.list ++ welcome) }
     ensures err { OnErr result (out.new.list ≡ out.old.list) }
@@ -34,10 +35,11 @@ pub fn say_end(alloc: Global, out: &mut Bytes) -> Result<(), NoMemory>
 
 /// M_GOT.
 pub fn say_got(alloc: Global, key: FileKey, out: &mut Bytes) -> Result<(), NoMemory>
-    requires { length key.name.list ≤ 200 }
+    requires { IsKey (key_of key) }
     ensures ok { OnOk result (out.new.list ≡ out.old.list ++ command_bytes (Got (key_of key))) }
     ensures err { OnErr result (out.new.list ≡ out.old.list) }
 {
+    fits_a_frame();
     write_command(alloc, &Command::Got(key), out)
 }
 
@@ -50,8 +52,39 @@ fn say_error(alloc: Global, text: &[u8], out: &mut Bytes) -> Result<(), NoMemory
     write_command(alloc, &Command::Err(text), out)
 }
 
+#[tactic(auto, unfolding(crate::specs::Sessions::disk_fault))]
+fn say_disk_fault(alloc: Global, out: &mut Bytes) -> Result<(), NoMemory>
+    ensures ok { OnOk result (out.new.list ≡ out.old.list ++ disk_fault) }
+    ensures err { OnErr result (out.new.list ≡ out.old.list) }
+{
+    say_error(alloc, b"disk fault", out)
+}
+
+#[tactic(auto, unfolding(crate::specs::Sessions::ledger_full))]
+fn say_ledger_full(alloc: Global, out: &mut Bytes) -> Result<(), NoMemory>
+    ensures ok { OnOk result (out.new.list ≡ out.old.list ++ ledger_full) }
+    ensures err { OnErr result (out.new.list ≡ out.old.list) }
+{
+    say_error(alloc, b"ledger full", out)
+}
+
+/// The M_ERR that a cause owes.
+#[tactic(auto, unfolding(crate::specs::Sessions::broken_frame, crate::specs::Sessions::offset_again))]
+fn say_cause(alloc: Global, cause: Cause, out: &mut Bytes) -> Result<(), NoMemory>
+    ensures ok { OnOk result (out.new.list ≡ out.old.list ++ cause_bytes cause) }
+    ensures err { OnErr result (out.new.list ≡ out.old.list) }
+{
+    match cause {
+        Cause::Late => say_error(alloc, b"offset again", out),
+        Cause::Arg(_) => say_error(alloc, b"broken frame", out),
+        Cause::OutOfTurn => say_error(alloc, b"broken frame", out),
+        Cause::TooMuch => say_error(alloc, b"broken frame", out),
+    }
+}
+
+#[tactic(auto, unfolding(crate::specs::Sessions::version))]
 fn say_version(alloc: Global, out: &mut Bytes) -> Result<(), NoMemory>
-    ensures ok { OnOk result (out.new.list ≡ out.old.list ++ command_bytes (Nul (codes "VER binkp_mailer/1.0 binkp/1.0"))) }
+    ensures ok { OnOk result (out.new.list ≡ out.old.list ++ version) }
     ensures err { OnErr result (out.new.list ≡ out.old.list) }
 {
     let text = Bytes::from_slice(alloc, b"VER binkp_mailer/1.0 binkp/1.0")?;
@@ -65,6 +98,7 @@ fn say_address(alloc: Global, home: &Addr, out: &mut Bytes) -> Result<(), NoMemo
 {
     let mut addresses = Vec::new(alloc);
     addresses.push(home.copy(alloc)?)?;
+    fits_a_frame();
     write_command(alloc, &Command::Adr(addresses), out)
 }
 
@@ -88,11 +122,11 @@ pub fn refuse(alloc: Global, fault: DeskFault, out: &mut Bytes) -> Took
     ensures { Writes out.old.list out.new.list (fault_bytes (fault_of fault)) (T.Ended (fault_end (fault_of fault))) result }
 {
     match fault {
-        DeskFault::Disk(count) => match say_error(alloc, b"disk fault", out) {
+        DeskFault::Disk(count) => match say_disk_fault(alloc, out) {
             Ok(()) => Took::Ended(End::DiskFault(count)),
             Err(_) => Took::Ended(End::NoMemory),
         },
-        DeskFault::Full => match say_error(alloc, b"ledger full", out) {
+        DeskFault::Full => match say_ledger_full(alloc, out) {
             Ok(()) => Took::Ended(End::LedgerFull),
             Err(_) => Took::Ended(End::NoMemory),
         },
@@ -104,13 +138,7 @@ pub fn refuse(alloc: Global, fault: DeskFault, out: &mut Bytes) -> Took
 pub fn break_off(alloc: Global, cause: Cause, number: u64, out: &mut Bytes) -> Took
     ensures { Writes out.old.list out.new.list (cause_bytes cause) (T.Ended (E.Broke cause number)) result }
 {
-    let text: &[u8] = match cause {
-        Cause::Late => b"offset again",
-        Cause::Arg(_) => b"broken frame",
-        Cause::OutOfTurn => b"broken frame",
-        Cause::TooMuch => b"broken frame",
-    };
-    match say_error(alloc, text, out) {
+    match say_cause(alloc, cause, out) {
         Ok(()) => Took::Ended(End::Broke(cause, number)),
         Err(_) => Took::Ended(End::NoMemory),
     }
