@@ -12,14 +12,16 @@ use Rattle.node_model.specs.Calls.{Answer, Filed, More, Whole_now, Refused, Queu
 use Rattle.node_model.specs.Images.{Stand}
 use Rattle.node_model.specs.Talk.{on, End as EndMessage, Talk, Part, Message, Verdict, TakeRow, AfterFile, FileTaken, Asks, Not_yet, AfterData, DataTaken, Nothing_held, Drops, Exceeds, Fits, Outcome}
 use Rattle.binkp_mailer.specs.declared.desk.DeskFault.{DeskFault}
+use Rattle.binkp_mailer.specs.declared.ending.Cause.TheVariants as C
 use Rattle.binkp_mailer.specs.declared.ending.End.TheVariants as E
 use Rattle.binkp_mailer.specs.declared.ending.Took.{Took}
 use Rattle.binkp_mailer.specs.declared.ending.Took.TheVariants as T
 use Rattle.binkp_mailer.specs.declared.receiver.RecvStep.{RecvStep}
-use Rattle.binkp_mailer.specs.Sessions.{Stage, Talks, Reply, TalkRow, reply_of, said_bytes, outcome_bytes, outcome_took, held_along}
-use Rattle.binkp_mailer.specs.Replies.{Did, DidTake, IfMore, Writes, step_outcome}
+use Rattle.binkp_mailer.specs.Sessions.{Setting, Said, ReadRow, unreadable, broken_frame, Stage, Talks, Reply, TalkRow, reply_of, said_bytes, outcome_bytes, outcome_took, held_along}
+use Rattle.binkp_mailer.specs.Replies.{Did, DidPlain, DidTake, IfMore, MadeRow, RefusesArgument, Writes, step_outcome}
 use Rattle.binkp_mailer.proofs.Writings.{wrote_all, wrote_then, no_more, if_more}
 use Rattle.binkp_mailer.proofs.Rans.{ran_none}
+use Rattle.binkp_mailer.proofs.Dids.{did_row}
 
 -- what a file leaves of a talk: nothing changes
 file_after : (t : Talk) (key : Key) (x : Answer) (v : Verdict) → AfterFile t key x v → v.after ≡ t
@@ -102,3 +104,22 @@ did_end n talk held alone s out = record {
   stage_is = refl;
   writes = wrote_all out out [] T.More (sym (append-nil out));
 }
+
+-- a row that was made ends the session
+pub ends_plain : (n : ℕ) (stage stage' : Stage) (fault : ArgFault) (out out' : List ℕ) (took : Took) (P : Type 0) → DidPlain (unreadable n stage fault) stage' out out' took → IfMore took P
+ends_plain n stage stage' fault out out' T.More P d = absurd (never d.writes.said)
+  where
+    never : Said broken_frame (T.Ended (E.Broke (C.Arg fault) n)) d.writes.written T.More → ⊥
+    never (inl x) = let clash : T.More ≡ T.Ended (E.Broke (C.Arg fault) n) = x.0 in cc
+    never (inr x) = let clash : T.More ≡ T.Ended E.NoMemory = x.0 in cc
+ends_plain n stage stage' fault out out' (T.Ended end) P d = tt
+
+-- an argument that wasn't read
+pub refused_argument : (s : Setting) (n : ℕ) (stage stage' : Stage) (fault : ArgFault) (read : Result CommandText ArgFault) (alone : Bool) (desk : Stand) (out out' : List ℕ) (took : Took) → Fails fault read → RefusesArgument n stage fault stage' out out' took → MadeRow (ReadRow s n stage read) alone desk desk stage' out out' took
+refused_argument s n stage stage' fault read alone desk out out' took fails (inl x) = inr (record { desk = refl; out_is = x.2; over = x.1 })
+refused_argument s n stage stage' fault read alone desk out out' took fails (inr x) =
+    inl (rw (fault_told fault read x.0 fails) (did_row (unreadable n stage fault) alone desk stage' out out' took x.1))
+
+pub refused_sits : (n : ℕ) (stage stage' : Stage) (fault : ArgFault) (out out' : List ℕ) (took : Took) (P : Type 0) → RefusesArgument n stage fault stage' out out' took → IfMore took P
+refused_sits n stage stage' fault out out' took P (inl x) = subst (λ (k : Took). IfMore k P) (sym x.1) tt
+refused_sits n stage stage' fault out out' took P (inr x) = ends_plain n stage stage' fault out out' took P x.1

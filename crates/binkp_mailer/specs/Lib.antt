@@ -2,4 +2,5 @@ pub mod Desks
 pub mod Lines
 pub mod Machine
 pub mod Replies
+pub mod Runs
 pub mod Sessions

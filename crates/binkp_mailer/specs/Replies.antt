@@ -1,9 +1,11 @@
 -- How the code's rows stand to the session's: what was asked of the desk, and what was written.
-use Rattle.std.specs.Prelude.{◌≡◌, ◌⊎◌, ℕ, Bool, true, false, List, [], ◌∷◌, ◌++◌, map, Option, Some, None, Result, Ok, Err}
+use Rattle.std.specs.Prelude.{◌≡◌, ◌≢◌, ◌⊎◌, ℕ, Bool, true, false, List, [], ◌∷◌, ◌++◌, map, Option, Some, None, Result, Ok, Err}
 use Rattle.ftn_addr.specs.Address.{address}
 use Rattle.ftn_addr.specs.Key.{Key, key_of}
 use Rattle.ftn_addr.specs.Limits.{IsKey}
 use Rattle.binkp_args.specs.Limits.{AreAddresses}
+use Rattle.binkp_args.specs.declared.fault.ArgFault.{ArgFault}
+use Rattle.binkp_args.specs.declared.fault.ArgFault.TheVariants.{NoMemory}
 use Rattle.node_model.specs.Calls.{Event}
 use Rattle.node_model.specs.Images.{Stand, Ran}
 use Rattle.node_model.specs.Talk.{Got, Talk, Part, Out_of_turn, Too_much, Refused_by, Outcome, Goes_on, Ends, Verdict}
@@ -27,7 +29,7 @@ use Rattle.binkp_mailer.specs.declared.stage.Stage.TheVariants as K
 use Rattle.binkp_mailer.specs.declared.stage.Talking.{Talking}
 use Rattle.binkp_mailer.specs.declared.terms.Setting.{Setting as CodeSetting}
 use Rattle.binkp_mailer.specs.Desks.{DeskPart, fault_of}
-use Rattle.binkp_mailer.specs.Sessions.{Heard, Passed, Addresses, Password, Offers, Ends_batch, Unbuilt, Setting, Stage, IsSound, desk_part, Awaits_address, Awaits_password, Talks, Reply, Turn, Said, GiveRow, broken_frame, offset_again, said_bytes, held_along}
+use Rattle.binkp_mailer.specs.Sessions.{Heard, Passed, Addresses, Password, Offers, Ends_batch, Unbuilt, Setting, Stage, IsSound, desk_part, Awaits_address, Awaits_password, Talks, Reply, Turn, Said, GiveRow, unreadable, broken_frame, offset_again, said_bytes, held_along}
 
 -- Views.
 
@@ -91,6 +93,22 @@ pub record Did (P : List Event → Reply → Type 0) (alone : Bool) (old new : S
 pub record DidPlain (reply : Reply) (stage : Stage) (out out' : List ℕ) (took : Took) : Type 0 where
   pub stage_is : IfMore took (stage ≡ reply.stage)
   pub writes : Writes out out' reply.output reply.took took
+
+-- no row was made, for want of memory
+pub record GaveUp (old new : Stand) (out out' : List ℕ) (took : Took) : Type 0 where
+  pub desk : new.state ≡ old.state
+  pub out_is : out' ≡ out
+  pub over : took ≡ T.Ended E.NoMemory
+
+-- a row was made, or none for want of memory
+abbrev pub MadeRow : (List Event → Reply → Type 0) → Bool → Stand → Stand → Stage → List ℕ → List ℕ → Took → Type 0
+MadeRow P alone old new stage out out' took = Did P alone old new stage out out' took ⊎ GaveUp old new out out' took
+
+-- an argument wasn't read for want of memory, or it can't be read
+abbrev pub RefusesArgument : ℕ → Stage → ArgFault → Stage → List ℕ → List ℕ → Took → Type 0
+RefusesArgument n stage fault stage' out out' took =
+    ((fault ≡ NoMemory) × (took ≡ T.Ended E.NoMemory) × (out' ≡ out))
+    ⊎ ((fault ≢ NoMemory) × DidPlain (unreadable n stage fault) stage' out out' took)
 
 -- a session sits at a desk that is ready for its stage
 pub record Sits (ready : Type 0) (part : DeskPart) (stage : Stage) : Type 0 where

@@ -1,17 +1,20 @@
 //! A session after login: the messages of the peer's, and the own turn.
-ghost use Rattle.std.specs.Prelude.{◌≡◌};
+ghost use Rattle.std.specs.Prelude.{◌≡◌, ◌<◌, ◌||◌, length};
+ghost use Rattle.binkp_mailer.specs.declared.ending.Gave.TheVariants as G;
 ghost use Rattle.ftn_addr.specs.Key.{key_of};
 ghost use Rattle.ftn_addr.specs.Limits.{IsKey};
-ghost use Rattle.node_model.specs.Talk.{File, Data};
+ghost use Rattle.node_model.specs.Talk.{File, Data, is_finished, is_idle, calls};
 ghost use Rattle.binkp_mailer.specs.Replies.{Did, DidGive, IsWithin, Sits, SitsStill, Writes, heard_text, held_of, stage_of, step_outcome, talk_of};
 ghost use Rattle.binkp_mailer.specs.Sessions.{Talks, LoggedRow, TalkRow, outcome_bytes, outcome_took};
 
 use crate::hearing::Heard;
 use crate::receiver::{RecvStep, take_data, take_file};
-use crate::saying::{break_off, refuse};
+use crate::holding::Receiver;
+use crate::saying::{break_off, refuse, say_end};
 use crate::stage::{Stage, Talking, is_none, out_of_turn};
-use crate::{Cause, Desk, DeskFault, Took};
+use crate::{Cause, Desk, DeskFault, End, Gave, Took};
 use ftn_addr::{Bytes, FileKey};
+use node_model::Role;
 use std::alloc::Global;
 
 /// Tells what became of a message.
@@ -104,5 +107,60 @@ pub fn take_after_login<K: Desk>(
             (Stage::Talks(ended), Took::More)
         }
         Heard::Unbuilt => out_of_turn(alloc, Stage::Talks(talking), number, out),
+    }
+}
+
+fn is_done(talking: &Talking) -> bool
+    ensures { result ≡ is_finished (talk_of talking.now) (held_of talking.now.receiver) }
+{
+    talking.own_end && (talking.peer_end && is_idle(&talking.receiver))
+}
+
+fn is_idle(receiver: &Receiver) -> bool
+    ensures { result ≡ is_idle (held_of receiver.now) }
+{
+    match receiver {
+        Receiver::Idle => true,
+        Receiver::Taking(_) => false,
+    }
+}
+
+fn calls(role: Role) -> bool
+    ensures { result ≡ calls role }
+{
+    match role {
+        Role::Calls => true,
+        Role::Answers => false,
+    }
+}
+
+/// Whether the own batch ends now: nothing is offered yet.
+fn may_end(talking: &Talking) -> bool
+    ensures { result ≡ (calls talking.now.role || talking.now.peer_end) }
+{
+    calls(talking.role) || talking.peer_end
+}
+
+/// The own turn after login.
+pub fn own_turn(alloc: Global, talking: &mut Talking, out: &mut Bytes) -> Gave
+    ensures row { DidGive (Talks (talk_of talking.old) (held_of talking.old.receiver)) (Talks (talk_of talking.new) (held_of talking.new.receiver)) out.old.list out.new.list result }
+    ensures held { held_of talking.new.receiver ≡ held_of talking.old.receiver }
+    ensures sent { result ≡ G.Sent → 0 < length out.new.list }
+{
+    if is_done(talking) {
+        return Gave::Ended(End::Finished);
+    }
+    if talking.own_end {
+        return Gave::Waits;
+    }
+    if !may_end(talking) {
+        return Gave::Waits;
+    }
+    match say_end(alloc, out) {
+        Ok(()) => {
+            talking.own_end = true;
+            Gave::Sent
+        }
+        Err(_) => Gave::Ended(End::NoMemory),
     }
 }

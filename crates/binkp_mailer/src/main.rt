@@ -9,6 +9,7 @@ mod link;
 mod logged;
 mod login;
 mod receiver;
+mod run;
 mod saying;
 mod session;
 mod stage;
@@ -17,6 +18,7 @@ mod terms;
 pub use desk::{DataIn, Desk, DeskFault, FileIn, Knock};
 pub use ending::{Cause, End, Gave, Took};
 pub use link::{Line, ReadAnswer, Sink, WriteAnswer};
+pub use run::Run;
 pub use session::Session;
 
 fn main() {}
