@@ -4,3 +4,4 @@ pub mod Dids
 pub mod Heard
 pub mod Gives
 pub mod Runs
+pub mod Room

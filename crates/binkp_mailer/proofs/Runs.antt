@@ -19,11 +19,13 @@ use Rattle.binkp_mailer.specs.declared.ending.Gave.{Gave}
 use Rattle.binkp_mailer.specs.declared.ending.Gave.TheVariants as G
 use Rattle.binkp_mailer.specs.declared.run.Run.{Run}
 use Rattle.binkp_mailer.specs.declared.session.Session.{Session}
-use Rattle.binkp_mailer.specs.Lines.{LineState}
-use Rattle.binkp_mailer.specs.Sessions.{Setting, Stage, Reply, Row, Said, frame_number}
+use Rattle.binkp_mailer.specs.Lines.{LineState, IsRead, IsWrite, came, went}
+use Rattle.binkp_mailer.specs.declared.link.ReadAnswer.{ReadAnswer}
+use Rattle.binkp_mailer.specs.declared.link.WriteAnswer.{WriteAnswer}
+use Rattle.binkp_mailer.specs.Sessions.{Setting, Stage, Reply, Row, Said, GiveRow, frame_number}
 use Rattle.binkp_mailer.specs.Replies.{Did, GaveUp, IfMore, MadeRow, DidGive, stage_of}
-use Rattle.binkp_mailer.specs.Machine.{World, Phase, Taking, Writing, Reading, Over, Draining, Reach, here, next, TakesFrame, takes_frame, MakesTurn, makes_turn, GivesUp, gives_up, MayGiveUp, after_took, after_gave}
-use Rattle.binkp_mailer.specs.Runs.{Spot, spot, Stream, Follows, At, Goes}
+use Rattle.binkp_mailer.specs.Machine.{World, Phase, Taking, Writing, Reading, Over, Draining, Reach, here, next, TakesFrame, takes_frame, MakesTurn, makes_turn, GivesUp, gives_up, MayGiveUp, Writes, writes, PassesWrite, passes_write, Reads, reads, after_took, after_gave, after_write, after_read}
+use Rattle.binkp_mailer.specs.Runs.{Spot, spot, Stream, Follows, At, Goes, Wrote, Came, over_or}
 
 -- one run after another
 pub reach_trans : {alone : Bool} {u v w : World} → Reach alone u v → Reach alone v w → Reach alone u w
@@ -221,3 +223,149 @@ none_pending frames i h = go (frame_texts frames) i (omega (arith, length-map fr
     go [] (suc k) h = refl
     go (x ∷ xs) zero h = absurd (omega arith)
     go (x ∷ xs) (suc k) h = go xs k (omega arith)
+
+-- the stream, where session, decoder and piece are as they were
+pub stream_same : (run run' : Run) (pending : List FrameText) (w v : World) → v.stage ≡ w.stage → v.frames ≡ w.frames → v.taken ≡ w.taken → run'.session ≡ run.session → run'.decoder ≡ run.decoder → run'.piece.list ≡ run.piece.list → Stream run pending w → Stream run' pending v
+stream_same run run' pending w v stage frames taken session decoder piece st = record {
+  stage_is = stage ∙ st.stage_is ∙ ap (λ (x : Session). stage_of x.stage) (sym session);
+  number_is = ap (λ (x : Session). x.frames) session ∙ st.number_is ∙ ap frame_number (sym frames);
+  fed = st.fed;
+  whole = taken ∙ st.whole ∙ ap (λ (x : List ℕ). st.fed ++ x) (sym piece);
+  splits = subst (λ (x : List ℕ). Splits st.fed (v.frames ++ pending) x) (sym decoder) (subst (λ (fs : List FrameText). Splits st.fed (fs ++ pending) run.decoder) (sym frames) st.splits);
+}
+
+follows_gave : (gave : Gave) (run : Run) (v : World) → Stream run [] v → Follows (after_gave gave) run [] v
+follows_gave G.Sent run v st = st
+follows_gave G.Waits run v st = st
+follows_gave (G.Ended end) run v st = tt
+
+-- the own turn
+pub gave_it : (alone : Bool) (s : Setting) (run run' : Run) (line : LineState) (desk : DeskState) (gave : Gave) → run.piece.list ≡ [] → DidGive (stage_of run.session.stage) (stage_of run'.session.stage) run.out.list run'.out.list gave → run'.session.frames ≡ run.session.frames → run'.decoder ≡ run.decoder → run'.piece.list ≡ run.piece.list → run'.taken ≡ run.taken → run'.wrote ≡ run.wrote → Goes alone s (spot run line desk [] Taking) (spot run' line desk [] (after_gave gave))
+gave_it alone s run run' line desk gave empty d frames decoder piece taken wrote = go d.is
+  where
+    go : ((gave ≡ d.turn.gave) × (stage_of run'.session.stage ≡ d.turn.stage) × (run'.out.list ≡ run.out.list ++ d.turn.output)) ⊎ ((gave ≡ G.Ended E.NoMemory) × (stage_of run'.session.stage ≡ stage_of run.session.stage) × (run'.out.list ≡ run.out.list)) → Goes alone s (spot run line desk [] Taking) (spot run' line desk [] (after_gave gave))
+    go (inl x) = record {
+      goes = λ w at.
+          let st : Stream run [] w = at.follows in
+          let v : World = record w { stage = d.turn.stage; phase = after_gave d.turn.gave; output = w.output ++ d.turn.output } in
+          let all : w.taken ≡ st.fed = st.whole ∙ ap (λ (l : List ℕ). st.fed ++ l) empty ∙ append-nil st.fed in
+          let split : Splits w.taken w.frames run.decoder = subst (λ (l : List ℕ). Splits l w.frames run.decoder) (sym all) (subst (λ (fs : List FrameText). Splits st.fed fs run.decoder) (append-nil w.frames) st.splits) in
+          let step : MakesTurn w v = record { phase = at.phase_is; rest = run.decoder; none = split; turn = d.turn; row = subst (λ (k : Stage). GiveRow k d.turn) (sym st.stage_is) d.row; is = refl } in
+          let stream : Stream run' [] v = record {
+            stage_is = sym x.1;
+            number_is = frames ∙ st.number_is;
+            fed = st.fed;
+            whole = st.whole ∙ ap (λ (l : List ℕ). st.fed ++ l) (sym piece);
+            splits = subst (λ (l : List ℕ). Splits st.fed (w.frames ++ []) l) (sym decoder) st.splits;
+          } in
+          (v, next here (makes_turn step), record {
+            setting_is = at.setting_is;
+            line_is = at.line_is;
+            desk_is = at.desk_is;
+            phase_is = ap after_gave (sym x.0);
+            unsent = ap (λ (l : List ℕ). l ++ d.turn.output) at.unsent ∙ append_assoc w.sent run.out.list d.turn.output ∙ ap (λ (l : List ℕ). w.sent ++ l) (sym x.2);
+            taken = at.taken ∙ sym taken;
+            wrote = at.wrote ∙ sym wrote;
+            follows = follows_gave gave run' v stream;
+          });
+    }
+    go (inr x) = subst (λ (k : Gave). Goes alone s (spot run line desk [] Taking) (spot run' line desk [] (after_gave k))) (sym x.0) (gave_up_at alone s run run' line desk [] [] Taking tt x.2 taken wrote)
+
+follows_reading : (result : Option End) (waits : Bool) (run : Run) (v : World) → Stream run [] v → Follows (over_or result (Reading waits)) run [] v
+follows_reading None waits run v st = st
+follows_reading (Some end) waits run v st = tt
+
+follows_taking : (result : Option End) (run : Run) (v : World) → Stream run [] v → Follows (over_or result Taking) run [] v
+follows_taking None run v st = st
+follows_taking (Some end) run v st = tt
+
+-- nothing is left to write
+pub passes_it : (alone : Bool) (s : Setting) (run : Run) (line : LineState) (desk : DeskState) (waits : Bool) → run.out.list ≡ [] → Goes alone s (spot run line desk [] (Writing waits)) (spot run line desk [] (Reading waits))
+passes_it alone s run line desk waits empty = record {
+  goes = λ w at.
+      let v : World = record w { phase = Reading waits } in
+      let step : PassesWrite w v = record { waits = waits; phase = at.phase_is; unsent = at.unsent ∙ ap (λ (x : List ℕ). w.sent ++ x) empty ∙ append-nil w.sent; is = refl } in
+      (v, next here (passes_write step), record { setting_is = at.setting_is; line_is = at.line_is; desk_is = at.desk_is; phase_is = refl; unsent = at.unsent; taken = at.taken; wrote = at.wrote; follows = stream_same run run [] w v refl refl refl refl refl refl at.follows });
+}
+
+pub wrote_it : (alone : Bool) (s : Setting) (run run' : Run) (l l' : LineState) (desk : DeskState) (waits : Bool) (answer : WriteAnswer) (result : Option End) → 0 < length run.out.list → IsWrite l answer run.out.list l' → Wrote run run' (went answer run.out.list) → over_or result (Reading waits) ≡ after_write answer s.limit (run.taken + run'.wrote) l'.calm (Reading waits) → Goes alone s (spot run l desk [] (Writing waits)) (spot run' l' desk [] (over_or result (Reading waits)))
+wrote_it alone s run run' l l' desk waits answer result some is did to = record {
+  goes = λ w at.
+      let gone = went answer run.out.list in
+      let now : length (w.sent ++ gone) ≡ run'.wrote = length-append w.sent gone ∙ ap (λ (n : ℕ). n + length gone) at.wrote ∙ sym did.wrote in
+      let v : World = record w { line = l'; sent = w.sent ++ gone; phase = after_write answer w.setting.limit (length w.taken + length (w.sent ++ gone)) l'.calm (Reading waits) } in
+      let step : Writes w v = record {
+        waits = waits;
+        phase = at.phase_is;
+        left = run.out.list;
+        unsent = at.unsent;
+        some = some;
+        answer = answer;
+        line = l';
+        step = subst (λ (x : LineState). IsWrite x answer run.out.list l') (sym at.line_is) is;
+        is = refl;
+      } in
+      let ends : v.phase ≡ over_or result (Reading waits) =
+      ap (λ (x : Setting). after_write answer x.limit (length w.taken + length (w.sent ++ gone)) l'.calm (Reading waits)) at.setting_is
+      ∙ ap (λ (x : ℕ). after_write answer s.limit (x + length (w.sent ++ gone)) l'.calm (Reading waits)) at.taken
+      ∙ ap (λ (x : ℕ). after_write answer s.limit (run.taken + x) l'.calm (Reading waits)) now ∙ sym to in
+      (v, next here (writes step), record {
+        setting_is = at.setting_is;
+        line_is = refl;
+        desk_is = at.desk_is;
+        phase_is = ends;
+        unsent = at.unsent ∙ ap (λ (x : List ℕ). w.sent ++ x) did.out ∙ sym (append_assoc w.sent gone run'.out.list);
+        taken = at.taken ∙ sym did.taken;
+        wrote = now;
+        follows = follows_reading result waits run' v (stream_same run run' [] w v refl refl refl did.session did.decoder did.piece at.follows);
+      });
+}
+
+pub came_it : (alone : Bool) (s : Setting) (run run' : Run) (l l' : LineState) (desk : DeskState) (waits : Bool) (answer : ReadAnswer) (buffer : List ℕ) (result : Option End) → length buffer ≡ 4096 → IsRead (waits && (length run.out.list == 0)) l answer buffer l' → Came run run' (came answer buffer) → over_or result Taking ≡ after_read answer s.limit (run'.taken + run.wrote) l'.calm → Goes alone s (spot run l desk [] (Reading waits)) (spot run' l' desk [] (over_or result Taking))
+came_it alone s run run' l l' desk waits answer buffer result room is did to = record {
+  goes = λ w at.
+      let piece = came answer buffer in
+      let st : Stream run [] w = at.follows in
+      let now : length (w.taken ++ piece) ≡ run'.taken = length-append w.taken piece ∙ ap (λ (n : ℕ). n + length piece) at.taken ∙ sym did.taken in
+      let v : World = record w { line = l'; pieces = w.pieces ++ piece ∷ []; taken = w.taken ++ piece; phase = after_read answer w.setting.limit (length (w.taken ++ piece) + length w.sent) l'.calm } in
+      let step : Reads w v = record {
+        waits = waits;
+        phase = at.phase_is;
+        left = run.out.list;
+        unsent = at.unsent;
+        answer = answer;
+        buffer = buffer;
+        room = room;
+        line = l';
+        step = subst (λ (x : LineState). IsRead (waits && (length run.out.list == 0)) x answer buffer l') (sym at.line_is) is;
+        is = refl;
+      } in
+      let ends : v.phase ≡ over_or result Taking =
+      ap (λ (x : Setting). after_read answer x.limit (length (w.taken ++ piece) + length w.sent) l'.calm) at.setting_is
+      ∙ ap (λ (x : ℕ). after_read answer s.limit (x + length w.sent) l'.calm) now
+      ∙ ap (λ (x : ℕ). after_read answer s.limit (run'.taken + x) l'.calm) at.wrote ∙ sym to in
+      let stream : Stream run' [] v = record {
+        stage_is = st.stage_is ∙ ap (λ (x : Session). stage_of x.stage) (sym did.session);
+        number_is = ap (λ (x : Session). x.frames) did.session ∙ st.number_is;
+        fed = st.fed;
+        whole = ap (λ (x : List ℕ). x ++ piece) st.whole ∙ append_assoc st.fed run.piece.list piece ∙ ap (λ (x : List ℕ). st.fed ++ x) (sym did.piece_is);
+        splits = subst (λ (x : List ℕ). Splits st.fed (w.frames ++ []) x) (sym did.decoder) st.splits;
+      } in
+      (v, next here (reads step), record {
+        setting_is = at.setting_is;
+        line_is = refl;
+        desk_is = at.desk_is;
+        phase_is = ends;
+        unsent = at.unsent ∙ ap (λ (x : List ℕ). w.sent ++ x) (sym did.out);
+        taken = now;
+        wrote = at.wrote ∙ sym did.wrote;
+        follows = follows_taking result run' v stream;
+      });
+}
+
+pub from_pending : {alone : Bool} {s : Setting} {b : Spot} (run : Run) (line : LineState) (desk : DeskState) (fs gs : List FrameText) (p : Phase) → fs ≡ gs → Goes alone s (spot run line desk fs p) b → Goes alone s (spot run line desk gs p) b
+from_pending {alone} {s} {b} run line desk fs gs p e g = subst (λ (x : List FrameText). Goes alone s (spot run line desk x p) b) e g
+
+pub is_nothing : (xs : List ℕ) → length xs ≡ 0 → xs ≡ []
+is_nothing [] e = refl
+is_nothing (x ∷ xs) e = absurd (omega arith)

@@ -1,12 +1,13 @@
 //! A session over a line, turn by turn.
-ghost use Rattle.std.specs.Prelude.{◌≡◌, ◌+◌, ◌^◌, ◌<◌, ◌≤◌, ◌&&◌, Bool, true, length, [], IfSome, IfNone, IfOk, OnErr, List, ℕ};
+ghost use Rattle.std.specs.Prelude.{◌≡◌, ◌+◌, ◌^◌, ◌<◌, ◌≤◌, ◌&&◌, Bool, true, length, [], IfNone, IfOk, OnErr, Option};
 ghost use Rattle.ftn_addr.specs.Address.{address};
 ghost use Rattle.ftn_addr.specs.Limits.{IsAddress};
 ghost use Rattle.binkp_frame.specs.Views.{frame_texts};
 ghost use Rattle.node_model.specs.Calls.{DeskState};
 ghost use Rattle.binkp_mailer.specs.Lines.{LineState, LineBytes, MayRead, MayWrite, came, went};
 ghost use Rattle.binkp_mailer.specs.Replies.{Sits, SitsStill, setting_of, stage_of};
-ghost use Rattle.binkp_mailer.specs.Sessions.{Setting as Lent};
+ghost use Rattle.binkp_mailer.specs.Sessions.{Setting as Lent, IsSound, desk_part};
+ghost use Rattle.binkp_mailer.specs.Runs.{over_or};
 ghost use Rattle.binkp_mailer.specs.Machine.{Phase, Taking, Writing, Reading, Over, after_gave, after_read, after_took, after_write, moved, quieted};
 ghost use Rattle.binkp_mailer.specs.declared.ending.End.TheVariants as E;
 ghost use Rattle.binkp_mailer.specs.declared.ending.Took.TheVariants as T;
@@ -32,7 +33,7 @@ pub struct Run {
 }
 
 impl Run {
-    ghost use Rattle.binkp_mailer.specs.Runs.{Goes, IsNew, Wrote, Came, SameCounts, Advances, InLimit, over_or, room, spot};
+    ghost use Rattle.binkp_mailer.specs.Runs.{Goes, IsNew, Wrote, Came, SameCounts, Advances, InLimit, spot};
 
     /// Before the first turn. This takes no memory.
     pub fn new(alloc: Global) -> Run
@@ -93,4 +94,139 @@ impl Run {
         }
         Took::More
     }
+
+    /// Takes each frame that is whole, up to one that ends the session.
+    fn take_all<K: Desk>(&mut self, alloc: Global, setting: &Setting, desk: &mut K) -> Took
+        requires home { IsAddress (address setting.now.home) }
+        requires sits { Sits (K.ready desk.old) (K.part desk.old) (stage_of self.old.session.stage) }
+        ensures went { (line : LineState) → Goes K.alone (setting_of setting.now) (spot self.old line (K.stand desk.old).state [] Taking) (spot self.new line (K.stand desk.new).state [] (after_took result)) }
+        ensures sits { SitsStill (K.ready desk.new) (K.part desk.new) (stage_of self.new.session.stage) result }
+        ensures piece { result ≡ T.More → self.new.piece.list ≡ [] }
+        ensures counts { SameCounts self.old self.new }
+    {
+        match self.feed(alloc) {
+            Ok(frames) => self.take_each(alloc, frames.as_slice(), setting, desk),
+            Err(_) => Took::Ended(End::NoMemory),
+        }
+    }
+
+    /// The own turn.
+    fn give(&mut self, alloc: Global) -> Gave
+        requires piece { self.old.piece.list ≡ [] }
+        ensures went { (alone : Bool) (s : Lent) (line : LineState) (desk : DeskState) →
+            Goes alone s (spot self.old line desk [] Taking) (spot self.new line desk [] (after_gave result)) }
+        ensures part { desk_part (stage_of self.new.session.stage) ≡ desk_part (stage_of self.old.session.stage) }
+        ensures sound { IsSound (stage_of self.old.session.stage) → IsSound (stage_of self.new.session.stage) }
+        ensures sent { result ≡ G.Sent → 0 < length self.new.out.list }
+        ensures piece { self.new.piece.list ≡ self.old.piece.list }
+        ensures counts { SameCounts self.old self.new }
+    {
+        self.session.give(alloc, &mut self.out)
+    }
+
+    /// What an answer to a write leaves.
+    fn wrote(&mut self, answer: WriteAnswer, calm: u64, limit: u64) -> Option<End>
+        requires may { MayWrite answer self.old.out.list }
+        requires below { self.old.taken + self.old.wrote < limit }
+        requires limit { limit ≤ 2 ^ 62 }
+        ensures did { Wrote self.old self.new (went answer self.old.out.list) }
+        ensures to { (goal : Phase) → over_or result goal ≡ after_write answer limit (self.old.taken + self.new.wrote) calm goal }
+    {
+        match answer {
+            WriteAnswer::Wrote(n) => {
+                let left = self.out.as_slice().len();
+                prove!(n <= left);
+                self.out.drop_front(n);
+                self.wrote += n as u64;
+                endless(self.taken, self.wrote, limit)
+            }
+            WriteAnswer::Quiet => quiet(calm),
+            WriteAnswer::Failed => Some(End::LineFault),
+        }
+    }
+
+    /// One write of all that is left, where something is.
+    fn write_once<L: Line>(&mut self, line: &mut L, waits: bool, limit: u64) -> Option<End>
+        requires within { InLimit limit self.old (L.state line.old).calm }
+        requires limit { limit ≤ 2 ^ 62 }
+        ensures went { (alone : Bool) (s : Lent) (desk : DeskState) → s.limit ≡ limit →
+            Goes alone s (spot self.old (L.state line.old) desk [] (Writing waits)) (spot self.new (L.state line.new) desk [] (over_or result (Reading waits))) }
+        ensures session { self.new.session ≡ self.old.session }
+        ensures piece { self.new.piece.list ≡ self.old.piece.list }
+        ensures idle { self.old.out.list ≡ [] → self.new.out.list ≡ [] }
+        ensures advances { IfNone result (Advances limit self.old self.new (L.state line.old).calm (L.state line.new).calm (0 < length self.old.out.list)) }
+    {
+        if self.out.is_empty() {
+            return None;
+        }
+        let answer = line.write(self.out.as_slice());
+        self.wrote(answer, line.calm(), limit)
+    }
+
+    /// What an answer to a read leaves.
+    fn came(&mut self, answer: ReadAnswer, buffer: &[u8], calm: u64, limit: u64) -> Option<End>
+        requires may { (wait : Bool) × (bytes : Option LineBytes) × MayRead wait answer buffer.now bytes }
+        requires room { length buffer.now ≤ self.old.piece.spare }
+        requires below { self.old.taken + self.old.wrote < limit }
+        requires limit { limit ≤ 2 ^ 62 }
+        requires size { length buffer.now ≤ 4096 }
+        ensures did { Came self.old self.new (came answer buffer.now) }
+        ensures to { over_or result Taking ≡ after_read answer limit (self.new.taken + self.old.wrote) calm }
+    {
+        match answer {
+            ReadAnswer::Came(n) => match self.piece.push_slice(&buffer[..n]) {
+                Ok(()) => {
+                    self.taken += n as u64;
+                    endless(self.taken, self.wrote, limit)
+                }
+                Err(_) => unreachable!(),
+            },
+            ReadAnswer::End => Some(End::Dropped),
+            ReadAnswer::NotYet => None,
+            ReadAnswer::Quiet => quiet(calm),
+            ReadAnswer::Failed => Some(End::LineFault),
+        }
+    }
+
+    /// One read, which waits exactly where nothing is left to write and the own turn waits.
+    fn read_once<L: Line>(&mut self, line: &mut L, waits: bool, limit: u64) -> Option<End>
+        requires within { InLimit limit self.old (L.state line.old).calm }
+        requires limit { limit ≤ 2 ^ 62 }
+        ensures went { (alone : Bool) (s : Lent) (desk : DeskState) → s.limit ≡ limit →
+            Goes alone s (spot self.old (L.state line.old) desk [] (Reading waits)) (spot self.new (L.state line.new) desk [] (over_or result Taking)) }
+        ensures session { self.new.session ≡ self.old.session }
+        ensures advances { IfNone result (Advances limit self.old self.new (L.state line.old).calm (L.state line.new).calm ((waits ≡ true) × (self.old.out.list ≡ []))) }
+    {
+        if self.piece.reserve(4096).is_err() {
+            return Some(End::NoMemory);
+        }
+        let mut buffer = [0u8; 4096];
+        let wait = both(waits, self.out.is_empty());
+        let answer = line.read(&mut buffer, wait);
+        self.came(answer, &buffer, line.calm(), limit)
+    }
+}
+
+fn both(a: bool, b: bool) -> bool
+    ensures { result ≡ (a && b) }
+{
+    a && b
+}
+
+/// The bytes moved reach the limit.
+fn endless(taken: u64, wrote: u64, limit: u64) -> Option<End>
+    ensures { (goal : Phase) → over_or result goal ≡ moved limit (taken + wrote) goal }
+{
+    if limit <= taken.saturating_add(wrote) {
+        Some(End::Endless)
+    } else {
+        None
+    }
+}
+
+/// The sixtieth Quiet on end.
+fn quiet(calm: u64) -> Option<End>
+    ensures { (goal : Phase) → over_or result goal ≡ quieted calm goal }
+{
+    if calm >= 60 { Some(End::Quiet) } else { None }
 }
