@@ -1,0 +1,5 @@
+pub mod ListCalls
+pub mod Orderly
+pub mod PartPlaces
+pub mod ReceivedFiles
+pub mod SameFiles

@@ -1,5 +1,5 @@
 -- The calls of a desk with their answers, and their chain.
-use Rattle.std.specs.Prelude.{zero, suc, ◌≡◌, ◌≢◌, ◌⊎◌, ℕ, Bool, true, false, ◌+◌, ◌-◌, ◌^◌, ◌≤◌, ◌<◌, min, List, [], ◌∷◌, Option, Some, None, length}
+use Rattle.std.specs.Prelude.{zero, suc, ◌≡◌, ◌≢◌, ◌⊎◌, ℕ, Bool, true, false, ◌+◌, ◌≤◌, List, [], ◌∷◌, Option, Some, None}
 use Rattle.ftn_addr.specs.Address.{Address}
 use Rattle.ftn_addr.specs.Counts.{Rose, risen}
 use Rattle.ftn_addr.specs.Key.{Key}
@@ -7,7 +7,7 @@ use Rattle.ftn_addr.specs.declared.source_file.Action.{Action}
 use Rattle.node_model.specs.declared.words.Flavour.{Flavour}
 use Rattle.node_model.specs.declared.words.Role.{Role}
 use Rattle.node_model.specs.Durable.{Durable}
-use Rattle.node_model.specs.Node.{Session, Seat, Node, session_at, seat_in}
+use Rattle.node_model.specs.Node.{Session, Node, session_at, seat_in}
 use Rattle.node_model.specs.Rows.{KnockCome, OpenRow, FileAnswer, FileRow, DataMore, DataWhole, LeaveRow, released, unheld}
 
 -- a file that is to be queued, and how it was queued: under a new number, or it stands there already

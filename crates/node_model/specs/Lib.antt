@@ -2,6 +2,7 @@ pub mod Calls
 pub mod Durable
 pub mod Images
 pub mod Items
+pub mod ListStates
 pub mod Lists
 pub mod Node
 pub mod Rows

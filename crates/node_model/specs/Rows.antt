@@ -1,12 +1,12 @@
 -- Node step: for each call its answer and its change (own; the answers to a file are those of FTS-1026's receiver).
-use Rattle.std.specs.Prelude.{◌≡◌, ◌≢◌, ◌⊎◌, ℕ, Bool, true, false, ◌||◌, ◌&&◌, ◌+◌, ◌-◌, ◌/◌, max, ◌≤◌, ◌<◌, List, [], ◌∷◌, ◌++◌, Option, Some, None, length, map, drop, ◌==◌, if◌then◌else◌, nat_lt, nat_le, count_by, nat_eq}
+use Rattle.std.specs.Prelude.{◌≡◌, ◌≢◌, ◌⊎◌, ℕ, Bool, true, false, ◌||◌, ◌&&◌, ◌+◌, ◌-◌, ◌/◌, max, ◌<◌, List, [], ◌∷◌, ◌++◌, Option, Some, None, length, map, drop, if◌then◌else◌, nat_lt, nat_le, count_by, nat_eq}
 use Rattle.std.specs.Char.{to_ascii_lowercase}
 use Rattle.std.specs.Cmp.Lexicographic.{pointwise}
 use Rattle.ftn_addr.specs.Address.{Address}
 use Rattle.ftn_addr.specs.Key.{Key}
 use Rattle.node_model.specs.declared.words.Role.{Role}
 use Rattle.node_model.specs.declared.words.Role.TheVariants.{Calls, Answers}
-use Rattle.node_model.specs.Items.{Receipt, Refusal, Mark}
+use Rattle.node_model.specs.Items.{Receipt, Mark}
 use Rattle.node_model.specs.Lists.{Member, Each, some_passes}
 use Rattle.node_model.specs.Durable.{Durable, is_same, is_known, mark_of, marked, with_receipt, with_refusal}
 use Rattle.node_model.specs.Node.{Hold, Session, Seat, Settings, Node, session_at, hold_in, with_session, Logged, Record, Received_record, Refused_record}
