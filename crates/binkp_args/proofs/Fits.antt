@@ -76,6 +76,7 @@ addresses_short (a ∷ b ∷ more) are =
     omega (arith, length-append (canonical a) (32 ∷ spaced (map canonical (b ∷ more))))
 
 pub argument_short : (command : CommandText) → IsShort command → length (argument_of command) < 32767
+unfolding argument_of
 argument_short (Nul text) is = is
 argument_short (Adr addresses) is = let all = addresses_short addresses is.each in let few = is.few in omega arith
 argument_short (Pwd text) is = is

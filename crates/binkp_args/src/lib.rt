@@ -7,6 +7,8 @@ mod fault;
 mod file;
 mod names;
 mod reading;
+#[cfg(test)]
+mod tests;
 mod words;
 mod writing;
 
