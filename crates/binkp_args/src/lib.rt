@@ -1,4 +1,4 @@
-//! The arguments of binkp's commands (FTS-1026, section 5), read and written.
+//! The arguments of binkp's commands (FTS-1026), read and written.
 //!
 //! [`read_command`] makes a [`Command`] of a command frame's number and argument, or tells by an
 //! [`ArgFault`] what is wrong with the leftmost bad word. [`write_command`] writes a command as one whole
