@@ -166,7 +166,7 @@ addresses_are_words [] are = no_words
 addresses_are_words (a ∷ more) are = and_words (canonical a) (map canonical more) (address_is_word a (head_of IsAddress a more are)) (addresses_are_words more (tail_of IsAddress a more are))
 
 pub written-read : (command : CommandText) (home : Address) → IsReadable command → command_of home (number_of_command command) (argument_of command) ≡ Ok command
-unfolding command_of worded argument_of
+unfolding command_of worded
 written-read (Nul text) home is = rw is refl
 written-read (Adr addresses) home is =
     let words = words_read (map canonical addresses) (addresses_are_words addresses is.each) in

@@ -30,7 +30,7 @@ key_text key = spaced (escaped key.name ∷ decimal key.size ∷ decimal key.tim
 abbrev pub place_text : Key → ℕ → List ℕ
 place_text key offset = spaced (escaped key.name ∷ decimal key.size ∷ decimal key.time ∷ decimal offset ∷ [])
 
-unfoldable pub argument_of : CommandText → List ℕ
+abbrev pub argument_of : CommandText → List ℕ
 argument_of (Nul text) = text
 argument_of (Adr addresses) = spaced (map canonical addresses)
 argument_of (Pwd text) = text

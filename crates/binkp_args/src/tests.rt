@@ -1,8 +1,9 @@
-#![tactic(auto, using(crate::proofs::Fits::argument_short))]
-
 ghost use Rattle.std.specs.Prelude.{◌≡◌, IfOk};
+ghost use Rattle.ftn_addr.specs.Address.{address};
+ghost use Rattle.ftn_addr.specs.Key.{key_of};
+ghost use Rattle.ftn_addr.specs.Limits.{IsAddress, IsKey};
 
-use crate::{ArgFault, Command, escape, read_command, unescape, write_command};
+use crate::{ArgFault, Command, escape, fits_a_frame, read_command, unescape, write_command};
 use ftn_addr::{Addr, Bytes, FileKey};
 use std::alloc::Global;
 use std::test::Fail;
@@ -20,6 +21,28 @@ fn home(alloc: Global) -> Result<Addr, Fail> {
         node: 1042,
         point: 0,
         domain: bytes(alloc, b"fidonet")?,
+    })
+}
+
+fn peer(alloc: Global) -> Result<Addr, Fail>
+    ensures { IfOk result (λ addr. IsAddress (address addr)) }
+{
+    Ok(Addr {
+        zone: 2,
+        net: 5047,
+        node: 13,
+        point: 7,
+        domain: bytes(alloc, b"fidonet")?,
+    })
+}
+
+fn hello(alloc: Global) -> Result<FileKey, Fail>
+    ensures { IfOk result (λ key. IsKey (key_of key)) }
+{
+    Ok(FileKey {
+        name: bytes(alloc, b"a.txt")?,
+        size: 5,
+        time: 1_000_000_000,
     })
 }
 
@@ -87,11 +110,7 @@ fn name_of_201_bytes_is_too_long(rt: HostRuntime) -> Result<(), Fail> {
 #[test]
 fn file_without_offset(rt: HostRuntime) -> Result<(), Fail> {
     let home = home(rt.alloc())?;
-    let key = FileKey {
-        name: bytes(rt.alloc(), b"a.txt")?,
-        size: 5,
-        time: 1_000_000_000,
-    };
+    let key = hello(rt.alloc())?;
     let command = read_command(rt.alloc(), 3, b" a.txt  5 1000000000\0", &home)?;
     assert_eq!(rt; command, Command::File(key, 0));
     let fault = read_command(rt.alloc(), 9, b"a.txt 5 1000000000", &home).err();
@@ -105,13 +124,7 @@ fn unreadable_addresses_are_passed_over(rt: HostRuntime) -> Result<(), Fail> {
     let fault = read_command(rt.alloc(), 1, b"x y", &home).err();
     assert_eq!(rt; fault, Some(ArgFault::NoAddress));
     let mut addrs = Vec::new(rt.alloc());
-    addrs.push(Addr {
-        zone: 2,
-        net: 5047,
-        node: 13,
-        point: 7,
-        domain: bytes(rt.alloc(), b"fidonet")?,
-    })?;
+    addrs.push(peer(rt.alloc())?)?;
     let command = read_command(rt.alloc(), 1, b" x 5047/13.7 y", &home)?;
     assert_eq!(rt; command, Command::Adr(addrs));
     Ok(())
@@ -134,13 +147,7 @@ fn other_numbers_and_texts(rt: HostRuntime) -> Result<(), Fail> {
 #[test]
 fn written_address(rt: HostRuntime) -> Result<(), Fail> {
     let mut addrs = Vec::new(rt.alloc());
-    addrs.push(Addr {
-        zone: 2,
-        net: 5047,
-        node: 13,
-        point: 7,
-        domain: bytes(rt.alloc(), b"fidonet")?,
-    })?;
+    addrs.push(peer(rt.alloc())?)?;
     let mut out = Bytes::new(rt.alloc());
     write_command(rt.alloc(), &Command::Adr(addrs), &mut out)?;
     assert_eq!(rt;
@@ -176,28 +183,37 @@ fn written_frames_of_a_first_session(rt: HostRuntime) -> Result<(), Fail> {
 }
 
 #[test]
-fn written_files(rt: HostRuntime) -> Result<(), Fail> {
-    let key = || -> Result<FileKey, Fail> {
-        Ok(FileKey {
-            name: bytes(rt.alloc(), b"a.txt")?,
-            size: 5,
-            time: 1_000_000_000,
-        })
-    };
+fn written_got(rt: HostRuntime) -> Result<(), Fail> {
+    let key = hello(rt.alloc())?;
+    fits_a_frame();
     let mut out = Bytes::new(rt.alloc());
-    write_command(rt.alloc(), &Command::Got(key()?), &mut out)?;
+    write_command(rt.alloc(), &Command::Got(key), &mut out)?;
     assert_eq!(rt;
         out.as_slice(),
         b"\x80\x13\x06a.txt 5 1000000000".as_slice()
     );
-    out.clear();
-    write_command(rt.alloc(), &Command::File(key()?, 0), &mut out)?;
+    Ok(())
+}
+
+#[test]
+fn written_file(rt: HostRuntime) -> Result<(), Fail> {
+    let key = hello(rt.alloc())?;
+    fits_a_frame();
+    let mut out = Bytes::new(rt.alloc());
+    write_command(rt.alloc(), &Command::File(key, 0), &mut out)?;
     assert_eq!(rt;
         out.as_slice(),
         b"\x80\x15\x03a.txt 5 1000000000 0".as_slice()
     );
-    out.clear();
-    write_command(rt.alloc(), &Command::Get(key()?, 3), &mut out)?;
+    Ok(())
+}
+
+#[test]
+fn written_get(rt: HostRuntime) -> Result<(), Fail> {
+    let key = hello(rt.alloc())?;
+    fits_a_frame();
+    let mut out = Bytes::new(rt.alloc());
+    write_command(rt.alloc(), &Command::Get(key, 3), &mut out)?;
     assert_eq!(rt;
         out.as_slice(),
         b"\x80\x15\x09a.txt 5 1000000000 3".as_slice()

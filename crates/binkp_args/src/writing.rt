@@ -70,7 +70,6 @@ fn place_text(alloc: Global, key: &FileKey, offset: u64) -> Result<Bytes, NoMemo
     Ok(text)
 }
 
-#[tactic(auto, unfolding(crate::specs::Writing::argument_of))]
 fn argument_of(alloc: Global, command: &Command) -> Result<Bytes, NoMemory>
     ensures { IfOk result (λ text. text.list ≡ argument_of (command_text command.now)) }
 {
