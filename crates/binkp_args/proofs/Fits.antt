@@ -1,15 +1,15 @@
 -- The arguments of short commands fit a frame.
-use Rattle.std.proofs.Common.{◌≡◌, ℕ, suc, zero, ◌+◌, ◌*◌, ◌/◌, ◌%◌, ◌<◌, ◌≤◌, true, false, eqb, List, [], ◌∷◌, ◌++◌, length, map, refl, inl, inr, arith}
-use Rattle.std.specs.Char.{to_ascii_lowercase}
+use Rattle.std.proofs.Common.{◌≡◌, ℕ, suc, zero, ◌+◌, ◌*◌, ◌/◌, ◌%◌, ◌<◌, ◌≤◌, false, eqb, List, [], ◌∷◌, ◌++◌, length, map, ap, ◌∙◌, inl, inr, arith}
 use Rattle.std.specs.Fmt.{decimal, digits, digits_onto, digit_glyph}
 use Rattle.std.specs.List.{All}
 use Rattle.std.proofs.lemmas.Bool.{cases_Bool, and_parts, leb-true}
 use Rattle.std.proofs.lemmas.Fmt.{length-decimal-le}
 use Rattle.std.proofs.lemmas.List.{length-append, length-map}
-use Rattle.ftn_addr.specs.Address.{Address}
+use Rattle.ftn_addr.specs.Address.{Address, address}
 use Rattle.ftn_addr.specs.Key.{Key}
 use Rattle.ftn_addr.specs.Limits.{IsAddress, IsKey}
 use Rattle.ftn_addr.specs.Writing.{canonical, point_text}
+use Rattle.ftn_addr.specs.declared.addr.Addr.{Addr}
 use Rattle.binkp_args.specs.Command.{CommandText, Nul, Adr, Pwd, File, Accept, Eob, Got, Error, Bsy, Get, Skip, Other}
 use Rattle.binkp_args.specs.Escape.{is_plain, escaped_byte, escaped}
 use Rattle.binkp_args.specs.Limits.{IsShort}
@@ -88,3 +88,9 @@ argument_short (Bsy text) is = is
 argument_short (Get key offset) is = let all = place_short key offset is in omega arith
 argument_short (Skip key) is = let all = key_short key is in omega arith
 argument_short (Other number) is = omega arith
+
+-- an M_ADR with the one address that was pushed
+pub one_address_short : (a : Addr) (none addrs : List Addr) → none ≡ [] → addrs ≡ none ++ a ∷ [] → IsAddress (address a) → length (argument_of (Adr (map address addrs))) < 32767
+one_address_short a none addrs empty pushed is =
+    let all : addrs ≡ a ∷ [] = pushed ∙ ap (λ (x : List Addr). x ++ a ∷ []) empty in
+    rw all (let one = address_short (address a) is in omega arith)

@@ -1,11 +1,11 @@
 -- What is read is within the limits.
-use Rattle.std.proofs.Common.{◌≡◌, ℕ, suc, zero, ◌+◌, ◌-◌, ◌<◌, ◌≤◌, ◌^◌, Bool, true, false, not, eqb, ltb, List, [], ◌∷◌, length, Option, Some, None, Result, Ok, Err, refl, sym, ap, ◌∙◌, subst, arith}
+use Rattle.std.proofs.Common.{◌≡◌, ℕ, suc, zero, ◌-◌, ◌<◌, ◌≤◌, ◌^◌, Bool, true, false, not, eqb, ltb, List, [], ◌∷◌, length, Option, Some, None, Result, Ok, Err, refl, subst, arith}
 use Rattle.std.specs.Prelude.{slice_get, IfOk, if◌then◌else◌}
 use Rattle.std.specs.Result.{result_ok}
 use Rattle.std.specs.List.{All, filter_map, cons_option, slice_split}
 use Rattle.std.proofs.lemmas.Bool.{ltb-false}
 use Rattle.std.proofs.lemmas.List.Elements.{filter_passes}
-use Rattle.ftn_addr.specs.Address.{Address, address}
+use Rattle.ftn_addr.specs.Address.{Address}
 use Rattle.ftn_addr.specs.Digits.{saturated_number}
 use Rattle.ftn_addr.specs.Key.{Key}
 use Rattle.ftn_addr.specs.Limits.{IsAddress, IsKey}
@@ -58,6 +58,7 @@ number_small n words number e =
     check : (v : ℕ) (b : Bool) → ltb 9223372036854775807 v ≡ b → (if b then Err (BadNumber n) else Ok v) ≡ Ok number → number ≤ 9223372036854775807
     check v true t e = absurd (let clash : Err (BadNumber n) ≡ Ok number = e in cc)
     check v false t e = let same : v ≡ number = cc in subst (λ x. x ≤ 9223372036854775807) same (ltb-false _ _ t)
+
     go : (o : Option ℕ) → or_bad n o ≡ Ok number → number ≤ 9223372036854775807
     go None e = absurd (let clash : Err (BadNumber n) ≡ Ok number = e in cc)
     go (Some v) e = check v (ltb 9223372036854775807 v) refl e

@@ -1,5 +1,5 @@
 -- What is written is read again as the same command.
-use Rattle.std.proofs.Common.{◌≡◌, ℕ, suc, zero, ◌+◌, ◌-◌, ◌*◌, ◌<◌, ◌≤◌, ◌^◌, Bool, true, false, eqb, ltb, min, List, [], ◌∷◌, ◌++◌, length, map, Some, Ok, refl, sym, ap, ◌∙◌, inl, inr, arith, rules}
+use Rattle.std.proofs.Common.{◌≡◌, ℕ, suc, zero, ◌+◌, ◌-◌, ◌*◌, ◌<◌, ◌≤◌, ◌^◌, true, false, eqb, ltb, min, List, [], ◌∷◌, ◌++◌, length, map, Some, Ok, refl, ap, inl, inr, arith, rules}
 use Rattle.std.specs.Char.{is_ascii_digit, to_ascii_lowercase}
 use Rattle.std.specs.Fmt.{decimal}
 use Rattle.std.specs.List.{list_all, All, filter_map, fold}
@@ -10,16 +10,15 @@ use Rattle.std.proofs.lemmas.Str.Parse.{IsNumeralModel, numerals_by_fold}
 use Rattle.ftn_addr.specs.Address.{Address}
 use Rattle.ftn_addr.specs.Digits.{number_of, saturated_number}
 use Rattle.ftn_addr.specs.Key.{Key}
-use Rattle.ftn_addr.specs.Limits.{IsAddress, IsKey}
+use Rattle.ftn_addr.specs.Limits.{IsAddress}
 use Rattle.ftn_addr.specs.Reading.{domain_byte, is_domain}
 use Rattle.ftn_addr.specs.Writing.{canonical, point_text}
 use Rattle.ftn_addr.proofs.AddressText.{reading-canonical}
-use Rattle.binkp_args.specs.Addresses.{address_in, some_address, addresses_of}
+use Rattle.binkp_args.specs.Addresses.{address_in, some_address}
 use Rattle.binkp_args.specs.Command.{CommandText, worded, command_of, Nul, Adr, Pwd, File, Accept, Eob, Got, Error, Bsy, Get, Skip, Other}
 use Rattle.binkp_args.specs.Escape.{escaped_byte, escaped, unescaped}
 use Rattle.binkp_args.specs.File.{word_at, number_at, name_of, key_words, offset_or_0, not_large, place_in, file_of, offered_of, wanted_of}
-use Rattle.binkp_args.specs.Limits.{IsFile, IsPlace, AreAddresses, AreBytes, IsReadable}
-use Rattle.binkp_args.specs.Words.{spaced}
+use Rattle.binkp_args.specs.Limits.{IsFile, IsPlace, AreBytes, IsReadable}
 use Rattle.binkp_args.specs.Writing.{number_of as number_of_command, argument_of}
 use Rattle.binkp_args.proofs.Escaping.{unescaped-escaped}
 use Rattle.binkp_args.proofs.SpacedWords.{visible, visible_kind, visible-append, IsWord, head_of, tail_of, words_read}

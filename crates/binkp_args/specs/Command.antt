@@ -1,4 +1,4 @@
--- What a command's number and argument say (FTS-1026, section 5).
+-- What a command's number and argument say (FTS-1026).
 use Rattle.std.specs.Prelude.{ℕ, ◌==◌, List, map, Result, Ok, if◌then◌else◌}
 use Rattle.ftn_addr.specs.Address.{Address, address}
 use Rattle.ftn_addr.specs.Key.{Key, key_of}

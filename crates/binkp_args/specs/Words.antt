@@ -1,4 +1,4 @@
--- The words of an argument (FTS-1026, section 5).
+-- The words of an argument (FTS-1026).
 use Rattle.std.specs.Prelude.{ℕ, ◌-◌, ◌==◌, Bool, ◌&&◌, not, nat_lt, List, length, take, filter, slice_index, if◌then◌else◌}
 use Rattle.std.specs.List.{slice_split, join_with_byte}
 

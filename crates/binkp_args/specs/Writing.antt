@@ -1,4 +1,4 @@
--- How a command is written (FTS-1026, section 5).
+-- How a command is written (FTS-1026).
 use Rattle.std.specs.Prelude.{ℕ, List, [], ◌∷◌, map}
 use Rattle.std.specs.Fmt.{decimal}
 use Rattle.ftn_addr.specs.Frames.{FrameText, Command}

@@ -1,6 +1,6 @@
 use ftn_addr::{Addr, Bytes, FileKey};
 
-/// What a command frame says (FTS-1026, section 5).
+/// What a command frame says (FTS-1026).
 #[derive(Debug, PartialEq, Eq, Drop)]
 pub enum Command {
     /// M_NUL: a text, as `SYS My System`.

@@ -61,10 +61,9 @@ fn key_words(alloc: Global, words: &[&[u8]]) -> Result<FileKey, ArgFault>
 fn offset_or_0(words: &[&[u8]]) -> Result<u64, ArgFault>
     ensures { Gives (λ offset. offset) result (offset_or_0 (map (λ w. w.now) words.now)) }
 {
-    if words.len() > 3 {
-        number_at(4, words)
-    } else {
-        Ok(0)
+    match words.len() {
+        0..=3 => Ok(0),
+        _ => number_at(4, words),
     }
 }
 

@@ -53,7 +53,7 @@ fn command_of(alloc: Global, number: u8, args: &[u8], home: &Addr) -> Result<Com
     }
 }
 
-/// Reads a command frame's number and argument (FTS-1026, section 5). An address without a zone or a
+/// Reads a command frame's number and argument (FTS-1026). An address without a zone or a
 /// domain has the home's. A file has a name of 1 to 200 bytes, a size of at most [`ftn_addr::MAX_SIZE`],
 /// a time below 2^63 and an offset of at most its size; addresses are within the home's limits.
 ///

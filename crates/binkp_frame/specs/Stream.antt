@@ -1,4 +1,4 @@
--- Which frames a stream of bytes has (FTS-1026, section 3, "Frames").
+-- Which frames a stream of bytes has (FTS-1026).
 use Rattle.std.specs.Prelude.{◌≡◌, ℕ, ◌+◌, ◌*◌, ◌%◌, ◌<◌, List, [], ◌∷◌, ◌++◌, length, Option}
 use Rattle.std.specs.List.{All, flat_map, filter_map}
 use Rattle.ftn_addr.specs.Frames.{FrameText, Block, spelling, frame_of}

@@ -21,7 +21,7 @@ pub struct Head {
     pub len: u16,
 }
 
-/// Reads a header (FTS-1026, section 3, "Frames"): the top bit is 1 for a command, and the low 15 bits
+/// Reads a header (FTS-1026): the top bit is 1 for a command, and the low 15 bits
 /// are the data's length.
 pub fn head_of(bytes: [u8; 2]) -> Head
     ensures spelled { header result.command result.len ≡ bytes }

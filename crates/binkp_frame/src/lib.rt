@@ -1,4 +1,4 @@
-//! Frames of the binkp protocol (FTS-1026, section 3, "Frames"), read from a stream that comes in any
+//! Frames of the binkp protocol (FTS-1026), read from a stream that comes in any
 //! pieces, and written.
 //!
 //! A [`Frame`] is a command with its argument, or data. A [`Decoder`] is fed the pieces of a stream and
