@@ -3,4 +3,6 @@ pub mod Lines
 pub mod Machine
 pub mod Replies
 pub mod Runs
+pub mod SeatSteps
+pub mod Seats
 pub mod Sessions
