@@ -9,6 +9,8 @@ use Rattle.node_model.specs.declared.store.StoreFault.TheVariants.{Disk, Read, F
 use Rattle.node_model.specs.Durable.{Durable, with_receipt}
 use Rattle.node_model.specs.Node.{Session, Node, Received_record}
 use Rattle.node_model.specs.Rows.{by, FileAnswer, Have, Go, Whole, Answered, DataMore, DataWhole}
+use Rattle.node_model.specs.Calls.{Fault}
+use Rattle.node_model.specs.Calls as C
 use Rattle.node_model.specs.Images.{OpensTo}
 use Rattle.node_model.specs.Stores.{Opened, StoreState, StoreStand, IsPartNumber, committed}
 use Rattle.binkp_mailer.specs.declared.desk.FileIn.{FileIn}
@@ -123,3 +125,10 @@ Puts bytes (Ok I.More) old x new y =
 Puts bytes (Ok I.Whole) old x new y =
     (y.hold ≡ None) × ((b : ℕ) → DataWhole 0 bytes (node_of old b (Some x)) (node_of new b (Some y)))
 Puts bytes (Err fault) old x new y = BrokenBy (PutPasses bytes old x) fault old new × (y ≡ x)
+
+-- why a desk refuses, where its store refused and has so many faults
+abbrev pub fault_in : StoreFault → ℕ → Fault
+fault_in Disk count = C.Disk count
+fault_in Read count = C.Disk count
+fault_in Full count = C.Full
+fault_in NoMemory count = C.No_memory

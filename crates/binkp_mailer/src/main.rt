@@ -11,6 +11,7 @@ mod login;
 mod receiver;
 mod run;
 mod saying;
+mod seat;
 mod seat_open;
 mod session;
 mod stage;
@@ -20,6 +21,7 @@ pub use desk::{DataIn, Desk, DeskFault, FileIn, Knock};
 pub use ending::{Cause, End, Gave, Took};
 pub use link::{Line, ReadAnswer, Sink, WriteAnswer};
 pub use run::Run;
+pub use seat::Seat;
 pub use session::Session;
 
 fn main() {}
