@@ -7,3 +7,4 @@ pub mod Runs
 pub mod Room
 pub mod Seats
 pub mod SeatData
+pub mod SeatCalls

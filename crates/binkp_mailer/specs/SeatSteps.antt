@@ -13,6 +13,7 @@ use Rattle.node_model.specs.Calls.{Fault}
 use Rattle.node_model.specs.Calls as C
 use Rattle.node_model.specs.Images.{OpensTo}
 use Rattle.node_model.specs.Stores.{Opened, StoreState, StoreStand, IsPartNumber, committed}
+use Rattle.node_model.specs.Talk.{Part}
 use Rattle.binkp_mailer.specs.declared.desk.FileIn.{FileIn}
 use Rattle.binkp_mailer.specs.declared.desk.FileIn.TheVariants as F
 use Rattle.binkp_mailer.specs.declared.desk.DataIn.{DataIn}
@@ -95,6 +96,12 @@ abbrev pub file_word : FileIn → FileAnswer
 file_word F.Go = Go
 file_word F.Whole = Whole
 file_word F.Have = Have
+
+-- the file that is held after that answer
+abbrev pub part_for : FileIn → Key → Option Part
+part_for F.Go key = Some (record { key = key; left = key.size; taking = true })
+part_for F.Whole key = None
+part_for F.Have key = None
 
 -- the offer of a file, once no file is held
 abbrev pub Takes : Key → Result FileIn StoreFault → StoreState → Sitting → StoreState → Sitting → Type 0

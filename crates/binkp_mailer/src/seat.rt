@@ -1,7 +1,7 @@
 //! The desk of a program that serves one session over one store.
 ghost use Rattle.std.specs.Prelude.{◌≡◌, ◌<◌, ◌≤◌, length, map, Some, None, option_map};
 
-use crate::seat_open::Open;
+use crate::seat_open::{Open, refuse_number};
 use crate::{DataIn, Desk, DeskFault, FileIn, Knock};
 use ftn_addr::{Addr, FileKey, NoMemory};
 use node_model::{Role, Store, StoreFault};
@@ -95,10 +95,8 @@ impl<S: Store> Desk for Seat<S> {
             return Err(DeskFault::Disk(count));
         }
         if self.begun == u32::MAX {
-            return match self.store.reserve(u32::MAX) {
-                Ok(()) => unreachable!(),
-                Err(fault) => Err(self.refusal(fault)),
-            };
+            let fault = refuse_number(&mut self.store);
+            return Err(self.refusal(fault));
         }
         let number = self.begun + 1;
         match Open::new(alloc, number, role, peers, secure, now) {

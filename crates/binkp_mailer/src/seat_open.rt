@@ -104,6 +104,19 @@ fn make_receipt<S: Store>(
     Ok(())
 }
 
+/// No session number is left: the store is asked for more places than it has, so that it counts a refusal.
+pub fn refuse_number<S: Store>(store: &mut S) -> StoreFault
+    requires whole { (S.stand store.old).state.counts.broken ≡ None }
+    requires free { IsMarkFree (S.stand store.old).state.content }
+    ensures refused { RefusedBy (λ d. d ≡ state_in (S.stand store.old).state) result (S.stand store.old).state (S.stand store.new).state }
+    ensures leaves { Leaves (λ d. d ≡ state_in (S.stand store.old).state) (S.stand store.old) (S.stand store.new) }
+{
+    match store.reserve(u32::MAX) {
+        Ok(()) => unreachable!(),
+        Err(fault) => fault,
+    }
+}
+
 fn copy_all(alloc: Global, addrs: &[Addr]) -> Result<Vec<Addr>, NoMemory>
     ensures { IfOk result (λ copies. map address copies.items ≡ map address addrs.now) }
 {
@@ -115,8 +128,8 @@ fn copy_all(alloc: Global, addrs: &[Addr]) -> Result<Vec<Addr>, NoMemory>
 }
 
 impl Open {
-    ghost use Rattle.binkp_mailer.specs.Seats.{sitting, IsHolding, places_of as places_in};
-    ghost use Rattle.binkp_mailer.specs.SeatSteps.{IsNewSitting, Takes, TakePasses, HoldsFor, Puts, PutPasses};
+    ghost use Rattle.binkp_mailer.specs.Seats.{sitting, part_in, IsHolding, places_of as places_in};
+    ghost use Rattle.binkp_mailer.specs.SeatSteps.{IsNewSitting, part_for, Takes, TakePasses, HoldsFor, Puts, PutPasses};
 
     /// A session that holds nothing, with copies of the peer's addresses.
     pub fn new(
@@ -172,6 +185,7 @@ impl Open {
         requires first { IsAddress (address self.old.first) }
         requires limits { IsKey (key_of key.now) }
         ensures takes { Takes (key_of key.now) result (S.stand store.old).state (sitting self.old) (S.stand store.new).state (sitting self.new) }
+        ensures part { IfOk result (λ word. part_in (sitting self.new).hold ≡ part_for word (key_of key.now)) }
         ensures holds { IfOk result (λ word. IsHolding (sitting self.new).first (sitting self.new).hold (S.stand store.new).state) }
         ensures free { IsMarkFree (S.stand store.new).state.content }
         ensures counts { OnOk result ((S.stand store.new).state.counts ≡ (S.stand store.old).state.counts) }
