@@ -136,6 +136,6 @@ Puts bytes (Err fault) old x new y = BrokenBy (PutPasses bytes old x) fault old 
 -- why a desk refuses, where its store refused and has so many faults
 abbrev pub fault_in : StoreFault → ℕ → Fault
 fault_in Disk count = C.Disk count
-fault_in Read count = C.Disk count
+fault_in Read count = C.Read count
 fault_in Full count = C.Full
 fault_in NoMemory count = C.No_memory

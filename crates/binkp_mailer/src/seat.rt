@@ -19,8 +19,10 @@ pub struct Seat<S: Store> {
 }
 
 impl<S: Store> Seat<S> {
-    ghost use Rattle.binkp_mailer.specs.Seats.{IsMarkFree, IsSettled, IsSeated, seat_stand, seat_part, sitting, told};
+    ghost use Rattle.std.specs.Prelude.{false, ◌≢◌};
+    ghost use Rattle.node_model.specs.declared.store.StoreFault.TheVariants.{Read};
     ghost use Rattle.binkp_mailer.specs.Desks.{fault_of};
+    ghost use Rattle.binkp_mailer.specs.Seats.{IsMarkFree, IsSettled, IsSeated, node_of, seat_part, sitting, told};
     ghost use Rattle.binkp_mailer.specs.SeatSteps.{fault_in};
 
     /// A seat at which no session is open. What a stop now leaves of the store is what it keeps.
@@ -29,8 +31,9 @@ impl<S: Store> Seat<S> {
         requires whole { (S.stand store).state.counts.broken ≡ None }
         requires settled { IsSettled (told (S.stand store).state.content).state (S.stand store) }
         ensures store { result.store ≡ store }
-        ensures begun { result.begun ≡ 0 }
-        ensures session { result.session ≡ None }
+        ensures node { node_of (S.stand result.store).state result.begun (option_map sitting result.session) ≡ node_of (S.stand store).state 0 None }
+        ensures part { seat_part (option_map sitting result.session) ≡ record { open_now = false; held = None } }
+        ensures ready { IsSeated (S.stand result.store) (option_map sitting result.session) }
     {
         Seat {
             store,
@@ -51,13 +54,14 @@ impl<S: Store> Seat<S> {
         store
     }
 
-    // Why the store refused, with its count where the disk failed.
+    // Why the store refused, with its count where the disk failed. No call reads yet.
     fn refusal(&self, fault: StoreFault) -> DeskFault
+        requires { fault ≢ Read }
         ensures { fault_of result ≡ fault_in fault (S.stand self.now.store).state.counts.faults }
     {
         match fault {
             StoreFault::Disk => DeskFault::Disk(self.store.faults()),
-            StoreFault::Read => DeskFault::Disk(self.store.faults()),
+            StoreFault::Read => unreachable!(),
             StoreFault::Full => DeskFault::Full,
             StoreFault::NoMemory => DeskFault::NoMemory,
         }
@@ -114,6 +118,7 @@ impl<S: Store> Desk for Seat<S> {
             unreachable!()
         };
         if let Some(count) = self.store.broken() {
+            // The node of a broken store shows no held file, so that this changes nothing of it.
             session.hold = None;
             return Err(DeskFault::Disk(count));
         }
@@ -147,3 +152,6 @@ impl<S: Store> Desk for Seat<S> {
         Ok(())
     }
 }
+
+#[cfg(test)]
+mod tests;
