@@ -6,3 +6,6 @@ pub mod Gives
 pub mod Runs
 pub mod Room
 pub mod Left
+pub mod Causes
+pub mod LineLaws
+pub mod Laws

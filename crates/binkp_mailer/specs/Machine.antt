@@ -234,12 +234,3 @@ pub record IsClosed (alone : Bool) (w : World) (line : LineState) (end : End) : 
   pub desk_is : last.desk ≡ w.desk
   pub taken_is : last.taken ≡ w.taken
   pub phase : last.phase ≡ Closed end
-
--- A session that ended so, over this line and this desk: a run from the opening to its close, and what holds of it.
-pub record IsSession (alone : Bool) (setting : Setting) (line : LineState) (desk : DeskState) (end : End) (taken : ℕ) (line' : LineState) (desk' : DeskState) : Type 0 where
-  pub last : World
-  pub run : Reach alone (opening setting line desk) last
-  pub closed : last.phase ≡ Closed end
-  pub line_is : last.line ≡ line'
-  pub desk_is : last.desk ≡ desk'
-  pub taken_is : length last.taken ≡ taken

@@ -9,7 +9,8 @@ ghost use Rattle.binkp_mailer.specs.Lines.{LineState, LineBytes, MayRead, MayWri
 ghost use Rattle.binkp_mailer.specs.Replies.{Sits, SitsStill, setting_of, stage_of};
 ghost use Rattle.binkp_mailer.specs.Sessions.{Setting as Lent, IsSound, desk_part};
 ghost use Rattle.binkp_mailer.specs.Runs.{over_or};
-ghost use Rattle.binkp_mailer.specs.Machine.{World, Phase, Starting, Taking, Writing, Reading, Over, IsLeft, IsClosed, IsSession, is_mute, after_gave, after_leave, after_read, after_took, after_write, moved, quieted};
+ghost use Rattle.binkp_mailer.specs.Laws.{IsSession};
+ghost use Rattle.binkp_mailer.specs.Machine.{World, Phase, Starting, Taking, Writing, Reading, Over, IsLeft, IsClosed, is_mute, after_gave, after_leave, after_read, after_took, after_write, moved, quieted};
 ghost use Rattle.binkp_mailer.specs.declared.ending.End.TheVariants as E;
 ghost use Rattle.binkp_mailer.specs.declared.ending.Took.TheVariants as T;
 ghost use Rattle.binkp_mailer.specs.declared.ending.Gave.TheVariants as G;

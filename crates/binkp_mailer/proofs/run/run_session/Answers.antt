@@ -6,6 +6,7 @@ use Rattle.binkp_mailer.specs.Lines.{LineState}
 use Rattle.binkp_mailer.specs.Replies.{setting_of}
 use Rattle.binkp_mailer.specs.Machine.{World, Phase, Draining, opening, after_leave, IsLeft, IsClosed}
 use Rattle.binkp_mailer.proofs.Runs.{reach_trans, at_opening, left_it, goes_then, ends_at}
+use Rattle.binkp_mailer.proofs.Laws.{facts_on, facts_open}
 use Rattle.binkp_mailer.proofs.run.run_session.Goals as goal
 
 pub returns-clause-session : goal.returns-clause-session
@@ -23,4 +24,5 @@ returns-clause-session g c =
       line_is = z.line_is ∙ sym c.close.ensures;
       desk_is = z.desk_is ∙ x.2.desk_is;
       taken_is = ap length z.taken_is ∙ x.2.taken;
+      facts = facts_on g.K.Desk.alone line desk w z.last (facts_open g.K.Desk.alone (setting_of c.args.setting.now) line desk) (reach_trans x.1 z.reached);
     }
