@@ -3,3 +3,5 @@ pub mod Orderly
 pub mod PartPlaces
 pub mod ReceivedFiles
 pub mod SameFiles
+pub mod SeatSessions
+pub mod OneReceipt

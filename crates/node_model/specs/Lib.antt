@@ -5,6 +5,7 @@ pub mod Items
 pub mod ListStates
 pub mod Lists
 pub mod Node
+pub mod Receipts
 pub mod Rows
 pub mod Stores
 pub mod Talk
