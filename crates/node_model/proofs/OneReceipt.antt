@@ -67,3 +67,41 @@ put_new seat s n new is fresh x h has holds =
 
 none_new : (s : Session) (d : Durable) → s.hold ≡ None → IsNew (Some s) d
 none_new s d none h holds = absurd (cc)
+
+-- nothing is held
+unheld_new : (seat : ℕ) (s : Session) (n new : Node) → new.seats ≡ (released seat s n).seats → HoldsNew seat new
+unheld_new seat s n new is = put_new seat (Some (unheld s)) n new is (none_new (unheld s) new.state refl)
+
+-- A file.
+
+held_key : (x h : Hold) → Some x ≡ Some h → x.key ≡ h.key
+held_key x h is = let same : x ≡ h = cc in ap (λ (y : Hold). y.key) same
+
+answered_once : (seat : ℕ) (s : Session) (key : Key) (offset : ℕ) (answer : FileAnswer) (n new : Node) → Answered seat s key offset answer n new → HasOnce n.state → HasOnce new.state
+answered_once seat s key offset Have n new a once = subst (λ (x : Node). HasOnce x.state) (sym a.1) once
+answered_once seat s key offset Refuse n new a once = subst (λ (x : Node). HasOnce x.state) (sym a.2) once
+answered_once seat s key offset Elsewhere n new a once = subst (λ (x : Node). HasOnce x.state) (sym a.3) once
+answered_once seat s key offset Go n new a once = subst (λ (x : Node). HasOnce x.state) (sym a.3.2) once
+answered_once seat s key offset (From place) n new a once = subst (λ (x : Node). HasOnce x.state) (sym a.4.2) once
+answered_once seat s key offset Late n new a once = subst (λ (x : Node). HasOnce x.state) (sym a.3) once
+answered_once seat s key offset Whole n new a once =
+    subst (λ (x : Node). HasOnce x.state) (sym a.3.2) (once_push n.state.inbox _ n.state refl once (not_received s.first key n.state a.0.unknown))
+
+-- a session holds that key now
+holding_new : (seat : ℕ) (s : Session) (hold : Hold) (n new : Node) → new.seats ≡ (with_session seat (Some s) n).seats → s.hold ≡ Some hold → is_received s.first hold.key new.state ≡ false → HoldsNew seat new
+holding_new seat s hold n new is holds fresh =
+    put_new seat (Some s) n new is (λ h also. subst (λ (k : Key). is_received s.first k new.state ≡ false) (held_key hold h (sym holds ∙ also)) fresh)
+
+-- what is held now was unknown
+answered_new : (seat : ℕ) (s : Session) (key : Key) (offset : ℕ) (answer : FileAnswer) (old new : Node) → Answered seat (unheld s) key offset answer (released seat s old) new → HoldsNew seat new
+answered_new seat s key offset Have old new a = unheld_new seat s old new (ap (λ (n : Node). n.seats) a.1)
+answered_new seat s key offset Refuse old new a = unheld_new seat s old new (ap (λ (n : Node). n.seats) a.2)
+answered_new seat s key offset Elsewhere old new a = unheld_new seat s old new (ap (λ (n : Node). n.seats) a.3)
+answered_new seat s key offset Late old new a = unheld_new seat s old new (ap (λ (n : Node). n.seats) a.3)
+answered_new seat s key offset Whole old new a = unheld_new seat s old new (ap (λ (n : Node). n.seats) a.3.2)
+answered_new seat s key offset Go old new a =
+    let fresh = not_received s.first key old.state a.0.unknown in
+    holding_new seat _ _ (released seat s old) new (ap (λ (n : Node). n.seats) a.3.2) refl (subst (λ (d : Durable). is_received s.first key d ≡ false) (sym (ap (λ (n : Node). n.state) a.3.2)) fresh)
+answered_new seat s key offset (From place) old new a =
+    let fresh = not_received s.first key old.state a.0.unknown in
+    holding_new seat _ _ (released seat s old) new (ap (λ (n : Node). n.seats) a.4.2) refl (subst (λ (d : Durable). is_received s.first key d ≡ false) (sym (ap (λ (n : Node). n.state) a.4.2)) fresh)
