@@ -5,3 +5,4 @@ pub mod ReceivedFiles
 pub mod SameFiles
 pub mod SeatSessions
 pub mod OneReceipt
+pub mod ReceiptsAlong

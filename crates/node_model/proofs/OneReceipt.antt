@@ -69,7 +69,7 @@ none_new : (s : Session) (d : Durable) → s.hold ≡ None → IsNew (Some s) d
 none_new s d none h holds = absurd (cc)
 
 -- nothing is held
-unheld_new : (seat : ℕ) (s : Session) (n new : Node) → new.seats ≡ (released seat s n).seats → HoldsNew seat new
+pub unheld_new : (seat : ℕ) (s : Session) (n new : Node) → new.seats ≡ (released seat s n).seats → HoldsNew seat new
 unheld_new seat s n new is = put_new seat (Some (unheld s)) n new is (none_new (unheld s) new.state refl)
 
 -- A file.
@@ -213,10 +213,10 @@ chain_sound a [] b same s = subst (λ (x : DeskState). KnownSound x.seat x.knows
 chain_sound a (e ∷ es) b (mid, made, rest) s = chain_sound mid es b rest (call_sound a e.call e.answer mid made s)
 
 -- without a session nothing is held
-closed_new : (seat : ℕ) (n : Node) → session_at n seat ≡ None → HoldsNew seat n
+pub closed_new : (seat : ℕ) (n : Node) → session_at n seat ≡ None → HoldsNew seat n
 closed_new seat n none s h has holds = absurd (cc)
 
-closed_sound : (seat : ℕ) (knows : Knows) (n : Node) → knows ≡ Tells n → session_at n seat ≡ None → HasOnce n.state → KnownSound seat knows
+pub closed_sound : (seat : ℕ) (knows : Knows) (n : Node) → knows ≡ Tells n → session_at n seat ≡ None → HasOnce n.state → KnownSound seat knows
 closed_sound seat knows n tells none once =
     subst (KnownSound seat) (sym tells) (record { once = once; fresh = λ unbroken. closed_new seat n none })
 
