@@ -6,3 +6,4 @@ pub mod SameFiles
 pub mod SeatSessions
 pub mod OneReceipt
 pub mod ReceiptsAlong
+pub mod RisingCounts
