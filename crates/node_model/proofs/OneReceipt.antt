@@ -10,7 +10,8 @@ use Rattle.node_model.specs.Node.{Hold, Session, Node, session_at, with_session}
 use Rattle.node_model.specs.Rows.{FileAnswer, Have, Refuse, Elsewhere, Go, Whole, From, Late, Answered, Acceptable, FileRow, unheld, released, DataWhole, LeaveRow}
 use Rattle.node_model.specs.Calls.{Call, Answer, Fault, Event, Queue_call, Knock_call, Open_call, Offer_call, Read_call, Got_call, Skip_call, File_call, Data_call, Leave_call, Act_call, Give_call, Queued, Let_in, Busy, Begun, Offered, Nothing, Came, Settled, Filed, More, Whole_now, Acted, Given, Held, Refused, Disk, Read, Full, No_memory, Made, Passes, Before_it, After_it, Breaks, FileRefused, NotMade, NodeStep, KnownStep, Knows, Tells, Counts_alone, DeskState, Calls, Chain}
 use Rattle.node_model.specs.Images.{Along}
-use Rattle.node_model.specs.Receipts.{OnceEach, HasOnce, TellsOnce, HandsNone, IsDisk, NoneAfterDisk}
+use Rattle.node_model.specs.Receipts.{OnceEach, HasOnce, TellsOnce}
+use Rattle.node_model.specs.Refusals.{HandsNone}
 use Rattle.node_model.proofs.SameFiles.{is_same-refl, is_same_from, is_same_key}
 use Rattle.node_model.proofs.SeatSessions.{session_at-with_session}
 

@@ -5,7 +5,8 @@ use Rattle.node_model.specs.Durable.{Durable}
 use Rattle.node_model.specs.Node.{Node, session_at}
 use Rattle.node_model.specs.Calls.{Call, Answer, Fault, Event, File_call, Refused, Disk, Read, Full, No_memory, NotMade, NodeStep, KnownStep, Knows, Tells, Counts_alone, DeskState, Calls, Chain}
 use Rattle.node_model.specs.Images.{KnownPasses, Along}
-use Rattle.node_model.specs.Receipts.{HasOnce, HandsNone, IsDisk, NoneAfterDisk}
+use Rattle.node_model.specs.Receipts.{HasOnce}
+use Rattle.node_model.specs.Refusals.{HandsNone, IsDisk, NoneAfterDisk}
 use Rattle.node_model.proofs.OneReceipt.{HoldsNew, Sound, KnownSound, call_sound, passes_once, made_new, unheld_new, closed_new, closed_sound}
 
 -- a refused call leaves what is held new, but for one that answers Disk
