@@ -5,3 +5,4 @@ pub mod Machine
 pub mod Replies
 pub mod Runs
 pub mod Sessions
+pub mod Words

@@ -14,11 +14,13 @@ mod saying;
 mod session;
 mod stage;
 mod terms;
+mod words;
 
 pub use desk::{DataIn, Desk, DeskFault, FileIn, Knock};
 pub use ending::{Cause, End, Gave, Took};
 pub use link::{Line, ReadAnswer, Sink, WriteAnswer};
 pub use run::Run;
 pub use session::Session;
+pub use words::{WordsFault, read_words};
 
 fn main() {}
