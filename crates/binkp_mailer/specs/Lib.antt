@@ -5,4 +5,5 @@ pub mod Machine
 pub mod Replies
 pub mod Runs
 pub mod Sessions
+pub mod Statuses
 pub mod Words

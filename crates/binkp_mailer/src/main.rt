@@ -13,6 +13,7 @@ mod run;
 mod saying;
 mod session;
 mod stage;
+mod status;
 mod terms;
 mod words;
 
@@ -21,6 +22,7 @@ pub use ending::{Cause, End, Gave, Took};
 pub use link::{Line, ReadAnswer, Sink, WriteAnswer};
 pub use run::Run;
 pub use session::Session;
+pub use status::Status;
 pub use words::{WordsFault, read_words};
 
 fn main() {}
