@@ -9,3 +9,4 @@ pub mod Left
 pub mod Causes
 pub mod LineLaws
 pub mod Laws
+pub mod Seats

@@ -4,6 +4,9 @@ pub mod Lines
 pub mod Machine
 pub mod Replies
 pub mod Runs
+pub mod SeatSteps
+pub mod Seats
 pub mod Sessions
 pub mod Statuses
+pub mod TopCall
 pub mod Words

@@ -11,6 +11,7 @@ mod login;
 mod receiver;
 mod run;
 mod saying;
+mod seat_open;
 mod session;
 mod stage;
 mod status;
