@@ -1,10 +1,8 @@
 -- Counts of a store along a chain: they never fall, a Disk raises its count, and without a refusal they stay.
-use Rattle.std.proofs.Common.{◌≡◌, ◌⊎◌, ◌∙◌, ℕ, zero, suc, ◌+◌, ◌-◌, ◌^◌, ◌≤◌, min, Bool, true, false, List, [], ◌∷◌, ◌++◌, Option, Some, None, refl, sym, ap, subst, inl, inr, arith}
+use Rattle.std.proofs.Common.{◌≡◌, ◌⊎◌, ◌∙◌, ℕ, ◌-◌, ◌^◌, ◌≤◌, min, Bool, true, List, [], ◌∷◌, ◌++◌, Some, None, sym, ap, subst, inl, inr, arith}
 use Rattle.ftn_addr.specs.Counts.{Rose, risen}
 use Rattle.node_model.specs.Lists.{Each}
-use Rattle.node_model.specs.Node.{Node}
-use Rattle.node_model.specs.Rows.{FileAnswer, Have, Refuse, Elsewhere, Go, Whole, From, Late, Answered, LeaveRow, released}
-use Rattle.node_model.specs.Calls.{Call, Answer, Fault, Event, Knock_call, Open_call, File_call, Data_call, Leave_call, Let_in, Begun, Filed, More, Whole_now, Settled, Refused, Disk, Read, Full, No_memory, Made, NotMade, NodeStep, OtherSteps, OtherStep, Counts, counts_of, Caused, CountsRise, Drifts, Knows, Tells, Counts_alone, DeskState, Calls, Chain}
+use Rattle.node_model.specs.Calls.{Call, Answer, Event, Refused, Disk, Read, Full, Counts, counts_of, Caused, CountsRise, Knows, DeskState, Calls, Chain}
 use Rattle.node_model.specs.Images.{IsAnswered}
 use Rattle.node_model.specs.Refusals.{IsDisk, IsFull, SomeAnswer}
 
