@@ -5,3 +5,7 @@ pub mod Heard
 pub mod Gives
 pub mod Runs
 pub mod Room
+pub mod Left
+pub mod Causes
+pub mod LineLaws
+pub mod Laws

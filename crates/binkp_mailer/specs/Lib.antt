@@ -1,4 +1,5 @@
 pub mod Desks
+pub mod Laws
 pub mod Lines
 pub mod Machine
 pub mod Replies
