@@ -32,7 +32,7 @@ known_new seat (Tells old) call answer (Tells new) step fresh = step_new seat ol
 known_new seat (Tells old) call answer (Counts_alone c) step fresh = absurd step
 known_new seat (Counts_alone c) call answer new step fresh = absurd fresh
 
--- The seat holds nothing that is received, or no data is handed in by these calls.
+-- the seat holds nothing that is received, or these calls hand in no data
 abbrev pub Safe : DeskState → List Event → Type 0
 Safe a es = KnownNew a.seat a.knows ⊎ Each (λ (e : Event). HandsNone e.call) es
 
