@@ -7,3 +7,4 @@ pub mod SeatSessions
 pub mod OneReceipt
 pub mod ReceiptsAlong
 pub mod RisingCounts
+pub mod RisingFaults

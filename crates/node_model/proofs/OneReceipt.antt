@@ -1,5 +1,5 @@
 -- No sender and key ever has two receipts, along the calls of a seat that is alone.
-use Rattle.std.proofs.Common.{◌≡◌, ◌⊎◌, ◌∙◌, ℕ, Bool, true, false, ◌||◌, List, [], ◌∷◌, ◌++◌, Option, Some, None, refl, sym, ap, subst, inl, inr}
+use Rattle.std.proofs.Common.{◌≡◌, ◌⊎◌, ◌∙◌, ℕ, Bool, true, false, List, [], ◌∷◌, ◌++◌, Option, Some, None, refl, sym, ap, subst, inl, inr}
 use Rattle.std.proofs.lemmas.Bool.{both_ways, or_parts}
 use Rattle.ftn_addr.specs.Address.{Address}
 use Rattle.ftn_addr.specs.Key.{Key}
@@ -7,9 +7,8 @@ use Rattle.node_model.specs.Items.{Receipt}
 use Rattle.node_model.specs.Lists.{Each}
 use Rattle.node_model.specs.Durable.{Durable, is_same, is_received, is_refused, is_known, with_receipt}
 use Rattle.node_model.specs.Node.{Hold, Session, Node, session_at, with_session}
-use Rattle.node_model.specs.Rows.{FileAnswer, Have, Refuse, Elsewhere, Go, Whole, From, Late, Answered, Acceptable, FileRow, unheld, released, DataWhole, LeaveRow}
-use Rattle.node_model.specs.Calls.{Call, Answer, Fault, Event, Queue_call, Knock_call, Open_call, Offer_call, Read_call, Got_call, Skip_call, File_call, Data_call, Leave_call, Act_call, Give_call, Queued, Let_in, Busy, Begun, Offered, Nothing, Came, Settled, Filed, More, Whole_now, Acted, Given, Held, Refused, Disk, Read, Full, No_memory, Made, Passes, Before_it, After_it, Breaks, FileRefused, NotMade, NodeStep, KnownStep, Knows, Tells, Counts_alone, DeskState, Calls, Chain}
-use Rattle.node_model.specs.Images.{Along}
+use Rattle.node_model.specs.Rows.{FileAnswer, Have, Refuse, Elsewhere, Go, Whole, From, Late, Answered, unheld, released, DataWhole, LeaveRow}
+use Rattle.node_model.specs.Calls.{Call, Answer, Fault, Event, Knock_call, Open_call, File_call, Data_call, Leave_call, Let_in, Begun, Settled, Filed, More, Whole_now, Refused, Disk, Read, Full, No_memory, Made, Passes, Before_it, After_it, NotMade, NodeStep, KnownStep, Knows, Tells, Counts_alone, DeskState, Calls, Chain}
 use Rattle.node_model.specs.Receipts.{OnceEach, HasOnce, TellsOnce}
 use Rattle.node_model.specs.Refusals.{HandsNone}
 use Rattle.node_model.proofs.SameFiles.{is_same-refl, is_same_from, is_same_key}

@@ -1,5 +1,5 @@
 -- No sender and key has two receipts in any state that a stop may leave along the calls of a seat that is alone.
-use Rattle.std.proofs.Common.{◌≡◌, ◌⊎◌, ℕ, Bool, true, List, [], ◌∷◌, Option, Some, None, refl, sym, ap, subst, inl, inr}
+use Rattle.std.proofs.Common.{◌≡◌, ◌⊎◌, ℕ, true, List, [], ◌∷◌, None, sym, ap, subst, inl, inr}
 use Rattle.node_model.specs.Lists.{Each}
 use Rattle.node_model.specs.Durable.{Durable}
 use Rattle.node_model.specs.Node.{Node, session_at}
@@ -7,7 +7,7 @@ use Rattle.node_model.specs.Calls.{Call, Answer, Fault, Event, File_call, Refuse
 use Rattle.node_model.specs.Images.{KnownPasses, Along}
 use Rattle.node_model.specs.Receipts.{HasOnce}
 use Rattle.node_model.specs.Refusals.{HandsNone, IsDisk, NoneAfterDisk}
-use Rattle.node_model.proofs.OneReceipt.{HoldsNew, Sound, KnownSound, call_sound, passes_once, made_new, unheld_new, closed_new, closed_sound}
+use Rattle.node_model.proofs.OneReceipt.{HoldsNew, KnownSound, call_sound, passes_once, made_new, unheld_new, closed_new, closed_sound}
 
 -- a refused call leaves what is held new, but for one that answers Disk
 refused_new : (seat : ℕ) (old : Node) (call : Call) (fault : Fault) (new : Node) → NotMade seat old call fault new → HoldsNew seat old → HoldsNew seat new ⊎ IsDisk (Refused fault)
@@ -32,7 +32,7 @@ known_new seat (Tells old) call answer (Tells new) step fresh = step_new seat ol
 known_new seat (Tells old) call answer (Counts_alone c) step fresh = absurd step
 known_new seat (Counts_alone c) call answer new step fresh = absurd fresh
 
--- The seat holds nothing that is received, or no data is handed in by these calls.
+-- the seat holds nothing that is received, or these calls hand in no data
 abbrev pub Safe : DeskState → List Event → Type 0
 Safe a es = KnownNew a.seat a.knows ⊎ Each (λ (e : Event). HandsNone e.call) es
 
