@@ -10,3 +10,4 @@ pub mod Causes
 pub mod LineLaws
 pub mod Laws
 pub mod Seats
+pub mod TopCalls
