@@ -5,3 +5,4 @@ pub mod Heard
 pub mod Gives
 pub mod Runs
 pub mod Room
+pub mod Plays

@@ -1,6 +1,7 @@
 //! The first path.
 #![tactic(auto)]
 
+mod acts;
 mod desk;
 mod ending;
 mod hearing;
@@ -8,6 +9,7 @@ mod holding;
 mod link;
 mod logged;
 mod login;
+mod read_script;
 mod receiver;
 mod run;
 mod saying;
@@ -15,6 +17,7 @@ mod session;
 mod stage;
 mod terms;
 
+pub use acts::{ReadAct, WriteAct};
 pub use desk::{DataIn, Desk, DeskFault, FileIn, Knock};
 pub use ending::{Cause, End, Gave, Took};
 pub use link::{Line, ReadAnswer, Sink, WriteAnswer};
