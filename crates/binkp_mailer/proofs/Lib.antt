@@ -6,3 +6,4 @@ pub mod Gives
 pub mod Runs
 pub mod Room
 pub mod Plays
+pub mod PlaysWrites

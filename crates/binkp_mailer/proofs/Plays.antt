@@ -1,13 +1,15 @@
 -- How a script of reads is played, act by act.
 use Rattle.std.proofs.Common.{◌≡◌, ◌≢◌, ℕ, ◌+◌, ◌-◌, ◌<◌, ◌≤◌, ◌⊎◌, inl, inr, Bool, true, false, List, [], ◌∷◌, ◌++◌, length, map, take, drop, Option, Some, None, IsSome, nat_lt, get_or, arith, rules, refl, sym, ◌∙◌, ap, subst}
-use Rattle.std.specs.Prelude.{flat_map}
+use Rattle.std.specs.Prelude.{flat_map, min}
 use Rattle.std.proofs.lemmas.List.{get_or-map, drop_more, take_more, length-drop, drop-drop, append_assoc, append-nil, take-append-drop, length-map}
-use Rattle.std.proofs.lemmas.Bool.{cond_below, cond_above}
+use Rattle.std.proofs.lemmas.Bool.{cond_below, cond_above, cond_both, ltb-false}
 use Rattle.std.proofs.lemmas.Grind.{flat_map-append}
 use Rattle.std.proofs.Math.Seq.{take-add, take-nil}
 use Rattle.std.proofs.Math.ListN.{drop_of_length-le}
 use Rattle.binkp_mailer.specs.declared.acts.ReadAct.{ReadAct}
-use Rattle.binkp_mailer.specs.Scripts.{Act, Bytes, Not_yet, Quiet, Failed, Script, act_of, act_bytes, script_bytes, AllGiveSome, GivesSome, first_act, first_bytes, without_front, past_not_yet, place_on, played}
+use Rattle.binkp_mailer.specs.Scripts.{Act, Bytes, Not_yet, Quiet, Failed, Script, act_of, act_bytes, script_bytes, AllGiveSome, GivesSome, first_act, first_bytes, without_front, past_not_yet, heeded, place_on, played, turn_at, read_turn, ReadTurn, PlaysRead}
+use Rattle.binkp_mailer.specs.Lines.{LineBytes, MayRead}
+use Rattle.binkp_mailer.specs.declared.link.ReadAnswer.{ReadAnswer}
 
 -- the act at a place is the first of those left
 pub acts_at : (acts items : List ReadAct) (i : ℕ) (a act : ReadAct) → acts ≡ items → i < length acts → a ≡ get_or acts i a → a ≡ act → drop i (map act_of items) ≡ act_of act ∷ drop (i + 1) (map act_of items)
@@ -177,3 +179,70 @@ stays (Bytes bytes ∷ acts) other = refl
 stays (Not_yet ∷ acts) other = absurd (other refl)
 stays (Quiet ∷ acts) other = refl
 stays (Failed ∷ acts) other = refl
+
+-- What a read gives and the bytes of the acts left are the bytes that were to come.
+pub played_bytes : (act : Act) (acts : List Act) (n : ℕ) → n ≤ length (act_bytes act) → script_bytes (act ∷ acts) ≡ take n (act_bytes act) ++ script_bytes (played n (act ∷ acts))
+played_bytes (Bytes bytes) acts n within =
+    let P : List Act → Type 0 = λ x. bytes ++ script_bytes acts ≡ take n bytes ++ script_bytes x in
+    cond_both (nat_lt n (length bytes)) (Bytes (drop n bytes) ∷ acts) acts P
+    (λ e. ap (λ (x : List ℕ). x ++ script_bytes acts) (sym (take-append-drop n bytes)) ∙ append_assoc (take n bytes) (drop n bytes) (script_bytes acts))
+    (λ e. let over : length bytes ≤ n = omega (arith, ltb-false n (length bytes) e) in ap (λ (x : List ℕ). x ++ script_bytes acts) (sym (take_all n bytes over)))
+played_bytes Not_yet acts n within =
+    let over : acts ≡ played n (Not_yet ∷ acts) = cond_above n 0 _ _ _ (omega arith) refl in
+    let none : List ℕ = [] in
+    sym (ap (λ (x : List ℕ). x ++ script_bytes acts) (take-nil n)) ∙ ap (λ (x : List Act). take n none ++ script_bytes x) over
+played_bytes Quiet acts n within =
+    let over : acts ≡ played n (Quiet ∷ acts) = cond_above n 0 _ _ _ (omega arith) refl in
+    let none : List ℕ = [] in
+    sym (ap (λ (x : List ℕ). x ++ script_bytes acts) (take-nil n)) ∙ ap (λ (x : List Act). take n none ++ script_bytes x) over
+played_bytes Failed acts n within =
+    let over : acts ≡ played n (Failed ∷ acts) = cond_above n 0 _ _ _ (omega arith) refl in
+    let none : List ℕ = [] in
+    sym (ap (λ (x : List ℕ). x ++ script_bytes acts) (take-nil n)) ∙ ap (λ (x : List Act). take n none ++ script_bytes x) over
+
+turn_bytes : (wait : Bool) (room : ℕ) (acts : List Act) → script_bytes acts ≡ (turn_at wait room acts).bytes ++ script_bytes (turn_at wait room acts).left
+turn_bytes wait room [] = refl
+turn_bytes wait room (Bytes bytes ∷ acts) = played_bytes (Bytes bytes) acts (min (length bytes) room) (omega arith)
+turn_bytes wait room (Not_yet ∷ acts) = refl
+turn_bytes true room (Quiet ∷ acts) = refl
+turn_bytes false room (Quiet ∷ acts) = refl
+turn_bytes wait room (Failed ∷ acts) = refl
+
+past_bytes : (acts : List Act) → script_bytes acts ≡ script_bytes (past_not_yet acts)
+past_bytes [] = refl
+past_bytes (Bytes bytes ∷ acts) = refl
+past_bytes (Not_yet ∷ acts) = past_bytes acts
+past_bytes (Quiet ∷ acts) = refl
+past_bytes (Failed ∷ acts) = refl
+
+heeded_bytes : (wait : Bool) (acts : List Act) → script_bytes acts ≡ script_bytes (heeded wait acts)
+heeded_bytes true acts = past_bytes acts
+heeded_bytes false acts = refl
+
+pub read_bytes : (wait : Bool) (room : ℕ) (acts left : List Act) (answer : ReadAnswer) (gave : List ℕ) → PlaysRead (read_turn wait room acts) answer gave left → script_bytes acts ≡ gave ++ script_bytes left
+read_bytes wait room acts left answer gave plays =
+    heeded_bytes wait acts ∙ turn_bytes wait room (heeded wait acts) ∙ ap (λ (x : List ℕ). x ++ script_bytes (read_turn wait room acts).left) (sym plays.bytes_are) ∙ ap (λ (x : List Act). gave ++ script_bytes x) (sym plays.left_is)
+
+-- A script answers as a read may.
+waiting_may : (room : ℕ) (acts : List Act) (buffer taken sent coming : List ℕ) → 0 < room → length buffer ≡ room → AllGiveSome (past_not_yet acts) → coming ≡ script_bytes acts → MayRead true (turn_at true room (past_not_yet acts)).answer buffer (Some (record { taken = taken; sent = sent; coming = coming }))
+waiting_may room [] buffer taken sent coming some len all is = is
+waiting_may room (Bytes bytes ∷ acts) buffer taken sent coming some len all is = (omega (arith, some, all.0), omega (arith, len))
+waiting_may room (Not_yet ∷ acts) buffer taken sent coming some len all is = waiting_may room acts buffer taken sent coming some len all is
+waiting_may room (Quiet ∷ acts) buffer taken sent coming some len all is = refl
+waiting_may room (Failed ∷ acts) buffer taken sent coming some len all is = tt
+
+asking_may : (room : ℕ) (acts : List Act) (buffer taken sent coming : List ℕ) → 0 < room → length buffer ≡ room → AllGiveSome acts → coming ≡ script_bytes acts → MayRead false (turn_at false room acts).answer buffer (Some (record { taken = taken; sent = sent; coming = coming }))
+asking_may room [] buffer taken sent coming some len all is = is
+asking_may room (Bytes bytes ∷ acts) buffer taken sent coming some len all is = (omega (arith, some, all.0), omega (arith, len))
+asking_may room (Not_yet ∷ acts) buffer taken sent coming some len all is = refl
+asking_may room (Quiet ∷ acts) buffer taken sent coming some len all is = refl
+asking_may room (Failed ∷ acts) buffer taken sent coming some len all is = tt
+
+turn_may : (wait : Bool) (room : ℕ) (acts : List Act) (buffer taken sent coming : List ℕ) → 0 < room → length buffer ≡ room → AllGiveSome (heeded wait acts) → coming ≡ script_bytes acts → MayRead wait (read_turn wait room acts).answer buffer (Some (record { taken = taken; sent = sent; coming = coming }))
+turn_may true room acts buffer taken sent coming some len all is = waiting_may room acts buffer taken sent coming some len all is
+turn_may false room acts buffer taken sent coming some len all is = asking_may room acts buffer taken sent coming some len all is
+
+pub read_may : (wait : Bool) (room : ℕ) (acts left : List Act) (answer : ReadAnswer) (buffer gave taken sent coming : List ℕ) → 0 < room → length buffer ≡ room → AllGiveSome (heeded wait acts) → coming ≡ script_bytes acts → PlaysRead (read_turn wait room acts) answer gave left → MayRead wait answer buffer (Some (record { taken = taken; sent = sent; coming = coming }))
+read_may wait room acts left answer buffer gave taken sent coming some len all is plays =
+    let P : ReadAnswer → Type 0 = λ x. MayRead wait x buffer (Some (record { taken = taken; sent = sent; coming = coming })) in
+    subst P (sym plays.answer_is) (turn_may wait room acts buffer taken sent coming some len all is)

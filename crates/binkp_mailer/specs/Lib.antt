@@ -2,7 +2,12 @@ pub mod Desks
 pub mod Fronts
 pub mod Lines
 pub mod Machine
+pub mod MemLines
+pub mod MemSinks
 pub mod Replies
 pub mod Runs
 pub mod Scripts
 pub mod Sessions
+pub mod Statuses
+pub mod StdLines
+pub mod Tallies

@@ -1,5 +1,5 @@
 -- Scripts of reads and writes, and the calls that play them (own).
-use Rattle.std.specs.Prelude.{◌≡◌, ℕ, ◌+◌, ◌-◌, ◌<◌, Bool, true, false, nat_lt, min, List, [], ◌∷◌, ◌++◌, length, take, drop, flat_map, Option, Some, None, if◌then◌else◌}
+use Rattle.std.specs.Prelude.{◌≡◌, ℕ, ◌+◌, ◌-◌, ◌<◌, ◌≤◌, Bool, true, false, nat_lt, min, List, [], ◌∷◌, ◌++◌, length, take, drop, flat_map, Option, Some, None, if◌then◌else◌}
 use Rattle.binkp_mailer.specs.declared.link.ReadAnswer.{ReadAnswer}
 use Rattle.binkp_mailer.specs.declared.link.ReadAnswer.TheVariants as R
 use Rattle.binkp_mailer.specs.declared.link.WriteAnswer.{WriteAnswer}
@@ -131,9 +131,15 @@ after_write_act (act ∷ next ∷ acts) = next ∷ acts
 -- With no act a write takes all, and a Take takes at most its number.
 abbrev pub write_answer : Option WriteAct → ℕ → WriteAnswer
 write_answer None len = W.Wrote len
-write_answer (Some (B.Take most)) len = W.Wrote (min most len)
+write_answer (Some (B.Take most)) len = W.Wrote (min len most)
 write_answer (Some B.Quiet) len = W.Quiet
 write_answer (Some B.Failed) len = W.Failed
+
+-- a write of so many bytes takes at least one and at most all
+abbrev pub CanAnswer : WriteAnswer → ℕ → Type 0
+CanAnswer (W.Wrote n) len = (0 < n) × (n ≤ len)
+CanAnswer W.Quiet len = Unit {0}
+CanAnswer W.Failed len = Unit {0}
 
 -- A write did what its script says. One that finds no memory fails, and plays no act.
 pub data PlaysWrite (left : List WriteAct) (len : ℕ) (answer : WriteAnswer) (new : List WriteAct) : Type 0 where

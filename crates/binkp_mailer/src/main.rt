@@ -2,6 +2,7 @@
 #![tactic(auto)]
 
 mod acts;
+mod counting;
 mod desk;
 mod ending;
 mod hearing;
@@ -9,19 +10,28 @@ mod holding;
 mod link;
 mod logged;
 mod login;
+mod mem_line;
+mod mem_sink;
 mod read_script;
 mod receiver;
 mod run;
 mod saying;
 mod session;
 mod stage;
+mod status;
+mod std_line;
 mod terms;
+mod write_script;
 
 pub use acts::{ReadAct, WriteAct};
 pub use desk::{DataIn, Desk, DeskFault, FileIn, Knock};
 pub use ending::{Cause, End, Gave, Took};
 pub use link::{Line, ReadAnswer, Sink, WriteAnswer};
+pub use mem_line::MemLine;
+pub use mem_sink::MemSink;
 pub use run::Run;
 pub use session::Session;
+pub use status::{Status, status_of};
+pub use std_line::StdLine;
 
 fn main() {}

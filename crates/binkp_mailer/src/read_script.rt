@@ -1,11 +1,11 @@
 //! A script of reads, as it is played.
 ghost use Rattle.std.specs.Prelude.{◌≡◌, ◌<◌, ◌≤◌, ◌++◌, [], length, map, take, drop, IsSome, min};
 ghost use Rattle.binkp_mailer.specs.Lines.{MayRead, came};
-ghost use Rattle.binkp_mailer.specs.Scripts.{AllGiveSome, PlaysRead, act_of, first_act, first_bytes, past_not_yet, place_on, played, read_turn, script_bytes, turn_at};
+ghost use Rattle.binkp_mailer.specs.Scripts.{AllGiveSome, PlaysRead, act_of, first_act, first_bytes, heeded, past_not_yet, place_on, played, read_turn, script_bytes, turn_at};
 ghost use Rattle.binkp_mailer.specs.Fronts.{front_act};
 
-use crate::acts::ReadAct;
 use crate::ReadAnswer;
+use crate::acts::ReadAct;
 use std::marker::Model;
 
 /// A script of reads: its acts, how many of them are over, and how many bytes the next one gave.
@@ -110,6 +110,7 @@ impl ReadScript {
     fn play_next(&mut self, out: &mut [u8], wait: bool) -> ReadAnswer
         requires { 0 < length out.old }
         ensures turn { PlaysRead (turn_at wait (length out.old) self.old.left) result (came result out.new) self.new.left }
+        ensures some { AllGiveSome self.old.left }
         ensures taken { self.new.taken ≡ self.old.taken ++ came result out.new }
     {
         match self.front() {
@@ -140,6 +141,7 @@ impl ReadScript {
     pub fn play(&mut self, out: &mut [u8], wait: bool) -> ReadAnswer
         requires { 0 < length out.old }
         ensures turn { PlaysRead (read_turn wait (length out.old) self.old.left) result (came result out.new) self.new.left }
+        ensures some { AllGiveSome (heeded wait self.old.left) }
         ensures taken { self.new.taken ≡ self.old.taken ++ came result out.new }
     {
         if wait {
