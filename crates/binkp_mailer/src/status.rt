@@ -63,3 +63,16 @@ pub fn status_of(end: End) -> Status
         End::NoMemory => Status::NoMemory,
     }
 }
+
+#[cfg(test)]
+mod tests {
+    use super::*;
+
+    #[test]
+    fn a_refused_frame_is_status_12(rt: HostRuntime) {
+        let status = status_of(End::Broke(Cause::TooMuch, 7));
+        assert_eq!(rt; status, Status::Broke(Cause::TooMuch, 7));
+        assert_eq!(rt; status.number(), 12);
+        assert_eq!(rt; status_of(End::Finished).number(), 0);
+    }
+}
