@@ -11,3 +11,5 @@ pub mod LineLaws
 pub mod Laws
 pub mod Seats
 pub mod TopCalls
+pub mod Plays
+pub mod PlaysWrites

@@ -14,10 +14,10 @@ use Rattle.binkp_mailer.specs.Lines.{LineState}
 use Rattle.binkp_mailer.specs.Machine.{Phase, Closed}
 use Rattle.binkp_mailer.specs.Laws.{Facts, EndCount, EndCountAt, LineCause, LineCauseAt, DeskCause, DeskCauseAt}
 use Rattle.binkp_mailer.specs.Seats.{Sitting, node_of, told}
-use Rattle.binkp_mailer.specs.Statuses.{status_of}
+use Rattle.binkp_mailer.specs.Statuses.{status_after}
 use Rattle.binkp_mailer.specs.TopCall.{HeldSession, HasOnceTold, StatusCause, one_seat, lent}
 
-from_causes : (end : End) (line line' : LineState) (counts counts' : Counts) → counts.broken ≡ None → EndCount end line.ends line'.ends → LineCause end line.faults line'.faults line'.calm → DeskCause end counts counts' → StatusCause (status_of end) line line' counts counts'
+from_causes : (end : End) (line line' : LineState) (counts counts' : Counts) → counts.broken ≡ None → EndCount end line.ends line'.ends → LineCause end line.faults line'.faults line'.calm → DeskCause end counts counts' → StatusCause (status_after end) line line' counts counts'
 from_causes E.Finished line line' counts counts' whole e l d = e
 from_causes (E.Broke cause n) line line' counts counts' whole e l d = e
 from_causes E.Dropped line line' counts counts' whole e l d = e

@@ -1,7 +1,10 @@
 pub mod Desks
 pub mod Laws
+pub mod Fronts
 pub mod Lines
 pub mod Machine
+pub mod MemLines
+pub mod MemSinks
 pub mod Replies
 pub mod Runs
 pub mod SeatSteps
@@ -10,3 +13,6 @@ pub mod Sessions
 pub mod Statuses
 pub mod TopCall
 pub mod Words
+pub mod Scripts
+pub mod StdLines
+pub mod Tallies

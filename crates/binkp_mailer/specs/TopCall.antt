@@ -12,7 +12,7 @@ use Rattle.binkp_mailer.specs.Lines.{LineState}
 use Rattle.binkp_mailer.specs.Sessions.{Setting}
 use Rattle.binkp_mailer.specs.Laws.{IsSession}
 use Rattle.binkp_mailer.specs.Seats.{Sitting, node_of}
-use Rattle.binkp_mailer.specs.Statuses.{status_of}
+use Rattle.binkp_mailer.specs.Statuses.{status_after}
 use Rattle.binkp_mailer.specs.Words.{AreWords}
 
 -- what a session is lent: the own address, the moment, and 16 TiB to take and write
@@ -26,7 +26,7 @@ one_seat store begun sitting = record { seat = 0; knows = Tells (node_of store b
 -- a whole session over the line, at a node over the store; with it the call ended so
 pub record HeldSession (home : Address) (moment : ℕ) (line : LineState) (store : StoreState) (status : Status) (line' : LineState) (store' : StoreState) : Type 0 where
   pub end : End
-  pub status_is : status ≡ status_of end
+  pub status_is : status ≡ status_after end
   pub taken : ℕ
   pub begun : ℕ
   pub sitting : Option Sitting

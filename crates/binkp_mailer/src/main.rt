@@ -1,6 +1,8 @@
 //! The first path.
 #![tactic(auto)]
 
+mod acts;
+mod counting;
 mod desk;
 mod ending;
 mod hearing;
@@ -8,6 +10,9 @@ mod holding;
 mod link;
 mod logged;
 mod login;
+mod mem_line;
+mod mem_sink;
+mod read_script;
 mod receiver;
 mod run;
 mod saying;
@@ -17,13 +22,19 @@ mod stage;
 mod status;
 mod terms;
 mod words;
+mod std_line;
+mod write_script;
 
+pub use acts::{ReadAct, WriteAct};
 pub use desk::{DataIn, Desk, DeskFault, FileIn, Knock};
 pub use ending::{Cause, End, Gave, Took};
 pub use link::{Line, ReadAnswer, Sink, WriteAnswer};
+pub use mem_line::MemLine;
+pub use mem_sink::MemSink;
 pub use run::Run;
 pub use session::Session;
-pub use status::Status;
 pub use words::{WordsFault, read_words};
+pub use status::{Status, status_of};
+pub use std_line::StdLine;
 
 fn main() {}

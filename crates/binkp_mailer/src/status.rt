@@ -1,33 +1,36 @@
-//! How the program's call ended.
+//! How the program ends.
 ghost use Rattle.std.specs.Prelude.{◌≡◌};
-ghost use Rattle.binkp_mailer.specs.Statuses.{number_of, status_of, status_of_words};
+ghost use Rattle.binkp_mailer.specs.Statuses.{number_of_status, status_after};
 
-use crate::{Cause, End, WordsFault};
+use crate::{Cause, End};
 
-/// How the program's call ended. The exit status of the program is its number.
+/// What came of a command. Its number is the program's exit status.
 #[derive(Clone, Copy, Debug, PartialEq, Eq)]
 pub enum Status {
     /// The session finished.
     Done,
-    /// The words aren't those of a call.
+    /// The words are no command.
     Usage,
-    /// The store is broken, with that count of faults.
+    /// The disk failed, and the store is broken with that count of faults.
     DiskFault(u64),
+    /// The ledger has no room.
     LedgerFull,
     LineFault,
     /// The peer ended the line first.
     Dropped,
+    /// Sixty reads or writes on end found nothing to move.
     Quiet,
     /// The peer's frame with that number was refused.
     Broke(Cause, u64),
+    /// The bytes taken and written reached the limit.
     Endless,
     NoMemory,
 }
 
 impl Status {
-    /// The exit status of the program.
-    pub fn number(self) -> u8
-        ensures { result ≡ number_of self }
+    /// The exit status.
+    pub fn number(&self) -> u8
+        ensures { result ≡ number_of_status self.now }
     {
         match self {
             Status::Done => 0,
@@ -37,36 +40,39 @@ impl Status {
             Status::LineFault => 6,
             Status::Dropped => 7,
             Status::Quiet => 8,
-            Status::Broke(..) => 12,
+            Status::Broke(_, _) => 12,
             Status::Endless => 13,
             Status::NoMemory => 17,
         }
     }
+}
 
-    /// The status of a session that ended so.
-    pub fn of_end(end: End) -> Status
-        ensures { result ≡ status_of end }
-    {
-        match end {
-            End::Finished => Status::Done,
-            End::Broke(cause, frame) => Status::Broke(cause, frame),
-            End::Dropped => Status::Dropped,
-            End::LineFault => Status::LineFault,
-            End::DiskFault(count) => Status::DiskFault(count),
-            End::LedgerFull => Status::LedgerFull,
-            End::Quiet => Status::Quiet,
-            End::Endless => Status::Endless,
-            End::NoMemory => Status::NoMemory,
-        }
+/// The status of a command whose session ended so.
+pub fn status_of(end: End) -> Status
+    ensures { result ≡ status_after end }
+{
+    match end {
+        End::Finished => Status::Done,
+        End::Broke(cause, frame) => Status::Broke(cause, frame),
+        End::Dropped => Status::Dropped,
+        End::LineFault => Status::LineFault,
+        End::DiskFault(faults) => Status::DiskFault(faults),
+        End::LedgerFull => Status::LedgerFull,
+        End::Quiet => Status::Quiet,
+        End::Endless => Status::Endless,
+        End::NoMemory => Status::NoMemory,
     }
+}
 
-    /// The status of words that aren't taken.
-    pub fn of_words(fault: WordsFault) -> Status
-        ensures { result ≡ status_of_words fault }
-    {
-        match fault {
-            WordsFault::Usage => Status::Usage,
-            WordsFault::NoMemory => Status::NoMemory,
-        }
+#[cfg(test)]
+mod tests {
+    use super::*;
+
+    #[test]
+    fn a_refused_frame_is_status_12(rt: HostRuntime) {
+        let status = status_of(End::Broke(Cause::TooMuch, 7));
+        assert_eq!(rt; status, Status::Broke(Cause::TooMuch, 7));
+        assert_eq!(rt; status.number(), 12);
+        assert_eq!(rt; status_of(End::Finished).number(), 0);
     }
 }
