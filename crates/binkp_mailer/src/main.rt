@@ -20,9 +20,9 @@ mod seat_open;
 mod session;
 mod stage;
 mod status;
+mod std_line;
 mod terms;
 mod words;
-mod std_line;
 mod write_script;
 
 pub use acts::{ReadAct, WriteAct};
@@ -33,8 +33,8 @@ pub use mem_line::MemLine;
 pub use mem_sink::MemSink;
 pub use run::Run;
 pub use session::Session;
-pub use words::{WordsFault, read_words};
 pub use status::{Status, status_of};
 pub use std_line::StdLine;
+pub use words::{WordsFault, read_words};
 
 fn main() {}
