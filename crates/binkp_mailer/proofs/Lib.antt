@@ -13,3 +13,5 @@ pub mod Seats
 pub mod TopCalls
 pub mod Plays
 pub mod PlaysWrites
+pub mod SeatData
+pub mod SeatCalls

@@ -173,3 +173,15 @@ broken_takes r fault fault' old mid new x key places number is same e o b =
     go D.Read b = absurd b
     go D.Full b = absurd b
     go D.NoMemory b = absurd b
+
+pub broken_free : (P : Durable → Type 0) (f : StoreFault) (old new : StoreState) → BrokenBy P f old new → IsMarkFree new.content
+broken_free P D.Disk old new b = b.free
+broken_free P D.Read old new b = absurd b
+broken_free P D.Full old new b = absurd b
+broken_free P D.NoMemory old new b = absurd b
+
+pub broken_now : (P : Durable → Type 0) (f : StoreFault) (old new : StoreState) → BrokenBy P f old new → new.counts.broken ≡ None → ⊥
+broken_now P D.Disk old new b whole = let is = ap (λ (c : Counts). c.broken) b.counts in absurd (cc)
+broken_now P D.Read old new b whole = b
+broken_now P D.Full old new b whole = b
+broken_now P D.NoMemory old new b whole = b

@@ -8,14 +8,17 @@ use Rattle.node_model.specs.declared.store.StoreFault.{StoreFault}
 use Rattle.node_model.specs.declared.store.StoreFault.TheVariants.{Disk, Read, Full, NoMemory}
 use Rattle.node_model.specs.Durable.{Durable, with_receipt}
 use Rattle.node_model.specs.Node.{Session, Node, Received_record}
-use Rattle.node_model.specs.Rows.{by, FileAnswer, Have, Go, Whole, Answered}
+use Rattle.node_model.specs.Rows.{by, FileAnswer, Have, Go, Whole, Answered, DataMore, DataWhole}
+use Rattle.node_model.specs.Calls.{Fault}
+use Rattle.node_model.specs.Calls as C
 use Rattle.node_model.specs.Images.{OpensTo}
 use Rattle.node_model.specs.Stores.{Opened, StoreState, StoreStand, IsPartNumber, committed}
+use Rattle.node_model.specs.Talk.{Part}
 use Rattle.binkp_mailer.specs.declared.desk.FileIn.{FileIn}
 use Rattle.binkp_mailer.specs.declared.desk.FileIn.TheVariants as F
 use Rattle.binkp_mailer.specs.declared.desk.DataIn.{DataIn}
 use Rattle.binkp_mailer.specs.declared.desk.DataIn.TheVariants as I
-use Rattle.binkp_mailer.specs.Seats.{Holding, Sitting, told, IsMarkFree, session_of, node_of}
+use Rattle.binkp_mailer.specs.Seats.{Holding, Sitting, told, IsMarkFree, IsTaking, session_of, node_of}
 
 -- no image of an earlier moment is new, and each since is such a state
 pub record Leaves (P : Durable → Type 0) (old new : StoreStand) : Type 0 where
@@ -94,8 +97,45 @@ file_word F.Go = Go
 file_word F.Whole = Whole
 file_word F.Have = Have
 
+-- the file that is held after that answer
+abbrev pub part_for : FileIn → Key → Option Part
+part_for F.Go key = Some (record { key = key; left = key.size; taking = true })
+part_for F.Whole key = None
+part_for F.Have key = None
+
 -- the offer of a file, once no file is held
 abbrev pub Takes : Key → Result FileIn StoreFault → StoreState → Sitting → StoreState → Sitting → Type 0
 Takes key (Ok word) old x new y =
     (b : ℕ) → Answered 0 (session_in old x) key 0 (file_word word) (node_of old b (Some x)) (node_of new b (Some y))
 Takes key (Err fault) old x new y = RefusedBy (TakePasses key old x) fault old new × (y ≡ x)
+
+-- a file is held, and so many bytes fit what is to come of it
+pub record HoldsFor (n : ℕ) (x : Sitting) (s : StoreState) : Type 0 where
+  pub hold : Holding
+  pub is : x.hold ≡ Some hold
+  pub taking : IsTaking x.first hold s
+  pub fits : n ≤ hold.left
+
+-- the states that data passes
+abbrev pub PutPasses : List ℕ → StoreState → Sitting → Durable → Type 0
+PutPasses bytes old x d =
+    (d ≡ state_in old) ⊎ ((b : ℕ) → (new : Node) × (DataWhole 0 bytes (node_of old b (Some x)) new × (d ≡ new.state)))
+
+abbrev pub shorter : ℕ → Option Holding → Option Holding
+shorter n None = None
+shorter n (Some h) = Some (record h { left = h.left - n })
+
+-- data of the held file comes
+abbrev pub Puts : List ℕ → Result DataIn StoreFault → StoreState → Sitting → StoreState → Sitting → Type 0
+Puts bytes (Ok I.More) old x new y =
+    (y.hold ≡ shorter (length bytes) x.hold) × ((b : ℕ) → DataMore 0 bytes (node_of old b (Some x)) (node_of new b (Some y)))
+Puts bytes (Ok I.Whole) old x new y =
+    (y.hold ≡ None) × ((b : ℕ) → DataWhole 0 bytes (node_of old b (Some x)) (node_of new b (Some y)))
+Puts bytes (Err fault) old x new y = BrokenBy (PutPasses bytes old x) fault old new × (y ≡ x)
+
+-- why a desk refuses, where its store refused and has so many faults
+abbrev pub fault_in : StoreFault → ℕ → Fault
+fault_in Disk count = C.Disk count
+fault_in Read count = C.Disk count
+fault_in Full count = C.Full
+fault_in NoMemory count = C.No_memory

@@ -7,7 +7,7 @@ ghost use Rattle.node_model.specs.declared.words.Known.TheVariants as K;
 ghost use Rattle.node_model.specs.Rows.{places_for, stride};
 ghost use Rattle.node_model.specs.Stores.{Opened, IsWhole};
 ghost use Rattle.binkp_mailer.specs.SeatSteps.{Leaves, RefusedBy, BrokenBy, OpensUnder, Receives, ReceivePasses, state_in};
-ghost use Rattle.binkp_mailer.specs.Seats.{IsMarkFree};
+ghost use Rattle.binkp_mailer.specs.Seats.{IsMarkFree, IsSettled};
 
 use crate::{DataIn, FileIn};
 use ftn_addr::{Addr, FileKey, NoMemory};
@@ -96,11 +96,25 @@ fn make_receipt<S: Store>(
     requires session { session ≢ 0 }
     ensures ok { OnOk result ((p : Opened) → (S.stand store.old).state.parts part ≡ Some p → Receives part session secure places p (S.stand store.old).state (S.stand store.new).state) }
     ensures err { IfErr result (λ fault. (p : Opened) → (S.stand store.old).state.parts part ≡ Some p → BrokenBy (ReceivePasses part secure p (S.stand store.old).state) fault (S.stand store.old).state (S.stand store.new).state) }
+    ensures settled { OnOk result (IsSettled (state_in (S.stand store.new).state) (S.stand store.new)) }
     ensures leaves { (p : Opened) → (S.stand store.old).state.parts part ≡ Some p → Leaves (ReceivePasses part secure p (S.stand store.old).state) (S.stand store.old) (S.stand store.new) }
 {
     store.commit(part, session, secure)?;
     store.release(places - 1);
     Ok(())
+}
+
+/// No session number is left: the store is asked for more places than it has, so that it counts a refusal.
+pub fn refuse_number<S: Store>(store: &mut S) -> StoreFault
+    requires whole { (S.stand store.old).state.counts.broken ≡ None }
+    requires free { IsMarkFree (S.stand store.old).state.content }
+    ensures refused { RefusedBy (λ d. d ≡ state_in (S.stand store.old).state) result (S.stand store.old).state (S.stand store.new).state }
+    ensures leaves { Leaves (λ d. d ≡ state_in (S.stand store.old).state) (S.stand store.old) (S.stand store.new) }
+{
+    match store.reserve(u32::MAX) {
+        Ok(()) => unreachable!(),
+        Err(fault) => fault,
+    }
 }
 
 fn copy_all(alloc: Global, addrs: &[Addr]) -> Result<Vec<Addr>, NoMemory>
@@ -114,8 +128,8 @@ fn copy_all(alloc: Global, addrs: &[Addr]) -> Result<Vec<Addr>, NoMemory>
 }
 
 impl Open {
-    ghost use Rattle.binkp_mailer.specs.Seats.{sitting, IsHolding, places_of as places_in, IsSettled};
-    ghost use Rattle.binkp_mailer.specs.SeatSteps.{IsNewSitting, Takes, TakePasses};
+    ghost use Rattle.binkp_mailer.specs.Seats.{sitting, part_in, IsHolding, places_of as places_in};
+    ghost use Rattle.binkp_mailer.specs.SeatSteps.{IsNewSitting, part_for, Takes, TakePasses, HoldsFor, Puts, PutPasses};
 
     /// A session that holds nothing, with copies of the peer's addresses.
     pub fn new(
@@ -171,7 +185,12 @@ impl Open {
         requires first { IsAddress (address self.old.first) }
         requires limits { IsKey (key_of key.now) }
         ensures takes { Takes (key_of key.now) result (S.stand store.old).state (sitting self.old) (S.stand store.new).state (sitting self.new) }
+        ensures part { IfOk result (λ word. part_in (sitting self.new).hold ≡ part_for word (key_of key.now)) }
         ensures holds { IfOk result (λ word. IsHolding (sitting self.new).first (sitting self.new).hold (S.stand store.new).state) }
+        ensures free { IsMarkFree (S.stand store.new).state.content }
+        ensures counts { OnOk result ((S.stand store.new).state.counts ≡ (S.stand store.old).state.counts) }
+        ensures settled { IsSettled (state_in (S.stand store.old).state) (S.stand store.old) → (S.stand store.new).state.counts.broken ≡ None → IsSettled (state_in (S.stand store.new).state) (S.stand store.new) }
+        ensures same { sitting self.new ≡ record (sitting self.old) { hold = (sitting self.new).hold } }
         ensures leaves { Leaves (TakePasses (key_of key.now) (S.stand store.old).state (sitting self.old)) (S.stand store.old) (S.stand store.new) }
     {
         match store.known(&self.first, key) {
@@ -193,5 +212,33 @@ impl Open {
             places,
         });
         Ok(FileIn::Go)
+    }
+
+    /// Data of the held file comes, no more than is left. It takes no memory.
+    pub fn put<S: Store>(&mut self, store: &mut S, bytes: &[u8]) -> Result<DataIn, StoreFault>
+        requires whole { (S.stand store.old).state.counts.broken ≡ None }
+        requires free { IsMarkFree (S.stand store.old).state.content }
+        requires numbered { self.old.number ≢ 0 }
+        requires fits { HoldsFor (length bytes.now) (sitting self.old) (S.stand store.old).state }
+        ensures puts { Puts bytes.now result (S.stand store.old).state (sitting self.old) (S.stand store.new).state (sitting self.new) }
+        ensures holds { OnOk result (IsHolding (sitting self.new).first (sitting self.new).hold (S.stand store.new).state) }
+        ensures free { IsMarkFree (S.stand store.new).state.content }
+        ensures counts { OnOk result ((S.stand store.new).state.counts ≡ (S.stand store.old).state.counts) }
+        ensures settled { IsSettled (state_in (S.stand store.old).state) (S.stand store.old) → (S.stand store.new).state.counts.broken ≡ None → IsSettled (state_in (S.stand store.new).state) (S.stand store.new) }
+        ensures same { sitting self.new ≡ record (sitting self.old) { hold = (sitting self.new).hold } }
+        ensures leaves { Leaves (PutPasses bytes.now (S.stand store.old).state (sitting self.old)) (S.stand store.old) (S.stand store.new) }
+    {
+        let Some(taken) = &mut self.hold else {
+            unreachable!()
+        };
+        store.part_put(taken.part, bytes)?;
+        let left = taken.left - bytes.len() as u64;
+        if left > 0 {
+            taken.left = left;
+            return Ok(DataIn::More);
+        }
+        make_receipt(store, taken.part, self.number, self.secure, taken.places)?;
+        self.hold = None;
+        Ok(DataIn::Whole)
     }
 }
