@@ -15,7 +15,8 @@ use Rattle.binkp_mailer.specs.Machine.{Phase, Closed}
 use Rattle.binkp_mailer.specs.Laws.{Facts, EndCount, EndCountAt, LineCause, LineCauseAt, DeskCause, DeskCauseAt}
 use Rattle.binkp_mailer.specs.Seats.{Sitting, node_of, told}
 use Rattle.binkp_mailer.specs.Statuses.{status_after}
-use Rattle.binkp_mailer.specs.TopCall.{HeldSession, HasOnceTold, StatusCause, one_seat, lent}
+use Rattle.binkp_mailer.specs.declared.status.Status.TheVariants as S
+use Rattle.binkp_mailer.specs.TopCall.{HeldSession, HasOnceTold, StatusCause, Answers_line, Turned_away, Held_one, one_seat, lent}
 
 from_causes : (end : End) (line line' : LineState) (counts counts' : Counts) → counts.broken ≡ None → EndCount end line.ends line'.ends → LineCause end line.faults line'.faults line'.calm → DeskCause end counts counts' → StatusCause (status_after end) line line' counts counts'
 from_causes E.Finished line line' counts counts' whole e l d = e
@@ -57,3 +58,16 @@ held_once home moment line store status line' store' h once =
     let s = h.session in
     let kept : TellsOnce s.last.desk.knows = chain_once (one_seat store 0 None) s.last.events s.last.desk (node_of store 0 None) s.facts.chain refl refl (once_told store.content once) in
     told_once store'.content (known_node s.last.desk.knows (node_of store' h.begun h.sitting) kept (ap (λ (x : DeskState). x.knows) s.desk_is))
+
+pub answers_once : (words : List (List ℕ)) (moment : ℕ) (line : LineState) (store : StoreState) (status : Status) (line' : LineState) (store' : StoreState) → Answers_line words moment line store status line' store' → HasOnceTold store.content → HasOnceTold store'.content
+answers_once words moment line store status line' store' (Turned_away why line_is store_is) once = subst (λ (x : StoreState). HasOnceTold x.content) (sym store_is) once
+answers_once words moment line store status line' store' (Held_one home are h) once = held_once home moment line store status line' store' h once
+
+turned_causes : (status : Status) (line : LineState) (counts : Counts) → (status ≡ S.Usage) ⊎ (status ≡ S.NoMemory) → StatusCause status line line counts counts
+turned_causes status line counts (inl e) = subst (λ (x : Status). StatusCause x line line counts counts) (sym e) refl
+turned_causes status line counts (inr e) = subst (λ (x : Status). StatusCause x line line counts counts) (sym e) refl
+
+pub answers_causes : (words : List (List ℕ)) (moment : ℕ) (line : LineState) (store : StoreState) (status : Status) (line' : LineState) (store' : StoreState) → Answers_line words moment line store status line' store' → store.counts.broken ≡ None → StatusCause status line line' store.counts store'.counts
+answers_causes words moment line store status line' store' (Turned_away why line_is store_is) whole =
+    subst (λ (x : LineState). StatusCause status line x store.counts store'.counts) (sym line_is) (subst (λ (x : StoreState). StatusCause status line line store.counts x.counts) (sym store_is) (turned_causes status line store.counts why))
+answers_causes words moment line store status line' store' (Held_one home are h) whole = held_causes home moment line store status line' store' h whole

@@ -4,7 +4,7 @@ ghost use Rattle.ftn_addr.specs.Address.{Address};
 ghost use Rattle.binkp_mailer.specs.Seats.{IsMarkFree, IsSettled, told};
 ghost use Rattle.binkp_mailer.specs.TopCall.{Answers_line, HasOnceTold, StatusCause};
 ghost use Rattle.binkp_mailer.specs.Words.{AreWords, texts};
-ghost use Rattle.binkp_mailer.specs.declared.status.Status.TheVariants as S;
+ghost use Rattle.binkp_mailer.specs.declared.status.Status.TheVariants.{Usage};
 
 use crate::run::run_session;
 use crate::seat::Seat;
@@ -34,7 +34,7 @@ pub fn run_line<S: Store, L: Line, O: Sink>(
     requires whole { (S.stand store).state.counts.broken ≡ None }
     requires settled { IsSettled (told (S.stand store).state.content).state (S.stand store) }
     requires calm { (L.state line.old).calm ≡ 0 }
-    ensures usage { result.0 ≡ S.Usage → (home : Address) → AreWords (texts words.now) home → ⊥ }
+    ensures usage { result.0 ≡ Usage → (home : Address) → AreWords (texts words.now) home → ⊥ }
     ensures session { Answers_line (texts words.now) now (L.state line.old) (S.stand store).state result.0 (L.state line.new) (S.stand result.1).state }
     ensures cause { StatusCause result.0 (L.state line.old) (L.state line.new) (S.stand store).state.counts (S.stand result.1).state.counts }
     ensures once { HasOnceTold (S.stand store).state.content → HasOnceTold (S.stand result.1).state.content }
