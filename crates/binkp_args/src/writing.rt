@@ -1,6 +1,6 @@
 ghost use Rattle.std.specs.Prelude.{◌≡◌, ℕ, ◌<◌, ◌++◌, Ok, length, map, IfOk, OnOk, OnErr};
 ghost use Rattle.ftn_addr.specs.Address.{Address, address};
-ghost use Rattle.ftn_addr.specs.Frames.{frame_bytes};
+ghost use Rattle.ftn_addr.specs.Frames.{Command as CommandFrame, frame_bytes};
 ghost use Rattle.ftn_addr.specs.Key.{key_of};
 ghost use Rattle.ftn_addr.specs.Writing.{canonical};
 ghost use Rattle.binkp_args.specs.Command.{CommandText, command_text, command_of};
@@ -10,7 +10,6 @@ ghost use Rattle.binkp_args.specs.Writing.{number_of, key_text, place_text, argu
 
 use crate::command::Command;
 use crate::names::escape;
-use binkp_frame::{Frame, put_frame};
 use ftn_addr::{Addr, Bytes, FileKey, NoMemory, write_addr};
 use std::alloc::Global;
 
@@ -86,6 +85,18 @@ fn argument_of(alloc: Global, command: &Command) -> Result<Bytes, NoMemory>
     }
 }
 
+/// Adds a command's frame at the end of `out`: its header, its number and its argument.
+fn put_command(number: u8, args: &[u8], out: &mut Bytes) -> Result<(), NoMemory>
+    requires { length args.now < 32767 }
+    ensures ok { OnOk result (out.new.list ≡ out.old.list ++ frame_bytes (CommandFrame number args.now)) }
+    ensures err { OnErr result (out.new.list ≡ out.old.list) }
+{
+    let len = args.len() + 1;
+    out.reserve(2 + len)?;
+    out.push_slice(&[128 + (len / 256) as u8, (len % 256) as u8, number])?;
+    out.push_slice(args)
+}
+
 /// Writes a command at the end of `out`, as one whole frame. The command isn't `Other`, an M_ADR has an
 /// address, and the argument has at most 32,766 bytes.
 ///
@@ -99,7 +110,7 @@ pub fn write_command(alloc: Global, command: &Command, out: &mut Bytes) -> Resul
 {
     let number = number_of(command);
     let args = argument_of(alloc, command)?;
-    put_frame(&Frame::Command { number, args }, out)
+    put_command(number, args.as_slice(), out)
 }
 
 /// What is written is read again as the same command, whatever the home.

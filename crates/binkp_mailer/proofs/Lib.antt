@@ -5,6 +5,13 @@ pub mod Heard
 pub mod Gives
 pub mod Runs
 pub mod Room
+pub mod Left
+pub mod Causes
+pub mod LineLaws
+pub mod Laws
 pub mod Seats
+pub mod TopCalls
+pub mod Plays
+pub mod PlaysWrites
 pub mod SeatData
 pub mod SeatCalls

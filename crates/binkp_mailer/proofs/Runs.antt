@@ -9,8 +9,10 @@ use Rattle.ftn_addr.specs.Frames.{FrameText, Block, spelling}
 use Rattle.binkp_frame.specs.Stream.{Begins, Splits, Feeds, frame_in}
 use Rattle.binkp_frame.specs.Views.{frame_text, frame_texts}
 use Rattle.binkp_frame.specs.declared.frame.Frame.{Frame}
-use Rattle.node_model.specs.Calls.{DeskState, Answer, Event, Calls, Chain, Leave_call}
-use Rattle.node_model.specs.Images.{Stand}
+use Rattle.node_model.specs.Calls.{DeskState, Answer, Event, one, Calls, Chain, Knock_call, Leave_call}
+use Rattle.node_model.specs.declared.words.Role.TheVariants.{Answers}
+use Rattle.binkp_mailer.proofs.Writings.{if_more}
+use Rattle.node_model.specs.Images.{Stand, Kept}
 use Rattle.binkp_mailer.specs.declared.ending.End.{End}
 use Rattle.binkp_mailer.specs.declared.ending.End.TheVariants as E
 use Rattle.binkp_mailer.specs.declared.ending.Took.{Took}
@@ -22,10 +24,10 @@ use Rattle.binkp_mailer.specs.declared.session.Session.{Session}
 use Rattle.binkp_mailer.specs.Lines.{LineState, IsRead, IsWrite, came, went}
 use Rattle.binkp_mailer.specs.declared.link.ReadAnswer.{ReadAnswer}
 use Rattle.binkp_mailer.specs.declared.link.WriteAnswer.{WriteAnswer}
-use Rattle.binkp_mailer.specs.Sessions.{Setting, Stage, Reply, Row, Said, GiveRow, frame_number}
-use Rattle.binkp_mailer.specs.Replies.{Did, GaveUp, IfMore, MadeRow, DidGive, stage_of}
-use Rattle.binkp_mailer.specs.Machine.{World, Phase, Taking, Writing, Reading, Over, Draining, Reach, here, next, TakesFrame, takes_frame, MakesTurn, makes_turn, GivesUp, gives_up, MayGiveUp, Writes, writes, PassesWrite, passes_write, Reads, reads, after_took, after_gave, after_write, after_read}
-use Rattle.binkp_mailer.specs.Runs.{Spot, spot, Stream, Follows, At, Goes, Wrote, Came, over_or}
+use Rattle.binkp_mailer.specs.Sessions.{AfterKnock, Awaits_address, Setting, Stage, Reply, Row, Said, GiveRow, frame_number}
+use Rattle.binkp_mailer.specs.Replies.{Writes as Grows, Did, GaveUp, IfMore, MadeRow, DidGive, stage_of}
+use Rattle.binkp_mailer.specs.Machine.{World, Phase, Starting, opening, Greets, greets, Leaves, leaves, after_leave, Taking, Writing, Reading, Over, Draining, Reach, here, next, TakesFrame, takes_frame, MakesTurn, makes_turn, GivesUp, gives_up, MayGiveUp, Writes, writes, PassesWrite, passes_write, Reads, reads, after_took, after_gave, after_write, after_read}
+use Rattle.binkp_mailer.specs.Runs.{Spot, spot, Stream, Follows, At, Goes, IsNew, Wrote, Came, over_or}
 
 -- one run after another
 pub reach_trans : {alone : Bool} {u v w : World} → Reach alone u v → Reach alone v w → Reach alone u w
@@ -39,6 +41,9 @@ goes_then first second = record {
       let y = second.goes x.0 x.2 in
       (y.0, reach_trans x.1 y.1, y.2);
 }
+
+pub ends_at : {alone : Bool} {s : Setting} {a : Spot} {run : Run} {line : LineState} {desk : DeskState} {fs : List FrameText} {p q : Phase} → Goes alone s a (spot run line desk fs p) → p ≡ q → Goes alone s a (spot run line desk fs q)
+ends_at {alone} {s} {a} {run} {line} {desk} {fs} {p} {q} g e = subst (λ (x : Phase). Goes alone s a (spot run line desk fs x)) e g
 
 pub goes_nowhere : (alone : Bool) (s : Setting) (a : Spot) → Goes alone s a a
 goes_nowhere alone s a = record { goes = λ w at. (w, here, at) }
@@ -369,3 +374,68 @@ from_pending {alone} {s} {b} run line desk fs gs p e g = subst (λ (x : List Fra
 pub is_nothing : (xs : List ℕ) → length xs ≡ 0 → xs ≡ []
 is_nothing [] e = refl
 is_nothing (x ∷ xs) e = absurd (omega arith)
+
+-- the first turn
+pub greeted_it : (alone : Bool) (s : Setting) (run run' : Run) (line : LineState) (old new : Stand) (answer : Answer) (reply : Reply) (took : Took) → Kept alone old (Knock_call Answers) answer new → AfterKnock s answer reply → IsNew run → run'.session ≡ run.session → run'.decoder ≡ run.decoder → run'.piece.list ≡ run.piece.list → run'.taken ≡ run.taken → run'.wrote ≡ run.wrote → reply.stage ≡ Awaits_address → Grows run.out.list run'.out.list reply.output reply.took took → Goes alone s (spot run line old.state [] Starting) (spot run' line new.state [] (after_took took))
+greeted_it alone s run run' line old new answer reply took kept after is_new session decoder piece taken wrote stage grows = record {
+  goes = λ w at.
+      let st : Stream run [] w = at.follows in
+      let v : World = record w { desk = new.state; stage = reply.stage; phase = after_took took; output = w.output ++ grows.written; events = w.events ++ one (Knock_call Answers) answer } in
+      let step : Greets alone w v = record {
+        phase = at.phase_is;
+        answer = answer;
+        desk = new.state;
+        call = subst (λ (x : DeskState). Calls alone x (Knock_call Answers) answer new.state) (sym at.desk_is) kept.made;
+        reply = reply;
+        follows = subst (λ (x : Setting). AfterKnock x answer reply) (sym at.setting_is) after;
+        output = grows.written;
+        took = took;
+        said = grows.said;
+        is = refl;
+      } in
+      let stream : Stream run' [] v = record {
+        stage_is = stage ∙ sym is_new.stage ∙ ap (λ (x : Session). stage_of x.stage) (sym session);
+        number_is = ap (λ (x : Session). x.frames) session ∙ st.number_is;
+        fed = st.fed;
+        whole = st.whole ∙ ap (λ (x : List ℕ). st.fed ++ x) (sym piece);
+        splits = subst (λ (x : List ℕ). Splits st.fed (w.frames ++ []) x) (sym decoder) st.splits;
+      } in
+      (v, next here (greets step), record {
+        setting_is = at.setting_is;
+        line_is = at.line_is;
+        desk_is = refl;
+        phase_is = refl;
+        unsent = ap (λ (x : List ℕ). x ++ grows.written) at.unsent ∙ append_assoc w.sent run.out.list grows.written ∙ ap (λ (x : List ℕ). w.sent ++ x) (sym grows.grew);
+        taken = at.taken ∙ sym taken;
+        wrote = at.wrote ∙ sym wrote;
+        follows = follows_took took run' [] v (if_more took (Stream run' [] v) stream);
+      });
+}
+
+-- the desk is left
+pub left_it : (alone : Bool) (s : Setting) (run : Run) (line : LineState) (old new : DeskState) (end : End) (answer : Answer) → Calls alone old Leave_call answer new → Goes alone s (spot run line old [] (Over end)) (spot run line new [] (Draining (after_leave end answer)))
+left_it alone s run line old new end answer call = record {
+  goes = λ w at.
+      let v : World = record w { desk = new; events = w.events ++ one Leave_call answer; phase = Draining (after_leave end answer) } in
+      let step : Leaves alone w v = record { end = end; phase = at.phase_is; answer = answer; desk = new; call = subst (λ (x : DeskState). Calls alone x Leave_call answer new) (sym at.desk_is) call; is = refl } in
+      (v, next here (leaves step), record { setting_is = at.setting_is; line_is = at.line_is; desk_is = refl; phase_is = refl; unsent = at.unsent; taken = at.taken; wrote = at.wrote; follows = tt });
+}
+
+-- where nothing has happened, a new run stands for the opening
+pub at_opening : (s : Setting) (run : Run) (line : LineState) (desk : DeskState) → IsNew run → At s (spot run line desk [] Starting) (opening s line desk)
+at_opening s run line desk is = record {
+  setting_is = refl;
+  line_is = refl;
+  desk_is = refl;
+  phase_is = refl;
+  unsent = sym is.out;
+  taken = sym is.taken;
+  wrote = sym is.wrote;
+  follows = record {
+    stage_is = sym is.stage;
+    number_is = is.frames;
+    fed = [];
+    whole = sym is.piece;
+    splits = subst (λ (x : List ℕ). Splits [] [] x) (sym is.decoder) (record { begins = record { blocks = []; whole = refl; short = λ k d h. absurd (omega arith); found = refl }; partial = tt });
+  };
+}

@@ -3,3 +3,8 @@ pub mod Orderly
 pub mod PartPlaces
 pub mod ReceivedFiles
 pub mod SameFiles
+pub mod SeatSessions
+pub mod OneReceipt
+pub mod ReceiptsAlong
+pub mod RisingCounts
+pub mod RisingFaults

@@ -5,6 +5,8 @@ pub mod Items
 pub mod ListStates
 pub mod Lists
 pub mod Node
+pub mod Receipts
+pub mod Refusals
 pub mod Rows
 pub mod Stores
 pub mod Talk

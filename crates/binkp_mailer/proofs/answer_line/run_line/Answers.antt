@@ -1,0 +1,20 @@
+use Rattle.std.proofs.Common.{option_map}
+use Rattle.ftn_addr.specs.Address.{address}
+use Rattle.binkp_mailer.specs.Seats.{sitting}
+use Rattle.binkp_mailer.specs.TopCall.{Held_one}
+use Rattle.binkp_mailer.proofs.TopCalls.{answers_once}
+use Rattle.binkp_mailer.proofs.answer_line.run_line.Goals as goal
+
+pub returns-clause-session : goal.returns-clause-session
+returns-clause-session g c =
+    Held_one (address c.in-Ok.home) c.in-Ok.ensures.ok (record {
+      end = c.run_session-report.result.end;
+      status_is = c.status_of.ensures;
+      taken = c.run_session-report.result.taken;
+      begun = c.run_session-report.new.desk.begun;
+      sitting = option_map sitting c.run_session-report.new.desk.session;
+      session = rw c.into_store.ensures (rw c.new-seat.ensures.session at (rw c.new-seat.ensures.begun at (rw c.new-seat.ensures.store at c.run_session-report.ensures.session)));
+    })
+
+pub returns-clause-once : goal.returns-clause-once
+returns-clause-once g c = answers_once _ _ _ _ _ _ _ (returns-clause-session g c)

@@ -1,0 +1,55 @@
+//! The program's call.
+ghost use Rattle.std.specs.Prelude.{◌≡◌, ℕ, None};
+ghost use Rattle.ftn_addr.specs.Address.{Address};
+ghost use Rattle.binkp_mailer.specs.Seats.{IsMarkFree, IsSettled, told};
+ghost use Rattle.binkp_mailer.specs.TopCall.{Answers_line, HasOnceTold, StatusCause};
+ghost use Rattle.binkp_mailer.specs.Words.{AreWords, texts};
+ghost use Rattle.binkp_mailer.specs.declared.status.Status.TheVariants.{Usage};
+
+use crate::run::run_session;
+use crate::seat::Seat;
+use crate::terms::Setting;
+use crate::{Line, Sink, Status, WordsFault, read_words, status_of};
+use ftn_addr::Bytes;
+use node_model::Store;
+use std::alloc::Global;
+
+/// The most bytes that a session takes and writes, together: 16 TiB.
+pub const SESSION_LIMIT: u64 = 17_592_186_044_416;
+
+/// Answers the one caller on the line, where the words are `answer` and the own address, and gives the
+/// store back. The store isn't broken and no file in it has a mark; the line was not used yet.
+///
+/// Nothing is printed and nothing is random yet: `random` and `out` are for later.
+pub fn run_line<S: Store, L: Line, O: Sink>(
+    alloc: Global,
+    words: &[Bytes],
+    store: S,
+    line: &mut L,
+    now: u64,
+    _random: [u8; 16],
+    _out: &mut O,
+) -> (Status, S)
+    requires told { IsMarkFree (S.stand store).state.content }
+    requires whole { (S.stand store).state.counts.broken ≡ None }
+    requires settled { IsSettled (told (S.stand store).state.content).state (S.stand store) }
+    requires calm { (L.state line.old).calm ≡ 0 }
+    ensures usage { result.0 ≡ Usage → (home : Address) → AreWords (texts words.now) home → ⊥ }
+    ensures session { Answers_line (texts words.now) now (L.state line.old) (S.stand store).state result.0 (L.state line.new) (S.stand result.1).state }
+    ensures cause { StatusCause result.0 (L.state line.old) (L.state line.new) (S.stand store).state.counts (S.stand result.1).state.counts }
+    ensures once { HasOnceTold (S.stand store).state.content → HasOnceTold (S.stand result.1).state.content }
+{
+    let home = match read_words(alloc, words) {
+        Ok(home) => home,
+        Err(WordsFault::Usage) => return (Status::Usage, store),
+        Err(WordsFault::NoMemory) => return (Status::NoMemory, store),
+    };
+    let setting = Setting {
+        home,
+        moment: now,
+        limit: SESSION_LIMIT,
+    };
+    let mut seat = Seat::new(store);
+    let report = run_session(alloc, line, &mut seat, &setting);
+    (status_of(report.end), seat.into_store())
+}
