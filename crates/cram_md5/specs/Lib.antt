@@ -1,0 +1,5 @@
+pub mod Answer
+pub mod Hmac
+pub mod Offer
+pub mod Views
+pub mod Words
