@@ -104,11 +104,7 @@ fn flags_of<'a, 'b>(fields: &'b [&'a [u8]]) -> &'b [&'a [u8]]
 }
 
 #[tactic(auto, unfolding(crate::specs::Fields::node_of))]
-fn node_of_fields(
-    alloc: Global,
-    above: Option<Area>,
-    fields: &[&[u8]],
-) -> Result<Listed, ListCause>
+fn node_of_fields(alloc: Global, above: Option<Area>, fields: &[&[u8]]) -> Result<Listed, ListCause>
     ensures { Gives listed result (node_of (option_map area above) (map (λ field. field.now) fields.now)) }
 {
     let kind = kind_at(fields)?;
@@ -127,11 +123,7 @@ fn node_of_fields(
 }
 
 /// The node that a line stands for, below an area.
-pub(crate) fn node_of(
-    alloc: Global,
-    above: Option<Area>,
-    line: &[u8],
-) -> Result<Listed, ListCause>
+pub(crate) fn node_of(alloc: Global, above: Option<Area>, line: &[u8]) -> Result<Listed, ListCause>
     ensures { Gives listed result
         (node_of (option_map area above) (slice_split (λ byte. byte == 44) line.now)) }
 {

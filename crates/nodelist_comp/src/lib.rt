@@ -11,13 +11,13 @@
 mod fault;
 mod fields;
 mod flags;
-
+mod index;
 mod listing;
 mod node;
 #[cfg(test)]
 mod tests;
 
-pub use listing::compile;
 pub use fault::{ListCause, ListTextFault};
-
+pub use index::index_bytes;
+pub use listing::compile;
 pub use node::{Listed, NodeKind};

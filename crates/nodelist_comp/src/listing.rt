@@ -15,11 +15,7 @@ use text_lines::first_line;
 const MAX_NODES: usize = 65_536;
 
 /// Adds a node at the end, unless its address is in the list already.
-fn add(
-    nodes: &mut Vec<Listed>,
-    places: &mut BTreeSet<u64>,
-    node: Listed,
-) -> Result<(), ListCause>
+fn add(nodes: &mut Vec<Listed>, places: &mut BTreeSet<u64>, node: Listed) -> Result<(), ListCause>
     requires { Tracks nodes.old.items places.old }
     ensures nodes { Gives (λ _. map listed nodes.new.items) result
         (added (map listed nodes.old.items) (listed node)) }

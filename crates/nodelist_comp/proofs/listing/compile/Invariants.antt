@@ -9,7 +9,7 @@ use Rattle.nodelist_comp.proofs.listing.compile.Given as goal
 abbrev pub invariant-loop-line : goal.invariant-loop-line
 invariant-loop-line l = record {
   nodes : with_lines (map listed l.nodes.items) (option_map area l.above) l.number (lines l.rest) ≡ compiled l.text;
-  tracks : Tracks l.nodes.items l.places
+  tracks : Tracks l.nodes.items l.places;
 }
 
 abbrev pub decreases-loop-line : goal.decreases-loop-line
