@@ -45,11 +45,11 @@ fn nodes_are_reached_by_host_or_by_net(rt: HostRuntime) -> Result<(), Fail> {
     let Route::Direct(i) = index.route(&addr(alloc, 2, 5020, 1042)?) else {
         return Err(Fail::from("not direct"));
     };
-    assert_eq!(rt; host(&index, i), b"n.example");
+    assert_eq!(rt; host(&index, i), b"n.example".as_slice());
     let Route::ViaHost(i) = index.route(&addr(alloc, 2, 5020, 8)?) else {
         return Err(Fail::from("not by the net"));
     };
-    assert_eq!(rt; host(&index, i), b"h.example");
+    assert_eq!(rt; host(&index, i), b"h.example".as_slice());
     assert_eq!(rt; index.route(&addr(alloc, 2, 5020, 7)?), Route::Down);
     assert_eq!(rt; index.route(&addr(alloc, 2, 5020, 9)?), Route::Unknown);
     Ok(())
@@ -59,7 +59,9 @@ fn nodes_are_reached_by_host_or_by_net(rt: HostRuntime) -> Result<(), Fail> {
 fn a_node_whose_net_has_no_host_is_unknown(rt: HostRuntime) -> Result<(), Fail> {
     let alloc = rt.alloc();
     let mut nodes = compile(alloc, b"Zone,2\nHost,9\n,1\n")?;
-    let _ = nodes.remove(1);
+    if nodes.len() > 1 {
+        let _ = nodes.remove(1);
+    }
     let bytes = index_bytes(alloc, nodes.as_slice())?;
     let index = Index::open(alloc, bytes.as_slice())?;
     assert_eq!(rt; index.find(&addr(alloc, 2, 9, 1)?), Some(1));
