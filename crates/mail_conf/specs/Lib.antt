@@ -1,0 +1,6 @@
+pub mod Cause
+pub mod Domain
+pub mod Host
+pub mod Values
+pub mod Views
+pub mod Words
