@@ -11,6 +11,7 @@
 mod cause;
 mod conf;
 mod domain;
+mod draft;
 mod host;
 #[cfg(test)]
 mod tests;
