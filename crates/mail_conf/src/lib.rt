@@ -13,6 +13,8 @@ mod conf;
 mod domain;
 mod draft;
 mod host;
+mod lines;
+mod reading;
 #[cfg(test)]
 mod tests;
 mod values;
@@ -20,3 +22,4 @@ mod words;
 
 pub use cause::{ConfCause, ConfFault};
 pub use conf::{Conf, Node};
+pub use reading::read_conf;

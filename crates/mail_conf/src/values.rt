@@ -49,11 +49,7 @@ pub(crate) fn word_at<'a>(words: &[&'a [u8]], i: usize) -> Result<&'a [u8], Conf
 pub(crate) fn once(given: bool) -> Result<(), ConfCause>
     ensures { Gives (λ x. x) result (once given) }
 {
-    if given {
-        Err(ConfCause::Twice)
-    } else {
-        Ok(())
-    }
+    if given { Err(ConfCause::Twice) } else { Ok(()) }
 }
 
 /// The text of a line whose word is set once.
@@ -71,11 +67,7 @@ pub(crate) fn text_of(alloc: Global, given: bool, rest: &[u8]) -> Result<Bytes, 
 
 /// The first word of a line whose word is set once.
 #[tactic(auto, unfolding(crate::specs::Values::word_once))]
-pub(crate) fn word_once(
-    alloc: Global,
-    given: bool,
-    words: &[&[u8]],
-) -> Result<Bytes, ConfCause>
+pub(crate) fn word_once(alloc: Global, given: bool, words: &[&[u8]]) -> Result<Bytes, ConfCause>
     ensures { Gives (λ word. word.list) result (word_once given (map (λ word. word.now) words.now)) }
 {
     let word = word_at(words, 0)?;
