@@ -10,6 +10,7 @@
 mod cursor;
 mod fault;
 mod index;
+mod laws;
 mod nodes;
 mod search;
 #[cfg(test)]
@@ -17,3 +18,4 @@ mod tests;
 
 pub use fault::IndexFault;
 pub use index::{Index, Route};
+pub use laws::finds_what_the_list_has;
