@@ -1,7 +1,6 @@
 -- A look-up among the nodes in order finds what it finds in the list.
-use Rattle.std.proofs.Common.{◌≡◌, ℕ, ◌||◌, Bool, true, false, cond, eqb, ltb, List, [], ◌∷◌, Option, Some, None, fold, refl, sym, ap, ◌∙◌, inl, inr}
+use Rattle.std.proofs.Common.{◌≡◌, ℕ, Bool, true, false, cond, eqb, ltb, List, [], ◌∷◌, Option, Some, None, fold, refl, sym, ap, ◌∙◌, inl, inr}
 use Rattle.std.specs.Prelude.{find}
-use Rattle.std.specs.List.{list_any}
 use Rattle.std.proofs.lemmas.Bool.{cases_Bool, eqb-true, or_parts, true≢false}
 use Rattle.nodelist_comp.specs.Index.{in_order, insert_node, with_node}
 use Rattle.nodelist_comp.specs.Node.{ListedNode, has_place, place_of}
@@ -69,9 +68,9 @@ found-with : (at : ℕ) (n : ListedNode) (nodes : List ListedNode) → found at 
 found-with at n nodes =
     elim (cases_Bool (has_place nodes (place_of n))) as (λ _. found at (with_node nodes n) ≡ or_later (found at nodes) (itself at n)) [
       | inl present ↦ rw present (elim (cases_Bool (is_at at n)) as (λ _. found at nodes ≡ or_later (found at nodes) (itself at n)) [
-          | inl here ↦ some_found at nodes (itself at n) (ap (has_place nodes) (sym (eqb-true (place_of n) at here)) ∙ present)
-          | inr other ↦ rw other (or_none (found at nodes))
-        ])
+        | inl here ↦ some_found at nodes (itself at n) (ap (has_place nodes) (sym (eqb-true (place_of n) at here)) ∙ present)
+        | inr other ↦ rw other (or_none (found at nodes))
+      ])
       | inr absent ↦ rw absent (found-insert at n nodes absent)
     ]
 

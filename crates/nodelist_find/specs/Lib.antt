@@ -1,4 +1,5 @@
 pub mod Cursor
+pub mod Law
 pub mod Nodes
 pub mod Rising
 pub mod Route

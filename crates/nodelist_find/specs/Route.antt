@@ -1,9 +1,9 @@
 -- Look-up, and how a node is reached.
-use Rattle.std.specs.Prelude.{◌≡◌, ℕ, ◌<◌, ◌==◌, List, [], ◌∷◌, length, slice_get, position, Option, Some, None, if◌then◌else◌}
+use Rattle.std.specs.Prelude.{ℕ, ◌<◌, ◌==◌, List, length, slice_get, position, Option, Some, None, if◌then◌else◌}
 use Rattle.ftn_addr.specs.Address.{Address}
 use Rattle.nodelist_comp.specs.Node.{ListedNode, place, place_of}
 use Rattle.nodelist_comp.specs.declared.node.NodeKind.{NodeKind}
-use Rattle.nodelist_comp.specs.declared.node.NodeKind.TheVariants.{Zone, Region, Host, Hub, Pvt, Hold, Down, Plain}
+use Rattle.nodelist_comp.specs.declared.node.NodeKind.TheVariants.{Hold, Down}
 use Rattle.nodelist_find.specs.declared.index.Route.{Route}
 use Rattle.nodelist_find.specs.declared.index.Route.TheVariants as way
 

@@ -18,4 +18,4 @@ mod tests;
 
 pub use fault::IndexFault;
 pub use index::{Index, Route};
-pub use laws::finds_what_the_list_has;
+pub use laws::{finds_what_the_list_has, reads_what_is_written};
