@@ -1,10 +1,10 @@
--- The answer to a challenge (FTS-1027, section 3).
+-- The answer to a challenge (FTS-1027).
 use Rattle.std.specs.Prelude.{ℕ, Bool, nat_eq, List, ◌++◌, drop, codes, if◌then◌else◌}
 use Rattle.std.specs.Cmp.Lexicographic.{pointwise}
 use Rattle.std.specs.List.{starts_with}
 use Rattle.hex.specs.Hex.{encode_lower}
 use Rattle.cram_md5.specs.Hmac.{hmac}
-use Rattle.cram_md5.specs.Words.{same_word}
+use Rattle.text_lines.specs.Case.{same_word}
 
 -- `CRAM-MD5-` and the digest's digits; the password is the key and the challenge the text
 abbrev pub answer : List ℕ → List ℕ → List ℕ

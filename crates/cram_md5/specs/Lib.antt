@@ -2,4 +2,3 @@ pub mod Answer
 pub mod Hmac
 pub mod Offer
 pub mod Views
-pub mod Words

@@ -1,9 +1,9 @@
--- The offer of a challenge (FTS-1027, section 3).
+-- The offer of a challenge (FTS-1027).
 use Rattle.std.specs.Prelude.{ℕ, ◌+◌, ◌==◌, Bool, ◌&&◌, nat_lt, nat_le, nat_eq, List, ◌++◌, length, take, drop, find, position, codes, Option, Some, None, option_and_then, if◌then◌else◌}
 use Rattle.std.specs.List.{slice_split, starts_with, list_any}
 use Rattle.std.specs.Result.{result_ok}
 use Rattle.hex.specs.Hex.{decode_of, encode_lower}
-use Rattle.cram_md5.specs.Words.{same_word}
+use Rattle.text_lines.specs.Case.{same_word}
 
 -- an offer without where its challenge lies in memory
 pub data Offered : Type 0 where

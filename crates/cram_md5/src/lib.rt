@@ -14,7 +14,6 @@ mod digest;
 mod offer;
 #[cfg(test)]
 mod tests;
-mod words;
 
 pub use answer::{answer_text, check};
 pub use digest::hmac;

@@ -3,12 +3,12 @@ ghost use Rattle.std.specs.Prelude.{◌≡◌, ◌≤◌, ◌==◌, ◌++◌, le
 ghost use Rattle.cram_md5.specs.Offer.{bytes_of, cram_word, names_md5, offer_of, offer_of_word, offer_spelling};
 ghost use Rattle.cram_md5.specs.Views.{offered};
 
-use crate::words::is_same_word;
 use ftn_addr::{Bytes, NoMemory};
 use hex::FromHexError;
 use std::alloc::Global;
+use text_lines::is_same_word;
 
-/// What the text of an M_NUL offers (FTS-1027, section 3).
+/// What the text of an M_NUL offers (FTS-1027).
 #[derive(Debug, Drop)]
 pub enum Offer {
     /// No challenge: the text isn't one of options, or none of its words is an offer.

@@ -1,4 +1,4 @@
--- The answer to a request (own, after FTS-0008).
+-- The answer to a request (own).
 use Rattle.std.specs.Prelude.{ℕ, ◌-◌, ◌==◌, not, nat_lt, List, [], ◌∷◌, length, take, filter, Option, None, if◌then◌else◌}
 use Rattle.std.specs.List.{filter_map}
 use Rattle.std.specs.Str.Lines.{lines}

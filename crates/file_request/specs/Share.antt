@@ -1,4 +1,4 @@
--- Shares, and the file that a word asks for (own, after FTS-0008).
+-- Shares, and the file that a word asks for (own).
 use Rattle.std.specs.Prelude.{ℕ, Bool, ◌&&◌, nat_le, List, [], ◌∷◌, ◌++◌, length, find, Option, Some, None}
 use Rattle.text_lines.specs.Case.{same_word}
 

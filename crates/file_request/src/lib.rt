@@ -1,4 +1,4 @@
-//! File requests (FTS-0008): a text whose lines name files, and which files of the node's shares it
+//! File requests (own): a text whose lines name files, and which files of the node's shares it
 //! gets.
 //!
 //! A [`Share`] is a folder with the names of the files in it that may be requested. [`answer_request`]

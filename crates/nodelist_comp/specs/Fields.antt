@@ -1,4 +1,4 @@
--- The node of a line (FTS-5000, section 3).
+-- The node of a line (FTS-5000).
 use Rattle.std.specs.Prelude.{◌≡◌, ℕ, ◌==◌, nat_lt, List, length, drop, slice_get, codes, Option, Some, None, Result, Ok, Err, if◌then◌else◌}
 use Rattle.ftn_addr.specs.Digits.{saturated_number}
 use Rattle.text_lines.specs.Case.{same_word}

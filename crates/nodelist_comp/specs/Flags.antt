@@ -1,4 +1,4 @@
--- The flags of a node that say where it answers binkp (FTS-5001, section 5.9).
+-- The flags of a node that say where it answers binkp (FTS-5001).
 use Rattle.std.specs.Prelude.{ℕ, ◌+◌, ◌==◌, Bool, ◌&&◌, nat_lt, nat_eq, List, [], ◌∷◌, length, take, drop, position, codes, Option, Some, None, is_some, unwrap_or, if◌then◌else◌}
 use Rattle.std.specs.Cmp.Lexicographic.{pointwise}
 use Rattle.std.specs.List.{starts_with}

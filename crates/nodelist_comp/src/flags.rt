@@ -1,4 +1,4 @@
-//! The flags of a node that say where it answers binkp (FTS-5001, section 5.9).
+//! The flags of a node that say where it answers binkp (FTS-5001).
 ghost use Rattle.std.specs.Prelude.{◌≡◌, ◌==◌, map, option_map, position};
 ghost use Rattle.nodelist_comp.specs.Flags.{after, endpoint, first_ibn, first_ina, host_and_port, ibn_value, plain_host, bracketed_host, port_of, port_behind};
 

@@ -81,7 +81,7 @@ fn before_end(text: &[u8]) -> &[u8]
 }
 
 /// The nodes of a nodelist's text, in the order of the lines, or the first line that can't be taken with
-/// its cause (FTS-5000, section 3).
+/// its cause (FTS-5000).
 ///
 /// A line of an address that is in the list already is passed over as a node, but a zone's, region's or
 /// host's line still sets the zone and the net.

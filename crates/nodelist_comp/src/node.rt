@@ -3,7 +3,7 @@ ghost use Rattle.std.specs.Prelude.{◌≡◌};
 
 use ftn_addr::Bytes;
 
-/// What a line of a nodelist stands for (FTS-5000, section 3.1).
+/// What a line of a nodelist stands for (FTS-5000).
 #[derive(Clone, Copy, Debug, PartialEq, Eq)]
 pub enum NodeKind {
     Zone,
