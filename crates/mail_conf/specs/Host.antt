@@ -66,6 +66,6 @@ unfoldable pub node_line : Address → List NodeText → List (List ℕ) → Res
 node_line home nodes words = do
   word ← word_at (without_options words) 0
   addr ← address_at home word
-  free ← once (list_any (λ node. same_address node.addr addr) nodes)
+  free ← once (list_any (λ node. same_address addr node.addr) nodes)
   host ← host_word (without_options words)
   Ok (record { addr = addr; host = host.0; port = host.1; password = password_word (without_options words) })

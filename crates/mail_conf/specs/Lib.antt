@@ -5,6 +5,7 @@ pub mod Domain
 pub mod Draft
 pub mod Drafted
 pub mod Host
+pub mod Known
 pub mod Line
 pub mod Values
 pub mod Views

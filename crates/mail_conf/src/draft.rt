@@ -7,14 +7,16 @@ ghost use Rattle.mail_conf.specs.Drafted.{drafted};
 
 use crate::domain::{DomainLine, address_at, domain_line, is_alias};
 use crate::host::node_line;
+use crate::nodes::NodeList;
 use crate::values::{number_once, text_of, word_at, word_once};
 use crate::words::{ListWord, NumberWord, PathWord, TextWord};
-use crate::{ConfCause, Node};
+use crate::ConfCause;
 use ftn_addr::{Addr, Bytes};
 use std::alloc::Global;
+use std::mem;
 
 /// Settings as far as their lines were taken.
-#[derive(Debug, Drop)]
+#[derive(Drop)]
 pub(crate) struct Draft {
     pub addresses: Vec<Addr>,
     pub sysname: Option<Bytes>,
@@ -30,7 +32,7 @@ pub(crate) struct Draft {
     pub block: Option<u16>,
     pub refuse_over: Option<u64>,
     pub session_limit: Option<u64>,
-    pub nodes: Vec<Node>,
+    pub nodes: NodeList,
     pub refuse_names: Vec<Bytes>,
     pub shares: Vec<Bytes>,
 }
@@ -54,7 +56,7 @@ pub(crate) fn empty_draft(alloc: Global) -> Draft
         block: None,
         refuse_over: None,
         session_limit: None,
-        nodes: Vec::new(alloc),
+        nodes: NodeList::new(alloc),
         refuse_names: Vec::new(alloc),
         shares: Vec::new(alloc),
     }
@@ -188,8 +190,9 @@ pub(crate) fn take_list(
             push_addresses(alloc, home, words, &mut draft.addresses)?;
         }
         ListWord::Node => {
-            let node = node_line(alloc, home, draft.nodes.as_slice(), words)?;
-            draft.nodes.push(node)?;
+            let node = node_line(alloc, home, &draft.nodes, words)?;
+            let nodes = mem::replace(&mut draft.nodes, NodeList::new(alloc));
+            draft.nodes = nodes.with(alloc, node)?;
         }
         ListWord::RefuseName => {
             let name = word_once(alloc, false, words)?;

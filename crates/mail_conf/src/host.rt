@@ -1,15 +1,15 @@
 //! The `node` line.
 ghost use Rattle.std.specs.Prelude.{◌≡◌, ◌==◌, map, position, IfOk};
-ghost use Rattle.std.specs.List.{list_any};
-ghost use Rattle.ftn_addr.specs.Address.{address, same_address};
+ghost use Rattle.ftn_addr.specs.Address.{address};
 ghost use Rattle.mail_conf.specs.Cause.{Gives};
 ghost use Rattle.mail_conf.specs.Host.{first_host, host_and_port, host_at, host_word, is_none, is_option, node_line, password_word, without_options};
 ghost use Rattle.mail_conf.specs.Views.{node_text};
 
 use crate::domain::address_at;
+use crate::nodes::NodeList;
 use crate::values::{number_in, once, word_at};
 use crate::{ConfCause, Node};
-use ftn_addr::{Addr, Bytes, NoMemory, is_same_address};
+use ftn_addr::{Addr, Bytes, NoMemory};
 use std::alloc::Global;
 
 /// The port of binkp where none is named.
@@ -101,31 +101,20 @@ fn without_options<'a>(alloc: Global, words: &[&'a [u8]]) -> Result<Vec<&'a [u8]
     Ok(kept)
 }
 
-fn is_given(nodes: &[Node], addr: &Addr) -> bool
-    ensures { result ≡ list_any (λ node. same_address node.addr (address addr.now)) (map node_text nodes.now) }
-{
-    for node in nodes {
-        if is_same_address(&node.addr, addr) {
-            return true;
-        }
-    }
-    false
-}
-
 /// The node that the words behind `node` set: the address, the host and the password.
 #[tactic(auto, unfolding(crate::specs::Host::node_line))]
 pub(crate) fn node_line(
     alloc: Global,
     home: &Addr,
-    nodes: &[Node],
+    nodes: &NodeList,
     words: &[&[u8]],
 ) -> Result<Node, ConfCause>
     ensures { Gives node_text result
-        (node_line (address home.now) (map node_text nodes.now) (map (λ word. word.now) words.now)) }
+        (node_line (address home.now) nodes.now (map (λ word. word.now) words.now)) }
 {
     let words = without_options(alloc, words)?;
     let addr = address_at(alloc, home, word_at(words.as_slice(), 0)?)?;
-    once(is_given(nodes, &addr))?;
+    once(nodes.has(&addr))?;
     let (host, port) = host_word(words.as_slice())?;
     let password = password_word(words.as_slice());
     Ok(Node {

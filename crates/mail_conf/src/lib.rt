@@ -14,6 +14,7 @@ mod domain;
 mod draft;
 mod host;
 mod lines;
+mod nodes;
 mod reading;
 #[cfg(test)]
 mod tests;

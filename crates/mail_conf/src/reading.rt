@@ -99,7 +99,7 @@ fn settings_of(alloc: Global, line: DomainLine, draft: Draft) -> Result<Conf, No
         max_servers: draft.max_servers.unwrap_or(100),
         max_clients: draft.max_clients.unwrap_or(100),
         block: draft.block.unwrap_or(4_096),
-        nodes: draft.nodes,
+        nodes: draft.nodes.into_nodes(),
         refuse_names: draft.refuse_names,
         refuse_over: draft.refuse_over.unwrap_or(u64::MAX),
         shares: draft.shares,
