@@ -1,5 +1,5 @@
 -- Settings as far as their lines were taken (own).
-use Rattle.std.specs.Prelude.{ℕ, Bool, false, List, [], ◌∷◌, ◌++◌, Option, Some, None, is_some, Result, Ok, Err, if◌then◌else◌}
+use Rattle.std.specs.Prelude.{ℕ, Bool, false, List, [], ◌∷◌, ◌++◌, Option, Some, None, is_some, Result, Ok, if◌then◌else◌}
 use Rattle.ftn_addr.specs.Address.{Address}
 use Rattle.mail_conf.specs.Cause.{◌>>=◌}
 use Rattle.mail_conf.specs.Domain.{DomainText, address_at, domain_line, is_alias}

@@ -5,12 +5,12 @@ ghost use Rattle.mail_conf.specs.Cause.{Gives};
 ghost use Rattle.mail_conf.specs.Draft.{addresses_from, empty_draft, list_taken, number_taken, path_taken, text_taken};
 ghost use Rattle.mail_conf.specs.Drafted.{drafted};
 
+use crate::ConfCause;
 use crate::domain::{DomainLine, address_at, domain_line, is_alias};
 use crate::host::node_line;
 use crate::nodes::NodeList;
 use crate::values::{number_once, text_of, word_at, word_once};
 use crate::words::{ListWord, NumberWord, PathWord, TextWord};
-use crate::ConfCause;
 use ftn_addr::{Addr, Bytes};
 use std::alloc::Global;
 use std::mem;

@@ -1,4 +1,3 @@
-use Rattle.std.proofs.Common.{◌∙◌}
 use Rattle.ftn_addr.specs.Address.{address}
 use Rattle.mail_conf.proofs.KnownAddresses.{known_has}
 use Rattle.mail_conf.proofs.nodes.NodeList.has.Goals as goal
