@@ -1,0 +1,7 @@
+pub mod Answers
+pub mod Causes
+pub mod Changes
+pub mod Folders
+pub mod Moments
+pub mod Name
+pub mod World
