@@ -2,6 +2,8 @@ pub mod Answers
 pub mod Causes
 pub mod Changes
 pub mod Folders
+pub mod Kept
 pub mod Moments
 pub mod Name
+pub mod Undo
 pub mod World

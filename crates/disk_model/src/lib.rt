@@ -12,10 +12,12 @@
 
 mod answers;
 mod disk;
+mod memory;
 mod name;
 mod yard;
 
 pub use answers::{Copied, Giving, Hit, ListFault, Made, Marking, Moved, OutStat};
 pub use disk::Disk;
+pub use memory::Block;
 pub use name::Name;
 pub use yard::Yard;
