@@ -1,2 +1,3 @@
+mod HoldingLemmas
 mod NameLemmas
 mod UndoLemmas

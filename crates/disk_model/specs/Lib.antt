@@ -1,7 +1,9 @@
 pub mod Answers
 pub mod Causes
 pub mod Changes
+pub mod EntryLaws
 pub mod Folders
+pub mod Holding
 pub mod Kept
 pub mod Moments
 pub mod Name

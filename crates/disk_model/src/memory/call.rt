@@ -1,0 +1,29 @@
+//! What happened to a disk in memory, one item a change.
+use super::block::Block;
+use crate::Name;
+
+/// A call, or what a test put outside.
+#[derive(Debug, Drop)]
+pub enum Call {
+    /// A call that only read, or failed.
+    Nothing,
+    /// Bytes from a place on.
+    Wrote(Name, usize, Block),
+    /// Cut to a length.
+    Shortened(Name, usize),
+    Synced(Name),
+    Created(Name),
+    Removed(Name),
+    /// From the first name to the second.
+    Renamed(Name, Name),
+    /// An outside file of that path, bytes and time.
+    PutOut(Block, Block, u64),
+    /// The outside file is gone.
+    LostOut(Block),
+    /// From the path to the own name.
+    Moved(Block, Name),
+    /// An own file made anew with these bytes.
+    Copied(Name, Block),
+    /// The own name, the folder, the name in it, and their path.
+    Given(Name, Block, Block, Block),
+}

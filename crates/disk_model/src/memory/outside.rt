@@ -1,0 +1,36 @@
+//! Files of other programs, and gifts to them.
+use super::block::Block;
+use crate::Name;
+use std::marker::Model;
+
+/// An outside file.
+#[derive(Debug, Drop)]
+pub struct OutsideFile {
+    pub(super) bytes: Block,
+    pub(super) time: u64,
+}
+
+impl Model for OutsideFile {
+    ghost use Rattle.disk_model.specs.World.{OutFile};
+
+    ghost Value = { OutFile };
+
+    ghost view = { λ f. record { bytes = f.bytes; time = f.time } };
+}
+
+/// A file that was given away.
+#[derive(Debug, Drop)]
+pub struct GivenFile {
+    pub(super) own: Name,
+    pub(super) folder: Block,
+    pub(super) name: Block,
+    pub(super) bytes: Block,
+}
+
+impl Model for GivenFile {
+    ghost use Rattle.disk_model.specs.World.{Gift};
+
+    ghost Value = { Gift };
+
+    ghost view = { λ g. record { own = g.own; folder = g.folder; name = g.name; bytes = g.bytes } };
+}
