@@ -8,13 +8,16 @@ use Rattle.std.specs.Cmp.Lexicographic.{slice_cmp}
 use Rattle.disk_model.specs.World.{OutFile, Gift, World}
 use Rattle.disk_model.specs.Kept.{Kept, settled, unsynced, written_over, shortened, made_durable, chosen}
 use Rattle.disk_model.specs.declared.memory.call.Call.{Call}
-use Rattle.disk_model.specs.declared.memory.call.Call.TheVariants.{Nothing, Wrote, Shortened, Synced, Created, Removed, Renamed, PutOut, LostOut, Moved, Copied, Given}
+use Rattle.disk_model.specs.declared.memory.call.Call.TheVariants.{Nothing, Wrote, Shortened, Synced, Created, Removed, Renamed, Placed, PutOut, LostOut, Moved, Copied, Given}
 
 -- the own files and the outside files in the order of their names, and the gifts
 pub record Holding : Type 0 where
   pub own : List (List ℕ × Kept)
   pub outside : List (List ℕ × OutFile)
   pub gifts : List Gift
+
+abbrev pub empty : Holding
+empty = record { own = []; outside = []; gifts = [] }
 
 abbrev pub is_named : List ℕ → List ℕ → Bool
 is_named name = is_at (slice_cmp nat_cmp name)
@@ -68,11 +71,17 @@ play (Synced name) h = with_own (amending name made_durable h.own) h
 play (Created name) h = with_own (adding name (settled []) h.own) h
 play (Removed name) h = with_own (without name h.own) h
 play (Renamed from to) h = renamed (under from h.own) from to h
+play (Placed path bytes time) h = with_outside (adding path (record { bytes = bytes; time = time }) h.outside) h
 play (PutOut path bytes time) h = with_outside (adding path (record { bytes = bytes; time = time }) h.outside) h
 play (LostOut path) h = with_outside (without path h.outside) h
 play (Moved path name) h = moved (under path h.outside) path name h
 play (Copied name bytes) h = with_own (adding name (unsynced bytes) h.own) h
 play (Given own folder name path) h = given (under own h.own) own folder name path h
+
+-- what a test puts outside is no call
+abbrev pub is_call : Call → Bool
+is_call (Placed path bytes time) = false
+is_call x = true
 
 -- and after many
 abbrev pub replay : Holding → List Call → Holding

@@ -5,7 +5,11 @@ pub mod EntryLaws
 pub mod Folders
 pub mod Holding
 pub mod Kept
+pub mod MemoryDisk
+pub mod MemoryLaws
 pub mod Moments
 pub mod Name
+pub mod StopLaws
+pub mod TornLaws
 pub mod Undo
 pub mod World

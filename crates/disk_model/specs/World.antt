@@ -1,5 +1,5 @@
 -- What a disk holds, with the folders that it shares with other programs (own).
-use Rattle.std.specs.Prelude.{ℕ, List, Option}
+use Rattle.std.specs.Prelude.{ℕ, List, [], Option, None}
 
 -- the bytes of each name that stands
 abbrev pub Files : Type 0
@@ -22,3 +22,7 @@ pub record World : Type 0 where
   pub own : List ℕ → Option (List ℕ)
   pub outside : List ℕ → Option OutFile
   pub gifts : List Gift
+
+-- no own files, no outside files, no gifts
+abbrev pub nothing_there : World
+nothing_there = record { own = λ name. None; outside = λ path. None; gifts = [] }

@@ -18,6 +18,6 @@ mod yard;
 
 pub use answers::{Copied, Giving, Hit, ListFault, Made, Marking, Moved, OutStat};
 pub use disk::Disk;
-pub use memory::{Block, Call, Holdings};
+pub use memory::{Block, Call, Holdings, MemDisk};
 pub use name::Name;
 pub use yard::Yard;

@@ -1,10 +1,13 @@
 //! A disk in memory, which keeps its calls and plays stops.
 mod block;
 mod call;
+mod disk;
 mod file;
 mod holdings;
+mod noting;
 mod outside;
 
 pub use block::Block;
 pub use call::Call;
+pub use disk::MemDisk;
 pub use holdings::Holdings;

@@ -16,7 +16,9 @@ pub enum Call {
     Removed(Name),
     /// From the first name to the second.
     Renamed(Name, Name),
-    /// An outside file of that path, bytes and time.
+    /// A test put an outside file of that path, bytes and time. This is no call of the disk.
+    Placed(Block, Block, u64),
+    /// An outside file has that path, those bytes and that time now.
     PutOut(Block, Block, u64),
     /// The outside file is gone.
     LostOut(Block),

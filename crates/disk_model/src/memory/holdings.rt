@@ -1,6 +1,6 @@
 //! What a disk in memory keeps, and each change of it.
 ghost use Rattle.std.specs.Prelude.{◌≡◌, [], OnOk, OnErr, IfSome, IsSome, false, Option};
-ghost use Rattle.disk_model.specs.Holding.{play, is_named, under, adding, without};
+ghost use Rattle.disk_model.specs.Holding.{empty, play, is_named, under, adding, without};
 ghost use Rattle.disk_model.specs.declared.memory.call.Call.TheVariants.{Wrote, Shortened, Synced, Created, Removed, Renamed, PutOut, LostOut, Moved, Copied, Given};
 
 use super::block::Block;
@@ -30,7 +30,7 @@ impl Model for Holdings {
 
 impl Holdings {
     pub fn new(alloc: Global) -> Holdings
-        ensures { result ≡ record { own = []; outside = []; gifts = [] } }
+        ensures { result ≡ empty }
     {
         Holdings {
             own: BTreeMap::new(alloc),
@@ -58,6 +58,7 @@ impl Holdings {
                 Ok(())
             }
             Call::Renamed(from, to) => self.rename(alloc, from, to),
+            Call::Placed(path, bytes, time) => self.put_out(alloc, path, bytes, *time),
             Call::PutOut(path, bytes, time) => self.put_out(alloc, path, bytes, *time),
             Call::LostOut(path) => {
                 self.lose_out(path);

@@ -1,0 +1,83 @@
+//! Making a disk in memory, and noting its calls.
+ghost use Rattle.std.specs.Prelude.{◌≡◌, ◌≤◌, ℕ, [], None, Err, OnOk, OnErr};
+ghost use Rattle.disk_model.specs.Causes.{HasCause};
+ghost use Rattle.disk_model.specs.Holding.{Holding, replay, shown};
+ghost use Rattle.disk_model.specs.World.{nothing_there};
+ghost use Rattle.disk_model.specs.MemoryDisk.{mem_files, mem_moment, calls_in, calm, Added, Unnoted, NotedAs};
+
+use super::call::Call;
+use super::disk::MemDisk;
+use super::holdings::Holdings;
+use ftn_addr::{Failed, NoMemory};
+use std::alloc::Global;
+
+impl MemDisk {
+    /// An empty disk with no outside files. It takes no memory.
+    pub fn new(alloc: Global) -> MemDisk
+        ensures tells { mem_files result nothing_there }
+        ensures moment { mem_moment result ≡ 0 }
+    {
+        MemDisk {
+            alloc,
+            first: Holdings::new(alloc),
+            held: Holdings::new(alloc),
+            log: Vec::new(alloc),
+            calls: 0,
+            failing: Vec::new(alloc),
+            faults: 0,
+        }
+    }
+
+    /// The call of that number, counted from 1, is to fail.
+    pub fn fail_at(&mut self, call: u64) -> Result<(), NoMemory> {
+        self.failing.push(call)?;
+        Ok(())
+    }
+
+    pub(super) fn fault_count(&self) -> u64
+        ensures { result ≡ self.now.faults }
+    {
+        self.faults
+    }
+
+    // Makes the change and notes it, or finds no memory.
+    #[tactic(auto, using(crate::specs::MemoryLaws::replay_add))]
+    fn add(&mut self, call: Call) -> Result<(), NoMemory>
+        ensures ok { OnOk result (Added call self.old self.new) }
+        ensures err { OnErr result (Unnoted self.old self.new) }
+        ensures faults { self.new.faults ≡ self.old.faults }
+    {
+        self.log.reserve(1)?;
+        self.held.play(self.alloc, &call)?;
+        match self.log.push(call) {
+            Ok(()) => Ok(()),
+            Err(_) => unreachable!(),
+        }
+    }
+
+    fn fail(&mut self) -> Failed
+        ensures same { Unnoted self.old self.new }
+        ensures cause { HasCause {T = ℕ} self.old.faults self.new.faults (Err result) }
+    {
+        self.faults = self.faults.saturating_add(1);
+        Failed
+    }
+
+    // Notes a call, unless it is to fail or there is no memory.
+    pub(super) fn note(&mut self, call: Result<Call, NoMemory>) -> Result<(), Failed>
+        ensures noted { NotedAs call result self.old self.new }
+        ensures cause { HasCause self.old.faults self.new.faults result }
+    {
+        let Ok(call) = call else {
+            return Err(self.fail());
+        };
+        let number = self.calls.saturating_add(1);
+        let fails = self.failing.contains(&number);
+        let what = if fails { Call::Nothing } else { call };
+        if self.add(what).is_err() {
+            return Err(self.fail());
+        }
+        self.calls = number;
+        if fails { Err(self.fail()) } else { Ok(()) }
+    }
+}
