@@ -1,5 +1,5 @@
 -- What a disk in memory keeps, and how its calls change it (own).
-use Rattle.std.specs.Prelude.{◌≡◌, ◌⊎◌, ℕ, List, [], ◌∷◌, ◌++◌, length, Option, Some, None, option_map, Bool, true, false, not, if◌then◌else◌}
+use Rattle.std.specs.Prelude.{◌≡◌, ◌⊎◌, ℕ, List, [], ◌∷◌, ◌++◌, length, Option, Some, None, option_map, Bool, true, false, not, map, if◌then◌else◌}
 use Rattle.std.specs.List.{filter}
 use Rattle.std.specs.Map.{lookup, set_value}
 use Rattle.std.specs.BTreeMap.{is_at, insert_entry}
@@ -87,6 +87,10 @@ is_call x = true
 abbrev pub replay : Holding → List Call → Holding
 replay h [] = h
 replay h (x ∷ xs) = replay (play x h) xs
+
+-- the files all synced
+abbrev pub calm : Holding → Holding
+calm h = record { own = map (λ e. (e.0, settled e.1.written)) h.own; outside = h.outside; gifts = h.gifts }
 
 -- the world as a read gives it
 abbrev pub shown : Holding → World

@@ -35,10 +35,6 @@ run images h (x ∷ xs) c = run (λ after. (d : World) × images d × may x (sho
 abbrev pub left : Holding → List Call → World → Type 0
 left first calls c = run (λ w. w ≡ shown first) first calls c
 
--- the files all synced
-abbrev pub calm : Holding → Holding
-calm h = record { own = map (λ e. (e.0, settled e.1.written)) h.own; outside = h.outside; gifts = h.gifts }
-
 abbrev pub mem_files : MemDisk → World → Type 0
 mem_files d w = w ≡ shown d.held
 
@@ -80,3 +76,8 @@ Noted result x old new = MatchResult result (λ _. Added x old new) (λ _. Added
 abbrev pub NotedAs : {T E : Type 0} → Result Call NoMemory → Result T E → MemDisk → MemDisk → Type 0
 NotedAs (Ok x) result old new = Noted result x old new
 NotedAs (Err e) result old new = IsErr result × Unnoted old new
+
+-- the step of such a call: at Ok it was made, and else nothing changed
+abbrev pub Plays : {T E : Type 0} → Result Call NoMemory → Result T E → World → World → World → Type 0
+Plays (Ok x) result read d c = MatchResult result (λ _. may x read d c) (λ _. c ≡ d)
+Plays (Err e) result read d c = MatchResult result (λ _. ⊥) (λ _. c ≡ d)

@@ -5,10 +5,10 @@ use Rattle.std.proofs.lemmas.Bool.{cases_Bool}
 use Rattle.disk_model.specs.World.{Files, OutFile, Gift, World}
 use Rattle.disk_model.specs.Changes.{OnOwn, OnOutside, Rewrites, Torn, Cut, Puts, PutsPart, Renames, Moves, Gives}
 use Rattle.disk_model.specs.Kept.{Kept, settled, unsynced, written_over, shortened, made_durable, chosen}
-use Rattle.disk_model.specs.Holding.{Holding, is_named, under, adding, without, amending, with_own, with_outside, renamed, moved, given, play, replay, shown, picked}
+use Rattle.disk_model.specs.Holding.{Holding, is_named, under, adding, without, amending, with_own, with_outside, renamed, moved, given, play, replay, calm, shown, picked}
 use Rattle.disk_model.specs.EntryLaws.{named_same, named_is, named_other, in_adding, past_adding, in_without, past_without, in_amending, past_amending}
 use Rattle.disk_model.specs.TornLaws.{chosen_written, chosen_shortened, chosen_settled, length-chosen-le}
-use Rattle.disk_model.specs.MemoryDisk.{may, run, left, calm}
+use Rattle.disk_model.specs.MemoryDisk.{may, run, left}
 use Rattle.disk_model.specs.declared.memory.call.Call.{Call}
 use Rattle.disk_model.specs.declared.memory.call.Call.TheVariants.{Nothing, Wrote, Shortened, Synced, Created, Removed, Renamed, Placed, PutOut, LostOut, Moved as Moved', Copied, Given}
 
@@ -23,6 +23,17 @@ own_by g es = λ n. option_map (λ f. chosen (g n) f) (under n es)
 with_digit : List ℕ → ℕ → (List ℕ → ℕ) → List ℕ → ℕ
 unfolding own_by
 with_digit name digit g n = if is_named name n then digit else g n
+
+-- all as written
+abbrev Ones : (List ℕ → ℕ) → Type 0
+Ones g = (n : List ℕ) → g n ≡ 1
+
+ones_kept : (name : List ℕ) (digit : ℕ) (g : List ℕ → ℕ) → digit ≡ 1 → Ones g → Ones (with_digit name digit g)
+unfolding with_digit
+ones_kept name digit g is ones n = elim (cases_Bool (is_named name n)) [
+  | inl holds ↦ rw holds is
+  | inr fails ↦ rw fails (ones n)
+]
 
 module _ (g : List ℕ → ℕ) where
   digit_here : (name : List ℕ) (digit : ℕ) → with_digit name digit g name ≡ digit
@@ -81,9 +92,9 @@ loses_out path es = record { here = in_without path es; others = λ n other. pas
 
 -- Each call, from digits after it to digits before it.
 module _ (h : Holding) (g : List ℕ → ℕ) where
-  synced : (name : List ℕ) → (g' : List ℕ → ℕ) × may (Synced name) (shown h) (picked g' h) (picked g (play (Synced name) h))
+  synced : (name : List ℕ) → (g' : List ℕ → ℕ) × may (Synced name) (shown h) (picked g' h) (picked g (play (Synced name) h)) × (Ones g → Ones g')
   unfolding with_digit
-  synced name = (with_digit name 1 g, (whole, by_cases_read (under name h.own) refl))
+  synced name = (with_digit name 1 g, (whole, by_cases_read (under name h.own) refl), λ ones. ones_kept name 1 g refl ones)
     where
       by_cases_at : (n : List ℕ) (o : Option Kept) → under n h.own ≡ o → option_map (chosen (g n)) (under n (amending name made_durable h.own)) ≡ option_map (chosen (with_digit name 1 g n)) (under n h.own)
       by_cases_at n o at = elim (cases_Bool (is_named name n)) [
@@ -109,20 +120,20 @@ module _ (h : Holding) (g : List ℕ → ℕ) where
           by_cases_at name o at ∙ ap (λ (k : ℕ). option_map (chosen k) (under name h.own)) (digit_here g name 1)
 
   renamed_by : (from to : List ℕ) (o : Option Kept) → under from h.own ≡ o
-      → (g' : List ℕ → ℕ) × ((((shown h).own from ≡ None) × (picked g (renamed o from to h) ≡ picked g' h)) ⊎ OnOwn (Renames from to) (picked g' h) (picked g (renamed o from to h)))
-  renamed_by from to None at = (g, inl (ap (option_map (λ f. f.written)) at, refl))
+      → (g' : List ℕ → ℕ) × ((((shown h).own from ≡ None) × (picked g (renamed o from to h) ≡ picked g' h)) ⊎ OnOwn (Renames from to) (picked g' h) (picked g (renamed o from to h))) × (Ones g → Ones g')
+  renamed_by from to None at = (g, inl (ap (option_map (λ f. f.written)) at, refl), λ ones. ones)
   renamed_by from to (Some f) at = by_names (is_named from to) refl
     where
       by_names : (same : Bool) → is_named from to ≡ same
           → (g' : List ℕ → ℕ) × ((((shown h).own from ≡ None) × (picked g (if same then h else with_own (without from (adding to f h.own)) h) ≡ picked g' h))
-            ⊎ OnOwn (Renames from to) (picked g' h) (picked g (if same then h else with_own (without from (adding to f h.own)) h)))
+            ⊎ OnOwn (Renames from to) (picked g' h) (picked g (if same then h else with_own (without from (adding to f h.own)) h))) × (Ones g → Ones g')
       by_names true is =
           let one : from ≡ to = named_is from to is in
           (g, inr (record {
             own = record { moved = ap (λ (n : List ℕ). option_map (chosen (g n)) (under n h.own)) (sym one); gone = λ other. absurd (other one); others = λ n a b. refl };
             outside = refl;
             gifts = refl;
-          }))
+          }), λ ones. ones)
       by_names false is =
           let apart : from ≢ to = λ one. absurd (cc (ap (is_named from) (sym one), named_same from, is)) in
           (with_digit from (g to) g, inr (record {
@@ -135,24 +146,24 @@ module _ (h : Holding) (g : List ℕ → ℕ) where
             };
             outside = refl;
             gifts = refl;
-          }))
+          }), λ ones. ones_kept from (g to) g (ones to) ones)
 
   moved_by : (path name : List ℕ) (o : Option OutFile) → under path h.outside ≡ o
-      → (g' : List ℕ → ℕ) × (((under path h.outside ≡ None) × (picked g (moved o path name h) ≡ picked g' h)) ⊎ Moves path name (picked g' h) (picked g (moved o path name h)))
+      → (g' : List ℕ → ℕ) × (((under path h.outside ≡ None) × (picked g (moved o path name h) ≡ picked g' h)) ⊎ Moves path name (picked g' h) (picked g (moved o path name h))) × (Ones g → Ones g')
   unfolding own_by
-  moved_by path name None at = (g, inl (at, refl))
+  moved_by path name None at = (g, inl (at, refl), λ ones. ones)
   moved_by path name (Some file) at = (g, inr (record {
     file = file;
     was = at;
     gone = loses_out path h.outside;
     own = added g name (settled file.bytes) file.bytes h.own (λ digit. chosen_settled digit file.bytes);
     gifts = refl;
-  }))
+  }), λ ones. ones)
 
   given_by : (own folder name path : List ℕ) (o : Option Kept) → under own h.own ≡ o
-      → (g' : List ℕ → ℕ) × ((((shown h).own own ≡ None) × (picked g (given o own folder name path h) ≡ picked g' h)) ⊎ Gives own folder name path (picked g' h) (picked g (given o own folder name path h)))
+      → (g' : List ℕ → ℕ) × ((((shown h).own own ≡ None) × (picked g (given o own folder name path h) ≡ picked g' h)) ⊎ Gives own folder name path (picked g' h) (picked g (given o own folder name path h))) × (Ones g → Ones g')
   unfolding with_digit
-  given_by own folder name path None at = (g, inl (ap (option_map (λ f. f.written)) at, refl))
+  given_by own folder name path None at = (g, inl (ap (option_map (λ f. f.written)) at, refl), λ ones. ones)
   given_by own folder name path (Some f) at = (with_digit own 1 g, inr (record {
     bytes = f.written;
     time = 0;
@@ -163,24 +174,31 @@ module _ (h : Holding) (g : List ℕ → ℕ) where
     };
     outside = puts_out path (record { bytes = f.written; time = 0 }) h.outside;
     gifts = refl;
-  }))
+  }), λ ones. ones_kept own 1 g refl ones)
 
 -- each call, from digits after it to digits before it
-picked_step : (x : Call) (h : Holding) (g : List ℕ → ℕ) → (g' : List ℕ → ℕ) × may x (shown h) (picked g' h) (picked g (play x h))
+picked_step : (x : Call) (h : Holding) (g : List ℕ → ℕ) → (g' : List ℕ → ℕ) × may x (shown h) (picked g' h) (picked g (play x h)) × (Ones g → Ones g')
 unfolding own_by
-picked_step Nothing h g = (g, refl)
-picked_step (Wrote name at bytes) h g = (g, record { own = rewritten g name (written_over at bytes) (Torn at (length bytes)) h.own (λ digit f. chosen_written digit at bytes f); outside = refl; gifts = refl })
-picked_step (Shortened name len) h g = (g, record { own = rewritten g name (shortened len) (Cut len) h.own (λ digit f. chosen_shortened digit len f); outside = refl; gifts = refl })
+picked_step Nothing h g = (g, refl, λ ones. ones)
+picked_step (Wrote name at bytes) h g = (g, record { own = rewritten g name (written_over at bytes) (Torn at (length bytes)) h.own (λ digit f. chosen_written digit at bytes f); outside = refl; gifts = refl }, λ ones. ones)
+picked_step (Shortened name len) h g = (g, record { own = rewritten g name (shortened len) (Cut len) h.own (λ digit f. chosen_shortened digit len f); outside = refl; gifts = refl }, λ ones. ones)
 picked_step (Synced name) h g = synced h g name
-picked_step (Created name) h g = (g, record { own = added g name (settled []) [] h.own (λ digit. chosen_settled digit []); outside = refl; gifts = refl })
-picked_step (Removed name) h g = (g, record { own = taken_out g name h.own; outside = refl; gifts = refl })
+picked_step (Created name) h g = (g, record { own = added g name (settled []) [] h.own (λ digit. chosen_settled digit []); outside = refl; gifts = refl }, λ ones. ones)
+picked_step (Removed name) h g = (g, record { own = taken_out g name h.own; outside = refl; gifts = refl }, λ ones. ones)
 picked_step (Renamed from to) h g = renamed_by h g from to (under from h.own) refl
-picked_step (Placed path bytes time) h g = (g, record { own = refl; outside = puts_out path (record { bytes = bytes; time = time }) h.outside; gifts = refl })
-picked_step (PutOut path bytes time) h g = (g, record { own = refl; outside = puts_out path (record { bytes = bytes; time = time }) h.outside; gifts = refl })
-picked_step (LostOut path) h g = (g, record { own = refl; outside = loses_out path h.outside; gifts = refl })
+picked_step (Placed path bytes time) h g = (g, record { own = refl; outside = puts_out path (record { bytes = bytes; time = time }) h.outside; gifts = refl }, λ ones. ones)
+picked_step (PutOut path bytes time) h g = (g, record { own = refl; outside = puts_out path (record { bytes = bytes; time = time }) h.outside; gifts = refl }, λ ones. ones)
+picked_step (LostOut path) h g = (g, record { own = refl; outside = loses_out path h.outside; gifts = refl }, λ ones. ones)
 picked_step (Moved' path name) h g = moved_by h g path name (under path h.outside) refl
-picked_step (Copied name bytes) h g = (g, record { own = added_in_part g name bytes h.own; outside = refl; gifts = refl })
+picked_step (Copied name bytes) h g = (g, record { own = added_in_part g name bytes h.own; outside = refl; gifts = refl }, λ ones. ones)
 picked_step (Given own folder name path) h g = given_by h g own folder name path (under own h.own) refl
+
+-- a call that is done as a whole
+pub whole : (x : Call) (h : Holding) → may x (shown h) (shown h) (shown (play x h))
+whole x h =
+    let step = picked_step x h (λ _. 1) in
+    let same : step.0 ≡ (λ _. 1) = λ i n. step.2 (λ m. refl) n i in
+    subst (λ (g : List ℕ → ℕ). may x (shown h) (picked g h) (shown (play x h))) same step.1
 
 pub picked_in_run : (images : World → Type 0) (h : Holding) (xs : List Call) (g : List ℕ → ℕ) → ((digits : List ℕ → ℕ) → images (picked digits h)) → run images h xs (picked g (replay h xs))
 picked_in_run images h [] g all = all g

@@ -1,6 +1,6 @@
 //! A disk in memory.
 ghost use Rattle.std.specs.Prelude.{◌≡◌};
-ghost use Rattle.disk_model.specs.Holding.{replay};
+ghost use Rattle.disk_model.specs.Holding.{calm, replay};
 
 use super::call::Call;
 use super::holdings::Holdings;
@@ -17,4 +17,5 @@ pub struct MemDisk {
     pub(super) failing: Vec<u64>,
     pub(super) faults: u64,
     ghost replayed: { held ≡ replay first log.items },
+    ghost synced: { first ≡ calm first },
 }

@@ -1,9 +1,11 @@
 //! Making a disk in memory, and noting its calls.
-ghost use Rattle.std.specs.Prelude.{◌≡◌, ◌≤◌, ℕ, [], None, Err, OnOk, OnErr};
+ghost use Rattle.std.specs.Prelude.{◌≡◌, ◌≤◌, ℕ, [], None, Err, IfOk, OnOk, OnErr};
 ghost use Rattle.disk_model.specs.Causes.{HasCause};
-ghost use Rattle.disk_model.specs.Holding.{Holding, replay, shown};
+ghost use Rattle.disk_model.specs.Changes.{Follows};
+ghost use Rattle.disk_model.specs.Moments.{Steps};
+ghost use Rattle.disk_model.specs.Holding.{Holding, empty, play, replay, shown};
 ghost use Rattle.disk_model.specs.World.{nothing_there};
-ghost use Rattle.disk_model.specs.MemoryDisk.{mem_files, mem_moment, calls_in, calm, Added, Unnoted, NotedAs};
+ghost use Rattle.disk_model.specs.MemoryDisk.{mem_files, mem_moment, mem_images, calls_in, Added, Unnoted, NotedAs, Plays};
 
 use super::call::Call;
 use super::disk::MemDisk;
@@ -63,8 +65,17 @@ impl MemDisk {
         Failed
     }
 
-    // Notes a call, unless it is to fail or there is no memory.
+    /// Notes a call, unless it is to fail or there is no memory: then nothing changes.
     pub(super) fn note(&mut self, call: Result<Call, NoMemory>) -> Result<(), Failed>
+        ensures done { OnOk result (IfOk call (λ x. self.new.held ≡ play x self.old.held)) }
+        ensures read { Follows (Plays call result (shown self.old.held)) (mem_files self.old) (mem_files self.new) }
+        ensures stop { Steps mem_moment mem_images (Plays call result (shown self.old.held)) self.old self.new }
+        ensures cause { HasCause self.old.faults self.new.faults result }
+    {
+        self.enter(call)
+    }
+
+    fn enter(&mut self, call: Result<Call, NoMemory>) -> Result<(), Failed>
         ensures noted { NotedAs call result self.old self.new }
         ensures cause { HasCause self.old.faults self.new.faults result }
     {
