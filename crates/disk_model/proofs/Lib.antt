@@ -1,3 +1,5 @@
 mod HoldingLemmas
 mod NameLemmas
+mod OwnLemmas
+mod PlayLemmas
 mod UndoLemmas

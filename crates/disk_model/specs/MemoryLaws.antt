@@ -78,8 +78,8 @@ module _ (old new : MemDisk) where
   plays_reads (Err f) (Ok v) none = absurd (cc none.0)
   plays_reads (Err f) (Err e) none = reads (λ d c. c ≡ d) old.held none.1.held refl
 
-  pub plays_done : {T E : Type 0} (call : Result Call NoMemory) (result : Result T E) → NotedAs call result old new → OnOk result (IfOk call (λ x. new.held ≡ play x old.held))
+  pub plays_done : {T E : Type 0} (call : Result Call NoMemory) (result : Result T E) → NotedAs call result old new → OnOk result (MatchResult call (λ x. new.held ≡ play x old.held) (λ _. ⊥))
   plays_done (Ok x) (Ok v) noted = noted.held
   plays_done (Ok x) (Err e) noted = tt
-  plays_done (Err f) (Ok v) none = tt
+  plays_done (Err f) (Ok v) none = absurd (cc none.0)
   plays_done (Err f) (Err e) none = tt

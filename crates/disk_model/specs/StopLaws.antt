@@ -16,12 +16,11 @@ same_files : {X : Type 0} (f g : List ℕ → Option X) → ((n : List ℕ) → 
 same_files f g same = λ i n. same n i
 
 -- the own files by digits
-own_by : (List ℕ → ℕ) → List (List ℕ × Kept) → Files
+abbrev pub own_by : (List ℕ → ℕ) → List (List ℕ × Kept) → Files
 own_by g es = λ n. option_map (λ f. chosen (g n) f) (under n es)
 
 -- one name has the digit, and the others theirs
 with_digit : List ℕ → ℕ → (List ℕ → ℕ) → List ℕ → ℕ
-unfolding own_by
 with_digit name digit g n = if is_named name n then digit else g n
 
 -- all as written
@@ -44,9 +43,8 @@ module _ (g : List ℕ → ℕ) where
   unfolding with_digit
   digit_past name n digit other = let apart = named_other name n other in rw apart refl
 
-  rewritten : (name : List ℕ) (how : Kept → Kept) (R : List ℕ → List ℕ → Type 0) (es : List (List ℕ × Kept)) → ((digit : ℕ) (f : Kept) → R (chosen digit f) (chosen digit (how f)))
+  pub rewritten : (name : List ℕ) (how : Kept → Kept) (R : List ℕ → List ℕ → Type 0) (es : List (List ℕ × Kept)) → ((f : Kept) → under name es ≡ Some f → R (chosen (g name) f) (chosen (g name) (how f)))
       → Rewrites name R (own_by g es) (own_by g (amending name how es))
-  unfolding own_by
   rewritten name how R es law = record {
     file = λ b is. stands (under name es) refl b is;
     absent = λ none. absent (under name es) refl none;
@@ -58,27 +56,24 @@ module _ (g : List ℕ → ℕ) where
       stands None at b is = absurd (cc (ap (option_map (chosen (g name))) at, is))
       stands (Some f) at b is =
           let same : chosen (g name) f ≡ b = cc (ap (option_map (chosen (g name))) at, is) in
-          (chosen (g name) (how f), ap (option_map (chosen (g name))) (in_amending name how es ∙ ap (option_map how) at), subst (λ (x : List ℕ). R x (chosen (g name) (how f))) same (law (g name) f))
+          (chosen (g name) (how f), ap (option_map (chosen (g name))) (in_amending name how es ∙ ap (option_map how) at), subst (λ (x : List ℕ). R x (chosen (g name) (how f))) same (law f at))
       absent : (o : Option Kept) → under name es ≡ o → option_map (chosen (g name)) (under name es) ≡ None → option_map (chosen (g name)) (under name (amending name how es)) ≡ None
       absent None at none = ap (option_map (chosen (g name))) (in_amending name how es ∙ ap (option_map how) at)
       absent (Some f) at none = absurd (cc (ap (option_map (chosen (g name))) at, none))
 
   added : (name : List ℕ) (f : Kept) (b : List ℕ) (es : List (List ℕ × Kept)) → ((digit : ℕ) → chosen digit f ≡ b) → Puts name (Some b) (own_by g es) (own_by g (adding name f es))
-  unfolding own_by
   added name f b es law = record {
     here = ap (option_map (chosen (g name))) (in_adding name f es) ∙ ap Some (law (g name));
     others = λ n other. ap (option_map (chosen (g n))) (past_adding n name f es other);
   }
 
   taken_out : (name : List ℕ) (es : List (List ℕ × Kept)) → Puts name None (own_by g es) (own_by g (without name es))
-  unfolding own_by
   taken_out name es = record {
     here = ap (option_map (chosen (g name))) (in_without name es);
     others = λ n other. ap (option_map (chosen (g n))) (past_without n name es other);
   }
 
   added_in_part : (name b : List ℕ) (es : List (List ℕ × Kept)) → PutsPart name (length b) (own_by g es) (own_by g (adding name (unsynced b) es))
-  unfolding own_by
   added_in_part name b es = record {
     here = inr (inr (chosen (g name) (unsynced b), ap (option_map (chosen (g name))) (in_adding name (unsynced b) es), length-chosen-le (g name) (unsynced b) (omega arith)));
     others = λ n other. ap (option_map (chosen (g n))) (past_adding n name (unsynced b) es other);
@@ -150,7 +145,6 @@ module _ (h : Holding) (g : List ℕ → ℕ) where
 
   moved_by : (path name : List ℕ) (o : Option OutFile) → under path h.outside ≡ o
       → (g' : List ℕ → ℕ) × (((under path h.outside ≡ None) × (picked g (moved o path name h) ≡ picked g' h)) ⊎ Moves path name (picked g' h) (picked g (moved o path name h))) × (Ones g → Ones g')
-  unfolding own_by
   moved_by path name None at = (g, inl (at, refl), λ ones. ones)
   moved_by path name (Some file) at = (g, inr (record {
     file = file;
@@ -178,10 +172,9 @@ module _ (h : Holding) (g : List ℕ → ℕ) where
 
 -- each call, from digits after it to digits before it
 picked_step : (x : Call) (h : Holding) (g : List ℕ → ℕ) → (g' : List ℕ → ℕ) × may x (shown h) (picked g' h) (picked g (play x h)) × (Ones g → Ones g')
-unfolding own_by
 picked_step Nothing h g = (g, refl, λ ones. ones)
-picked_step (Wrote name at bytes) h g = (g, record { own = rewritten g name (written_over at bytes) (Torn at (length bytes)) h.own (λ digit f. chosen_written digit at bytes f); outside = refl; gifts = refl }, λ ones. ones)
-picked_step (Shortened name len) h g = (g, record { own = rewritten g name (shortened len) (Cut len) h.own (λ digit f. chosen_shortened digit len f); outside = refl; gifts = refl }, λ ones. ones)
+picked_step (Wrote name at bytes) h g = (g, record { own = rewritten g name (written_over at bytes) (Torn at (length bytes)) h.own (λ f _. chosen_written (g name) at bytes f); outside = refl; gifts = refl }, λ ones. ones)
+picked_step (Shortened name len) h g = (g, record { own = rewritten g name (shortened len) (Cut len) h.own (λ f _. chosen_shortened (g name) len f); outside = refl; gifts = refl }, λ ones. ones)
 picked_step (Synced name) h g = synced h g name
 picked_step (Created name) h g = (g, record { own = added g name (settled []) [] h.own (λ digit. chosen_settled digit []); outside = refl; gifts = refl }, λ ones. ones)
 picked_step (Removed name) h g = (g, record { own = taken_out g name h.own; outside = refl; gifts = refl }, λ ones. ones)

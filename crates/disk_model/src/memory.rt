@@ -6,6 +6,8 @@ mod file;
 mod holdings;
 mod noting;
 mod outside;
+mod own_calls;
+mod own_files;
 
 pub use block::Block;
 pub use call::Call;

@@ -15,9 +15,9 @@ use std::marker::Model;
 
 #[derive(Drop)]
 pub struct Holdings {
-    own: BTreeMap<Name, MemFile>,
-    outside: BTreeMap<Block, OutsideFile>,
-    gifts: Vec<GivenFile>,
+    pub(super) own: BTreeMap<Name, MemFile>,
+    pub(super) outside: BTreeMap<Block, OutsideFile>,
+    pub(super) gifts: Vec<GivenFile>,
 }
 
 impl Model for Holdings {

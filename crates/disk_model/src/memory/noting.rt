@@ -1,7 +1,7 @@
 //! Making a disk in memory, and noting its calls.
-ghost use Rattle.std.specs.Prelude.{◌≡◌, ◌≤◌, ℕ, [], None, Err, IfOk, OnOk, OnErr};
+ghost use Rattle.std.specs.Prelude.{◌≡◌, ◌≤◌, ℕ, [], None, Err, MatchResult, OnOk, OnErr};
 ghost use Rattle.disk_model.specs.Causes.{HasCause};
-ghost use Rattle.disk_model.specs.Changes.{Follows};
+ghost use Rattle.disk_model.specs.Changes.{Every, Follows, Same};
 ghost use Rattle.disk_model.specs.Moments.{Steps};
 ghost use Rattle.disk_model.specs.Holding.{Holding, empty, play, replay, shown};
 ghost use Rattle.disk_model.specs.World.{nothing_there};
@@ -67,12 +67,22 @@ impl MemDisk {
 
     /// Notes a call, unless it is to fail or there is no memory: then nothing changes.
     pub(super) fn note(&mut self, call: Result<Call, NoMemory>) -> Result<(), Failed>
-        ensures done { OnOk result (IfOk call (λ x. self.new.held ≡ play x self.old.held)) }
+        ensures done { OnOk result (MatchResult call (λ x. self.new.held ≡ play x self.old.held) (λ _. ⊥)) }
         ensures read { Follows (Plays call result (shown self.old.held)) (mem_files self.old) (mem_files self.new) }
         ensures stop { Steps mem_moment mem_images (Plays call result (shown self.old.held)) self.old self.new }
         ensures cause { HasCause self.old.faults self.new.faults result }
     {
         self.enter(call)
+    }
+
+    /// Notes a call that changes nothing.
+    pub(super) fn pass(&mut self) -> Result<(), Failed>
+        ensures held { OnOk result (self.new.held ≡ self.old.held) }
+        ensures read { Every (mem_files self.new) (mem_files self.old) }
+        ensures stop { Steps mem_moment mem_images Same self.old self.new }
+        ensures cause { HasCause self.old.faults self.new.faults result }
+    {
+        self.note(Ok(Call::Nothing))
     }
 
     fn enter(&mut self, call: Result<Call, NoMemory>) -> Result<(), Failed>
