@@ -1,6 +1,6 @@
 -- From the step of a noted call to the step that a clause names.
-use Rattle.std.proofs.Common.{◌≡◌, ◌⊎◌, inl, inr, ℕ, List, Option, Some, None, Result, Ok, Err, refl, sym, ◌∙◌, ap, subst}
-use Rattle.std.specs.Prelude.{IfOk, OnOk, MatchResult, option_map}
+use Rattle.std.proofs.Common.{◌≡◌, ◌⊎◌, inl, inr, ℕ, List, Option, Some, None, true, Result, Ok, Err, refl, sym, ◌∙◌, ap, subst}
+use Rattle.std.specs.Prelude.{IfOk, OnOk, MatchResult, option_map, is_some}
 use Rattle.ftn_addr.specs.declared.refusals.NoMemory.{NoMemory}
 use Rattle.disk_model.specs.World.{Files, World}
 use Rattle.disk_model.specs.Changes.{Every, Follows, Same, AtOnce, OnOwn}
@@ -51,3 +51,15 @@ done_of (Ok y) (Ok v) x old new is done = done ∙ ap (λ (z : Call). play z old
 done_of (Ok y) (Err e) x old new is done = tt
 done_of (Err f) (Ok v) x old new is done = absurd done
 done_of (Err f) (Err e) x old new is done = tt
+
+-- nothing changed, in a call that may have failed
+pub at_once_unchanged : {T : Type 0} (step : T → World → World → Type 0) (old new : World → Type 0) → Every new old → Follows (λ d c. (c ≡ d) ⊎ ((answer : T) × step answer d c)) old new
+at_once_unchanged step old new every w now = (w, every w now, inl refl)
+
+pub at_once_failed : {T : Type 0} (step : T → World → World → Type 0) (old new : World → Type 0) → Follows (λ d c. c ≡ d) old new → Follows (λ d c. (c ≡ d) ⊎ ((answer : T) × step answer d c)) old new
+at_once_failed step old new follows w now = let was = follows w now in (was.0, was.1, inl was.2)
+
+-- a file that was found
+pub found_of : {X : Type 0} (o : Option X) → is_some o ≡ true → (x : X) × (o ≡ Some x)
+found_of None is = absurd (cc is)
+found_of (Some x) is = (x, refl)

@@ -1,5 +1,6 @@
 -- The names that stand in a folder of outside files (own).
-use Rattle.std.specs.Prelude.{◌≡◌, ◌≢◌, ◌⊎◌, ◌↔◌, ℕ, List, [], ◌∷◌, ◌++◌, Option, Some, None, Contains, if◌then◌else◌, ◌||◌}
+use Rattle.std.specs.Prelude.{◌≡◌, ◌≢◌, ◌⊎◌, ◌↔◌, ℕ, List, [], ◌∷◌, ◌++◌, Option, Some, None, Contains, if◌then◌else◌, ◌||◌, ◌&&◌, ◌+◌, length, take, drop, not, nat_eq, Bool, true, false}
+use Rattle.std.specs.List.{before_first, list_any}
 use Rattle.std.specs.Str.{bytes_eq}
 use Rattle.std.specs.Ordering.{nat_cmp}
 use Rattle.std.specs.Cmp.Lexicographic.{slice_cmp}
@@ -14,6 +15,24 @@ front_of folder = if bytes_eq folder [] || bytes_eq folder (47 ∷ []) then fold
 abbrev pub path_in : List ℕ → List ℕ → List ℕ
 path_in folder name = front_of folder ++ name
 
+-- nothing, or what begins with '/'
+abbrev pub begins_below : List ℕ → Bool
+begins_below [] = true
+begins_below (b ∷ bs) = nat_eq b 47
+
+-- whether a path is that of a file or folder, or lies below it
+abbrev pub is_at_or_below : List ℕ → List ℕ → Bool
+is_at_or_below path at = if bytes_eq (take (length path) at) path then begins_below (drop (length path) at) else false
+
+-- The name in a folder through which a path leads: what stands behind the folder's front, up to the next '/'. None is
+-- empty.
+abbrev pub entry_of : List ℕ → List ℕ → List ℕ
+entry_of front path = if bytes_eq (take (length front) path) front then before_first (λ b. nat_eq b 47) (drop (length front) path) else []
+
+-- whether a path leads through that name
+abbrev pub leads_to : List ℕ → List ℕ → List ℕ → Bool
+leads_to front name path = not (bytes_eq (entry_of front path) []) && bytes_eq name (entry_of front path)
+
 -- a file stands under the path, or below it
 pub record IsInUse (path : List ℕ) (outside : List ℕ → Option OutFile) : Type 0 where
   pub at : List ℕ
@@ -24,7 +43,7 @@ pub record IsInUse (path : List ℕ) (outside : List ℕ → Option OutFile) : T
 -- the name of a file or folder: not empty, and without '/'
 pub record IsEntryName (name : List ℕ) : Type 0 where
   pub some : name ≢ []
-  pub one : Contains name 47 → ⊥
+  pub one : list_any (λ b. nat_eq b 47) name ≡ false
 
 -- names that ascend by their bytes, each once
 abbrev pub Ascend : List (List ℕ) → Type 0

@@ -50,7 +50,7 @@ module _ (old new : MemDisk) where
       size : length new.log.items ≡ length old.log.items + 1
       size = omega (arith, ap length is.log, length-append old.log.items (x ∷ []))
 
-  unnoted_steps : (R : World → World → Type 0) → Unnoted old new → ((c : World) → R c c) → Steps mem_moment mem_images R old new
+  pub unnoted_steps : (R : World → World → Type 0) → Unnoted old new → ((c : World) → R c c) → Steps mem_moment mem_images R old new
   unnoted_steps R is same = record {
     later = omega (arith, ap length is.log);
     next = omega (arith, ap length is.log);

@@ -61,9 +61,9 @@ module _ (g : List ℕ → ℕ) where
       absent None at none = ap (option_map (chosen (g name))) (in_amending name how es ∙ ap (option_map how) at)
       absent (Some f) at none = absurd (cc (ap (option_map (chosen (g name))) at, none))
 
-  added : (name : List ℕ) (f : Kept) (b : List ℕ) (es : List (List ℕ × Kept)) → ((digit : ℕ) → chosen digit f ≡ b) → Puts name (Some b) (own_by g es) (own_by g (adding name f es))
+  pub added : (name : List ℕ) (f : Kept) (b : List ℕ) (es : List (List ℕ × Kept)) → chosen (g name) f ≡ b → Puts name (Some b) (own_by g es) (own_by g (adding name f es))
   added name f b es law = record {
-    here = ap (option_map (chosen (g name))) (in_adding name f es) ∙ ap Some (law (g name));
+    here = ap (option_map (chosen (g name))) (in_adding name f es) ∙ ap Some law;
     others = λ n other. ap (option_map (chosen (g n))) (past_adding n name f es other);
   }
 
@@ -150,7 +150,7 @@ module _ (h : Holding) (g : List ℕ → ℕ) where
     file = file;
     was = at;
     gone = loses_out path h.outside;
-    own = added g name (settled file.bytes) file.bytes h.own (λ digit. chosen_settled digit file.bytes);
+    own = added g name (settled file.bytes) file.bytes h.own (chosen_settled (g name) file.bytes);
     gifts = refl;
   }), λ ones. ones)
 
@@ -176,7 +176,7 @@ picked_step Nothing h g = (g, refl, λ ones. ones)
 picked_step (Wrote name at bytes) h g = (g, record { own = rewritten g name (written_over at bytes) (Torn at (length bytes)) h.own (λ f _. chosen_written (g name) at bytes f); outside = refl; gifts = refl }, λ ones. ones)
 picked_step (Shortened name len) h g = (g, record { own = rewritten g name (shortened len) (Cut len) h.own (λ f _. chosen_shortened (g name) len f); outside = refl; gifts = refl }, λ ones. ones)
 picked_step (Synced name) h g = synced h g name
-picked_step (Created name) h g = (g, record { own = added g name (settled []) [] h.own (λ digit. chosen_settled digit []); outside = refl; gifts = refl }, λ ones. ones)
+picked_step (Created name) h g = (g, record { own = added g name (settled []) [] h.own (chosen_settled (g name) []); outside = refl; gifts = refl }, λ ones. ones)
 picked_step (Removed name) h g = (g, record { own = taken_out g name h.own; outside = refl; gifts = refl }, λ ones. ones)
 picked_step (Renamed from to) h g = renamed_by h g from to (under from h.own) refl
 picked_step (Placed path bytes time) h g = (g, record { own = refl; outside = puts_out path (record { bytes = bytes; time = time }) h.outside; gifts = refl }, λ ones. ones)

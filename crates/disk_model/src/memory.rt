@@ -6,8 +6,10 @@ mod file;
 mod holdings;
 mod noting;
 mod outside;
+mod outside_files;
 mod own_calls;
 mod own_files;
+mod yard_calls;
 
 pub use block::Block;
 pub use call::Call;

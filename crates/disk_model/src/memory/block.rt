@@ -1,7 +1,7 @@
 //! A list of bytes that never changes.
 ghost use Rattle.std.specs.Prelude.{◌≡◌, IfOk, [], length};
 
-use ftn_addr::NoMemory;
+use ftn_addr::{Bytes, NoMemory};
 use std::alloc::Global;
 use std::cmp::Ordering;
 use std::marker::Model;
@@ -35,6 +35,12 @@ impl Block {
     {
         let items = Vec::from_slice(alloc, bytes)?;
         Ok(Block { items })
+    }
+
+    pub fn from_bytes(alloc: Global, bytes: &Bytes) -> Result<Block, NoMemory>
+        ensures { IfOk result (λ block. block ≡ bytes.now.list) }
+    {
+        Block::from_slice(alloc, bytes.as_slice())
     }
 
     pub fn from_vec(items: Vec<u8>) -> Block

@@ -85,6 +85,15 @@ impl MemDisk {
         self.note(Ok(Call::Nothing))
     }
 
+    /// A call that finds no memory: nothing changes but the count.
+    pub(super) fn no_memory(&mut self) -> Failed
+        ensures read { Every (mem_files self.new) (mem_files self.old) }
+        ensures stop { Steps mem_moment mem_images Same self.old self.new }
+        ensures cause { HasCause {T = ℕ} self.old.faults self.new.faults (Err result) }
+    {
+        self.fail()
+    }
+
     fn enter(&mut self, call: Result<Call, NoMemory>) -> Result<(), Failed>
         ensures noted { NotedAs call result self.old self.new }
         ensures cause { HasCause self.old.faults self.new.faults result }
