@@ -1,9 +1,10 @@
 -- A file in memory: what is taken back is what was there.
-use Rattle.std.proofs.Common.{◌≡◌, ℕ, ◌+◌, ◌-◌, ◌≤◌, ◌<◌, min, List, [], ◌∷◌, ◌++◌, length, take, drop, map, true, inl, inr, refl, sym, ◌∙◌, ap, subst, arith, length-append, length-drop, length-take, append_assoc, take-append-drop}
-use Rattle.std.specs.Prelude.{nat_le}
+use Rattle.std.proofs.Common.{◌≡◌, ℕ, ◌+◌, ◌-◌, ◌≤◌, ◌<◌, min, List, [], ◌∷◌, ◌++◌, length, get_or, take, drop, map, true, inl, inr, refl, sym, ◌∙◌, ap, subst, arith, length-append, length-drop, length-take, append_assoc, take-append-drop}
+use Rattle.std.specs.Prelude.{nat_le, nat_lt, ◌&&◌, ◌||◌, Bool, if◌then◌else◌}
+use Rattle.std.specs.List.{list_any}
 use Rattle.std.proofs.lemmas.Bool.{le-leb, cases_lt}
-use Rattle.std.proofs.lemmas.List.{append-nil, map-append, take_at, drop_at, take_all, drop_all, take-take, take-append-le, drop-append-le, length-take-le, drop-drop}
-use Rattle.disk_model.specs.Kept.{Kept, splice, written_over, shortened}
+use Rattle.std.proofs.lemmas.List.{append-nil, map-append, take_at, drop_at, take_all, drop_all, take-take, take-append-le, drop-append-le, length-take-le, drop-drop, take_more}
+use Rattle.disk_model.specs.Kept.{Kept, splice, written_over, shortened, is_open, spoiled}
 use Rattle.disk_model.specs.Undo.{taken_back, all_taken_back, range_of, kept_file}
 use Rattle.disk_model.specs.declared.memory.file.Change.{Change}
 
@@ -92,3 +93,24 @@ file_written b cs at bytes b' cs' le now pushed =
 
 pub all_of_rest : (b : List ℕ) (n : ℕ) → take (length b - n) (drop n b) ≡ drop n b
 all_of_rest b n = take_all (length b - n) (drop n b) (omega (arith, length-drop n b))
+
+pub open_ranges : (cs : List Change) (k : ℕ) → list_any (λ c. nat_le c.at k && nat_lt k (c.at + c.len)) cs ≡ is_open (map range_of cs) k
+open_ranges [] k = refl
+open_ranges (c ∷ cs) k = ap (λ (b : Bool). (nat_le c.at k && nat_lt k (c.at + c.len)) || b) (open_ranges cs k)
+
+spoiled_push : (how : ℕ → ℕ) (R : List (ℕ × ℕ)) (k : ℕ) (xs : List ℕ) (x : ℕ) → spoiled how R k (xs ++ x ∷ []) ≡ spoiled how R k xs ++ (if is_open R (k + length xs) then how x else x) ∷ []
+spoiled_push how R k [] x = ap (λ (i : ℕ). (if is_open R i then how x else x) ∷ []) (omega arith)
+spoiled_push how R k (y ∷ ys) x =
+    ap (λ (l : List ℕ). (if is_open R k then how y else y) ∷ l)
+    (spoiled_push how R (k + 1) ys x ∙ ap (λ (i : ℕ). spoiled how R (k + 1) ys ++ (if is_open R i then how x else x) ∷ []) (omega arith))
+
+pub spoiled_more : (how : ℕ → ℕ) (R : List (ℕ × ℕ)) (xs : List ℕ) (i : ℕ) → i < length xs
+    → spoiled how R 0 (take (i + 1) xs) ≡ spoiled how R 0 (take i xs) ++ (if is_open R i then how (get_or xs i 0) else get_or xs i 0) ∷ []
+spoiled_more how R xs i lt =
+    ap (spoiled how R 0) (take_more xs i 0 lt) ∙ spoiled_push how R 0 (take i xs) (get_or xs i 0)
+    ∙ ap (λ (n : ℕ). spoiled how R 0 (take i xs) ++ (if is_open R n then how (get_or xs i 0) else get_or xs i 0) ∷ []) (omega (arith, length-take-le i xs (omega arith)))
+
+-- one change less is left to be taken back
+pub taken_back_last : (cs : List Change) (n : ℕ) (c : Change) (b : List ℕ) → n < length cs → c ≡ get_or cs n c → all_taken_back (take (n + 1) cs) b ≡ all_taken_back (take n cs) (taken_back c b)
+taken_back_last cs n c b lt is =
+    ap (λ (l : List Change). all_taken_back l b) (take_more cs n c lt ∙ ap (λ (x : Change). take n cs ++ x ∷ []) (sym is)) ∙ all_taken_back-append (take n cs) c b

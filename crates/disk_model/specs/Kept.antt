@@ -44,9 +44,11 @@ abbrev pub spoiled : (ℕ → ℕ) → List (ℕ × ℕ) → ℕ → List ℕ �
 spoiled how ranges k [] = []
 spoiled how ranges k (b ∷ bs) = (if is_open ranges k then how b else b) ∷ spoiled how ranges (k + 1) bs
 
--- What a stop leaves of the file: by the digit 0 what the last sync left, by 1 all as written, by 2 each unsynced byte
--- as 255 minus it, by 3 each unsynced byte as 1.
+-- what an unsynced byte may be: by the digit 2 255 minus it, by 3 the byte 1
+abbrev pub spoilt_by : ℕ → ℕ → ℕ
+spoilt_by digit b = if nat_eq digit 2 then 255 - b else 1
+
+-- What a stop leaves of the file: by the digit 0 what the last sync left, by 1 all as written, by 2 and 3 as written but
+-- for the unsynced bytes.
 abbrev pub chosen : ℕ → Kept → List ℕ
-chosen digit f =
-    if nat_eq digit 0 then f.synced
-    else (if nat_eq digit 1 then f.written else (if nat_eq digit 2 then spoiled (λ b. 255 - b) f.ranges 0 f.written else spoiled (λ b. 1) f.ranges 0 f.written))
+chosen digit f = if nat_eq digit 0 then f.synced else (if nat_eq digit 1 then f.written else spoiled (spoilt_by digit) f.ranges 0 f.written)

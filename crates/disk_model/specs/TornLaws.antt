@@ -7,7 +7,7 @@ use Rattle.std.proofs.lemmas.Bool.Decides.{nat_tests}
 use Rattle.std.proofs.lemmas.List.{take_at, drop_at, take_all, length-take-le}
 use Rattle.std.proofs.lemmas.List.Folds.{list_any-append}
 use Rattle.disk_model.specs.Changes.{Torn, Cut}
-use Rattle.disk_model.specs.Kept.{Kept, settled, splice, written_over, shortened, is_open, spoiled, chosen}
+use Rattle.disk_model.specs.Kept.{Kept, settled, splice, written_over, shortened, is_open, spoiled, spoilt_by, chosen}
 
 pub torn_same : (at n : ℕ) (b : List ℕ) → Torn at n b b
 torn_same at n b = record { before = refl; after = refl; no_shorter = omega arith; no_longer = omega arith }
@@ -124,10 +124,7 @@ chosen_pair R digit f g synced written changed = elim (cases_Bool (nat_eq digit 
   | inl none ↦ rw none synced
   | inr some ↦ elim (cases_Bool (nat_eq digit 1)) [
     | inl one ↦ rw some (rw one written)
-    | inr other ↦ elim (cases_Bool (nat_eq digit 2)) [
-      | inl two ↦ rw some (rw other (rw two (changed (λ b. 255 - b))))
-      | inr three ↦ rw some (rw other (rw three (changed (λ b. 1))))
-    ]
+    | inr other ↦ rw some (rw other (changed (spoilt_by digit)))
   ]
 ]
 

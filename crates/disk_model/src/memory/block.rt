@@ -2,7 +2,7 @@
 ghost use Rattle.std.specs.Prelude.{◌≡◌, IfOk, [], length};
 
 use ftn_addr::{Bytes, NoMemory};
-use std::alloc::Global;
+use std::alloc::{AllocError, Global};
 use std::cmp::Ordering;
 use std::marker::Model;
 
@@ -61,6 +61,17 @@ impl Block {
         Block::from_slice(alloc, self.as_slice())
     }
 }
+impl Clone for Block {
+    ghost use Rattle.std.specs.Prelude.{◌≡◌};
+
+    ghost is_clone = { λ a b. b ≡ a };
+
+    fn clone(&self) -> Result<Block, AllocError> {
+        let items = self.items.clone()?;
+        Ok(Block { items })
+    }
+}
+
 impl PartialEq for Block {
     ghost use Rattle.std.proofs.Common.{rules};
     ghost use Rattle.std.specs.Prelude.{nat_eq};

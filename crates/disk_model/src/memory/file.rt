@@ -1,10 +1,12 @@
 //! An own file in memory, with what it takes to undo the changes since its last sync.
-ghost use Rattle.std.specs.Prelude.{◌≡◌, ◌+◌, ◌-◌, ◌≤◌, ◌++◌, min, length, take, drop, OnOk, OnErr, IfOk};
-ghost use Rattle.disk_model.specs.Kept.{settled, unsynced, written_over, shortened, made_durable, is_changed, chosen, splice};
+ghost use Rattle.std.specs.Prelude.{◌≡◌, ◌+◌, ◌-◌, ◌≤◌, ◌++◌, min, length, take, drop, map, nat_le, nat_lt, ◌&&◌, if◌then◌else◌, OnOk, OnErr, IfOk};
+ghost use Rattle.std.specs.List.{list_any};
+ghost use Rattle.disk_model.specs.Kept.{settled, unsynced, written_over, shortened, made_durable, is_changed, is_open, spoiled, spoilt_by, chosen, splice};
+ghost use Rattle.disk_model.specs.Undo.{all_taken_back, taken_back, range_of};
 
 use super::block::Block;
 use ftn_addr::NoMemory;
-use std::alloc::Global;
+use std::alloc::{AllocError, Global};
 use std::marker::Model;
 
 /// What a write or a cut replaced: at a place, so many bytes now stand where these stood.
@@ -28,6 +30,33 @@ impl Model for MemFile {
     ghost Value = { Kept };
 
     ghost view = { λ f. kept_file f.bytes.items f.changes.items };
+}
+
+impl Clone for Change {
+    ghost use Rattle.std.specs.Prelude.{◌≡◌};
+
+    ghost is_clone = { λ a b. b ≡ a };
+
+    fn clone(&self) -> Result<Change, AllocError> {
+        Ok(Change {
+            at: self.at,
+            len: self.len,
+            old: self.old.clone()?,
+        })
+    }
+}
+
+impl Clone for MemFile {
+    ghost use Rattle.std.specs.Prelude.{◌≡◌};
+
+    ghost is_clone = { λ a b. b ≡ a };
+
+    fn clone(&self) -> Result<MemFile, AllocError> {
+        Ok(MemFile {
+            bytes: self.bytes.clone()?,
+            changes: self.changes.clone()?,
+        })
+    }
 }
 
 impl MemFile {
@@ -104,6 +133,21 @@ impl MemFile {
         Ok(())
     }
 
+    /// What a stop leaves of the file, by the digit: what the last sync left, all as written, each unsynced
+    /// byte as 255 minus it, each as 1.
+    pub fn chosen(&self, alloc: Global, digit: u64) -> Result<Vec<u8>, NoMemory>
+        ensures { IfOk result (λ bytes. bytes.items ≡ chosen digit self.now) }
+    {
+        if digit == 0 {
+            let bytes = Vec::from_slice(alloc, &self.bytes)?;
+            return all_taken_back(bytes, &self.changes);
+        }
+        if digit == 1 {
+            return Ok(Vec::from_slice(alloc, &self.bytes)?);
+        }
+        spoiled(alloc, &self.bytes, &self.changes, digit)
+    }
+
     /// Forgets what was there before. It costs what changed since the last sync.
     pub fn sync(&mut self)
         ensures { self.new ≡ made_durable self.old }
@@ -152,4 +196,72 @@ fn write_over(all: &mut [u8], at: usize, bytes: &[u8])
     ensures { all.new ≡ splice at bytes.now all.old }
 {
     all[at..at + bytes.len()].copy_from_slice(bytes);
+}
+
+// What was there before the changes, the newest of which is taken back first.
+fn all_taken_back(mut bytes: Vec<u8>, changes: &[Change]) -> Result<Vec<u8>, NoMemory>
+    ensures { IfOk result (λ back. back.items ≡ all_taken_back changes.now bytes.items) }
+{
+    let mut left = changes.len();
+    while 0 < left {
+        left -= 1;
+        take_back(&mut bytes, &changes[left])?;
+    }
+    Ok(bytes)
+}
+
+fn take_back(bytes: &mut Vec<u8>, change: &Change) -> Result<(), NoMemory>
+    ensures { OnOk result (bytes.new.items ≡ taken_back change.now bytes.old.items) }
+{
+    let behind = change.at.saturating_add(change.len).min(bytes.len());
+    let tail = Vec::from_slice(*bytes.allocator(), &bytes[behind..])?;
+    bytes.truncate(change.at);
+    bytes.extend_from_slice(change.old.as_slice())?;
+    bytes.extend_from_slice(&tail)?;
+    Ok(())
+}
+
+// The bytes of a file with the unsynced ones changed.
+fn spoiled(alloc: Global, file: &[u8], changes: &[Change], digit: u64) -> Result<Vec<u8>, NoMemory>
+    ensures { IfOk result (λ bytes. bytes.items ≡ spoiled (spoilt_by digit) (map range_of changes.now) 0 file.now) }
+{
+    let mut bytes = Vec::new(alloc);
+    for (place, byte) in file.iter().enumerate() {
+        bytes.push(left_byte(changes, place, digit, *byte))?;
+    }
+    Ok(bytes)
+}
+
+fn left_byte(changes: &[Change], place: usize, digit: u64, byte: u8) -> u8
+    ensures { result ≡ (if is_open (map range_of changes.now) place then spoilt_by digit byte else byte) }
+{
+    if is_open(changes, place) {
+        spoilt_by(digit, byte)
+    } else {
+        byte
+    }
+}
+
+fn spoilt_by(digit: u64, byte: u8) -> u8
+    ensures { result ≡ spoilt_by digit byte }
+{
+    if digit == 2 { 255 - byte } else { 1 }
+}
+
+fn is_open(changes: &[Change], place: usize) -> bool
+    ensures { result ≡ is_open (map range_of changes.now) place }
+{
+    covers(changes, place)
+}
+
+fn covers(changes: &[Change], place: usize) -> bool
+    ensures { result ≡ list_any (λ c. nat_le c.at place && nat_lt place (c.at + c.len)) changes.now }
+{
+    changes.iter().any(|change| is_within(change, place))
+}
+
+fn is_within(change: &Change, place: usize) -> bool
+    ensures { result ≡ (nat_le change.now.at place && nat_lt place (change.now.at + change.now.len)) }
+{
+    change.at <= place && place - change.at < change.len
 }

@@ -1,5 +1,5 @@
 //! What a disk in memory keeps, and each change of it.
-ghost use Rattle.std.specs.Prelude.{◌≡◌, [], OnOk, OnErr, IfSome, IsSome, false, Option};
+ghost use Rattle.std.specs.Prelude.{◌≡◌, [], IfOk, OnOk, OnErr, IfSome, IsSome, false, Option};
 ghost use Rattle.disk_model.specs.Holding.{empty, play, is_named, under, adding, without};
 ghost use Rattle.disk_model.specs.declared.memory.call.Call.TheVariants.{Wrote, Shortened, Synced, Created, Removed, Renamed, PutOut, LostOut, Moved, Copied, Given};
 
@@ -37,6 +37,16 @@ impl Holdings {
             outside: BTreeMap::new(alloc),
             gifts: Vec::new(alloc),
         }
+    }
+
+    pub fn duplicate(&self) -> Result<Holdings, NoMemory>
+        ensures { IfOk result (λ copy. copy ≡ self.now) }
+    {
+        Ok(Holdings {
+            own: self.own.clone()?,
+            outside: self.outside.clone()?,
+            gifts: self.gifts.clone()?,
+        })
     }
 
     /// Makes the change, or finds no memory and changes nothing.

@@ -1,6 +1,7 @@
 //! Files of other programs, and gifts to them.
 use super::block::Block;
 use crate::Name;
+use std::alloc::AllocError;
 use std::marker::Model;
 
 /// An outside file.
@@ -33,4 +34,32 @@ impl Model for GivenFile {
     ghost Value = { Gift };
 
     ghost view = { λ g. record { own = g.own; folder = g.folder; name = g.name; bytes = g.bytes } };
+}
+
+impl Clone for OutsideFile {
+    ghost use Rattle.std.specs.Prelude.{◌≡◌};
+
+    ghost is_clone = { λ a b. b ≡ a };
+
+    fn clone(&self) -> Result<OutsideFile, AllocError> {
+        Ok(OutsideFile {
+            bytes: self.bytes.clone()?,
+            time: self.time,
+        })
+    }
+}
+
+impl Clone for GivenFile {
+    ghost use Rattle.std.specs.Prelude.{◌≡◌};
+
+    ghost is_clone = { λ a b. b ≡ a };
+
+    fn clone(&self) -> Result<GivenFile, AllocError> {
+        Ok(GivenFile {
+            own: self.own,
+            folder: self.folder.clone()?,
+            name: self.name.clone()?,
+            bytes: self.bytes.clone()?,
+        })
+    }
 }
