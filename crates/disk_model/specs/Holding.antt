@@ -1,5 +1,5 @@
 -- What a disk in memory keeps, and how its calls change it (own).
-use Rattle.std.specs.Prelude.{◌≡◌, ◌⊎◌, ℕ, List, [], ◌∷◌, ◌++◌, length, Option, Some, None, option_map, Bool, true, false, not, map, if◌then◌else◌}
+use Rattle.std.specs.Prelude.{◌≡◌, ◌⊎◌, ℕ, ◌-◌, nat_eq, count_by, List, [], ◌∷◌, ◌++◌, length, Option, Some, None, option_map, Bool, true, false, not, map, if◌then◌else◌}
 use Rattle.std.specs.List.{filter}
 use Rattle.std.specs.Map.{lookup, set_value}
 use Rattle.std.specs.BTreeMap.{is_at, insert_entry}
@@ -82,6 +82,15 @@ play (Given own folder name path) h = given (under own h.own) own folder name pa
 abbrev pub is_call : Call → Bool
 is_call (Placed path bytes time) = false
 is_call x = true
+
+-- how many of these are calls
+abbrev pub calls_in : List Call → ℕ
+calls_in log = count_by is_call log
+
+-- the first calls, so many, and what was put outside before the next
+abbrev pub first_calls : ℕ → List Call → List Call
+first_calls n [] = []
+first_calls n (x ∷ xs) = if is_call x then (if nat_eq n 0 then [] else x ∷ first_calls (n - 1) xs) else x ∷ first_calls n xs
 
 -- and after many
 abbrev pub replay : Holding → List Call → Holding

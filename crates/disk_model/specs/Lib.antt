@@ -9,6 +9,8 @@ pub mod MemoryDisk
 pub mod MemoryLaws
 pub mod Moments
 pub mod Name
+pub mod PickLaws
+pub mod Picks
 pub mod StopLaws
 pub mod TornLaws
 pub mod Undo

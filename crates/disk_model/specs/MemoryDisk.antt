@@ -4,7 +4,7 @@ use Rattle.ftn_addr.specs.declared.refusals.NoMemory.{NoMemory}
 use Rattle.disk_model.specs.World.{OutFile, World}
 use Rattle.disk_model.specs.Changes.{OnOwn, OnOutside, Rewrites, Torn, Cut, Puts, PutsPart, Renames, Moves, Gives}
 use Rattle.disk_model.specs.Kept.{Kept, settled}
-use Rattle.disk_model.specs.Holding.{Holding, is_call, play, replay, shown}
+use Rattle.disk_model.specs.Holding.{Holding, first_calls, play, replay, shown}
 use Rattle.disk_model.specs.declared.memory.call.Call.{Call}
 use Rattle.disk_model.specs.declared.memory.call.Call.TheVariants.{Nothing, Wrote, Shortened, Synced, Created, Removed, Renamed, Placed, PutOut, LostOut, Moved, Copied, Given}
 use Rattle.disk_model.specs.declared.memory.disk.MemDisk.{MemDisk}
@@ -43,15 +43,6 @@ mem_moment d = length d.log.items
 
 abbrev pub mem_images : MemDisk → ℕ → World → Type 0
 mem_images d k w = left d.first (take k d.log.items) w
-
--- how many of these are calls
-abbrev pub calls_in : List Call → ℕ
-calls_in log = count_by is_call log
-
--- the first calls, so many, and what was put outside before the next
-abbrev pub first_calls : ℕ → List Call → List Call
-first_calls n [] = []
-first_calls n (x ∷ xs) = if is_call x then (if nat_eq n 0 then [] else x ∷ first_calls (n - 1) xs) else x ∷ first_calls n xs
 
 -- the moment after so many calls
 abbrev pub moment_after : ℕ → MemDisk → ℕ

@@ -34,7 +34,7 @@ run_last images h [] x c is = is
 run_last images h (y ∷ ys) x c is = run_last (λ after. (d : World) × images d × may y (shown h) d after) (play y h) ys x c is
 
 module _ (old new : MemDisk) where
-  added_steps : (x : Call) (R : World → World → Type 0) → Added x old new → ((d c : World) → may x (shown old.held) d c → R d c) → Steps mem_moment mem_images R old new
+  pub added_steps : (x : Call) (R : World → World → Type 0) → Added x old new → ((d c : World) → may x (shown old.held) d c → R d c) → Steps mem_moment mem_images R old new
   added_steps x R is leads = record {
     later = omega (arith, size);
     next = omega (arith, size);

@@ -9,6 +9,7 @@ mod outside;
 mod outside_files;
 mod own_calls;
 mod own_files;
+mod stop;
 mod yard_calls;
 
 pub use block::Block;

@@ -1,4 +1,7 @@
 //! What happened to a disk in memory, one item a change.
+ghost use Rattle.std.specs.Prelude.{◌≡◌};
+ghost use Rattle.disk_model.specs.Holding.{is_call};
+
 use super::block::Block;
 use crate::Name;
 
@@ -28,4 +31,13 @@ pub enum Call {
     Copied(Name, Block),
     /// The own name, the folder, the name in it, and their path.
     Given(Name, Block, Block, Block),
+}
+
+impl Call {
+    /// Whether it counts as a call of the disk.
+    pub fn is_call(&self) -> bool
+        ensures { result ≡ is_call self.now }
+    {
+        !matches!(self, Call::Placed(..))
+    }
 }

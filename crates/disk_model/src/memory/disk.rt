@@ -1,6 +1,6 @@
 //! A disk in memory.
 ghost use Rattle.std.specs.Prelude.{◌≡◌};
-ghost use Rattle.disk_model.specs.Holding.{calm, replay};
+ghost use Rattle.disk_model.specs.Holding.{calls_in, calm, replay};
 
 use super::call::Call;
 use super::holdings::Holdings;
@@ -18,4 +18,5 @@ pub struct MemDisk {
     pub(super) faults: u64,
     ghost replayed: { held ≡ replay first log.items },
     ghost synced: { first ≡ calm first },
+    ghost counted: { calls ≡ calls_in log.items },
 }

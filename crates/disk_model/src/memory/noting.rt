@@ -1,16 +1,17 @@
 //! Making a disk in memory, and noting its calls.
-ghost use Rattle.std.specs.Prelude.{◌≡◌, ◌≤◌, ℕ, [], None, Err, MatchResult, OnOk, OnErr};
+ghost use Rattle.std.specs.Prelude.{◌≡◌, ◌≤◌, ℕ, [], ◌∷◌, ◌++◌, Some, None, Err, MatchResult, OnOk, OnErr};
 ghost use Rattle.disk_model.specs.Causes.{HasCause};
-ghost use Rattle.disk_model.specs.Changes.{Every, Follows, Same};
+ghost use Rattle.disk_model.specs.Changes.{Every, Follows, Same, OnOutside, Puts};
 ghost use Rattle.disk_model.specs.Moments.{Steps};
-ghost use Rattle.disk_model.specs.Holding.{Holding, empty, play, replay, shown};
+ghost use Rattle.disk_model.specs.Holding.{Holding, calls_in, is_call, empty, play, replay, shown};
 ghost use Rattle.disk_model.specs.World.{nothing_there};
-ghost use Rattle.disk_model.specs.MemoryDisk.{mem_files, mem_moment, mem_images, calls_in, Added, Unnoted, NotedAs, Plays};
+ghost use Rattle.disk_model.specs.MemoryDisk.{mem_files, mem_moment, mem_images, Added, Unnoted, NotedAs, Plays};
 
+use super::block::Block;
 use super::call::Call;
 use super::disk::MemDisk;
 use super::holdings::Holdings;
-use ftn_addr::{Failed, NoMemory};
+use ftn_addr::{Bytes, Failed, NoMemory};
 use std::alloc::Global;
 
 impl MemDisk {
@@ -36,10 +37,23 @@ impl MemDisk {
         Ok(())
     }
 
-    pub(super) fn fault_count(&self) -> u64
-        ensures { result ≡ self.now.faults }
+    /// The number of calls since the disk was made.
+    pub fn calls(&self) -> u64
+        ensures { result ≡ calls_in self.now.log.items }
     {
-        self.faults
+        self.calls
+    }
+
+    /// Puts an outside file, as another program does. This is no call of the disk.
+    pub fn put_out(&mut self, path: &Bytes, bytes: &[u8], time: u64) -> Result<(), NoMemory>
+        ensures read { OnOk result (Follows (OnOutside (Puts path.now.list (Some (record { bytes = bytes.now; time = time })))) (mem_files self.old) (mem_files self.new)) }
+        ensures stop { OnOk result (Steps mem_moment mem_images (OnOutside (Puts path.now.list (Some (record { bytes = bytes.now; time = time })))) self.old self.new) }
+        ensures same { OnErr result (Unnoted self.old self.new) }
+        ensures faults { self.new.faults ≡ self.old.faults }
+    {
+        let path = Block::from_bytes(self.alloc, path)?;
+        let bytes = Block::from_slice(self.alloc, bytes)?;
+        self.add(Call::Placed(path, bytes, time))
     }
 
     // Makes the change and notes it, or finds no memory.
@@ -51,8 +65,12 @@ impl MemDisk {
     {
         self.log.reserve(1)?;
         self.held.play(self.alloc, &call)?;
+        let calls = calls_with(self.calls, &self.log, &call);
         match self.log.push(call) {
-            Ok(()) => Ok(()),
+            Ok(()) => {
+                self.calls = calls;
+                Ok(())
+            }
             Err(_) => unreachable!(),
         }
     }
@@ -107,7 +125,18 @@ impl MemDisk {
         if self.add(what).is_err() {
             return Err(self.fail());
         }
-        self.calls = number;
         if fails { Err(self.fail()) } else { Ok(()) }
+    }
+}
+
+// The number of calls with one change more.
+fn calls_with(calls: u64, log: &Vec<Call>, call: &Call) -> u64
+    requires { calls ≡ calls_in log.now.items }
+    ensures { result ≡ calls_in (log.now.items ++ call.now ∷ []) }
+{
+    if call.is_call() && log.len() < usize::MAX {
+        calls + 1
+    } else {
+        calls
     }
 }
