@@ -58,10 +58,10 @@ slash_is b is = grind (arith, nat_tests)
 below_of : (path at : List ℕ) → is_at_or_below path at ≡ true → (at ≡ path) ⊎ ((rest : List ℕ) × (at ≡ path ++ 47 ∷ rest))
 below_of path at is = elim (cases_Bool (bytes_eq (take (length path) at) path)) [
   | inl holds ↦
-    let front : take (length path) at ≡ path = (bytes_eq-Decides (take (length path) at) path).0 holds in
-    let whole : path ++ drop (length path) at ≡ at = ap (λ (l : List ℕ). l ++ drop (length path) at) (sym front) ∙ take-append-drop (length path) at in
-    let cut : is_at_or_below path at ≡ begins_below (drop (length path) at) = rw holds refl in
-    by_rest (drop (length path) at) whole (sym cut ∙ is)
+      let front : take (length path) at ≡ path = (bytes_eq-Decides (take (length path) at) path).0 holds in
+      let whole : path ++ drop (length path) at ≡ at = ap (λ (l : List ℕ). l ++ drop (length path) at) (sym front) ∙ take-append-drop (length path) at in
+      let cut : is_at_or_below path at ≡ begins_below (drop (length path) at) = rw holds refl in
+      by_rest (drop (length path) at) whole (sym cut ∙ is)
   | inr fails ↦ let cut : is_at_or_below path at ≡ false = rw fails refl in absurd (cc (cut, is))
 ]
   where
@@ -83,12 +83,12 @@ any_key {X} p [] is = absurd (cc is)
 any_key {X} p (e ∷ es) is = elim (cases_Bool (p e.0)) [
   | inl holds ↦ let same = named_same e.0 in (e.0, e.1, rw same refl, holds)
   | inr fails ↦
-    let cut : list_any p (map (λ (x : List ℕ × X). x.0) (e ∷ es)) ≡ list_any p (map (λ (x : List ℕ × X). x.0) es) = rw fails refl in
-    let rest = any_key p es (sym cut ∙ is) in
-    elim (cases_Bool (is_named rest.0 e.0)) [
-      | inl here ↦ (rest.0, e.1, rw here refl, rest.3)
-      | inr past ↦ (rest.0, rest.1, rw past rest.2, rest.3)
-    ]
+      let cut : list_any p (map (λ (x : List ℕ × X). x.0) (e ∷ es)) ≡ list_any p (map (λ (x : List ℕ × X). x.0) es) = rw fails refl in
+      let rest = any_key p es (sym cut ∙ is) in
+      elim (cases_Bool (is_named rest.0 e.0)) [
+        | inl here ↦ (rest.0, e.1, rw here refl, rest.3)
+        | inr past ↦ (rest.0, rest.1, rw past rest.2, rest.3)
+      ]
 ]
 
 key_any : {X : Type 0} (p : List ℕ → Bool) (es : List (List ℕ × X)) (k : List ℕ) (f : X) → under k es ≡ Some f → p k ≡ true → list_any p (map (λ e. e.0) es) ≡ true
@@ -96,9 +96,9 @@ key_any p [] k f is holds = absurd (cc is)
 key_any p (e ∷ es) k f is holds = elim (cases_Bool (is_named k e.0)) [
   | inl here ↦ let first : p e.0 ≡ true = ap p (sym (named_is k e.0 here)) ∙ holds in rw first refl
   | inr past ↦
-    let cut : under k (e ∷ es) ≡ under k es = rw past refl in
-    let rest = key_any p es k f (sym cut ∙ is) holds in
-    rw rest (or_true (p e.0))
+      let cut : under k (e ∷ es) ≡ under k es = rw past refl in
+      let rest = key_any p es k f (sym cut ∙ is) holds in
+      rw rest (or_true (p e.0))
 ]
 
 pub in_use : (path : List ℕ) (es : List (List ℕ × OutFile)) → list_any (is_at_or_below path) (map (λ e. e.0) es) ≡ true → IsInUse path (λ p. under p es)
@@ -119,8 +119,8 @@ before_name [] rest one (inr found) = ap (before_first (λ b. nat_eq b 47)) foun
 before_name (b ∷ bs) rest one end = elim (cases_Bool (nat_eq b 47)) [
   | inl holds ↦ let cut : list_any (λ x. nat_eq x 47) (b ∷ bs) ≡ true = rw holds refl in absurd (cc (cut, one))
   | inr fails ↦
-    let cut : list_any (λ x. nat_eq x 47) (b ∷ bs) ≡ list_any (λ x. nat_eq x 47) bs = rw fails refl in
-    by_end fails (λ r part. before_name bs r (sym cut ∙ one) part) end
+      let cut : list_any (λ x. nat_eq x 47) (b ∷ bs) ≡ list_any (λ x. nat_eq x 47) bs = rw fails refl in
+      by_end fails (λ r part. before_name bs r (sym cut ∙ one) part) end
 ]
   where
     by_end : nat_eq b 47 ≡ false → ((r : List ℕ) → (r ≡ bs) ⊎ ((q : List ℕ) × (r ≡ bs ++ 47 ∷ q)) → before_first (λ x. nat_eq x 47) r ≡ bs)
@@ -134,15 +134,17 @@ before_parts : (rest : List ℕ) → (list_any (λ b. nat_eq b 47) (before_first
 before_parts [] = (refl, inl refl)
 before_parts (b ∷ bs) = elim (cases_Bool (nat_eq b 47)) [
   | inl holds ↦
-    let none : before_first (λ x. nat_eq x 47) (b ∷ bs) ≡ [] = first-cons b bs ∙ rw holds refl in
-    (ap (list_any (λ x. nat_eq x 47)) none, inr (bs, ap (λ (n : ℕ). n ∷ bs) (slash_is b holds) ∙ ap (λ (l : List ℕ). l ++ 47 ∷ bs) (sym none)))
+      let none : before_first (λ x. nat_eq x 47) (b ∷ bs) ≡ [] = first-cons b bs ∙ rw holds refl in
+      (ap (list_any (λ x. nat_eq x 47)) none, inr (bs, ap (λ (n : ℕ). n ∷ bs) (slash_is b holds) ∙ ap (λ (l : List ℕ). l ++ 47 ∷ bs) (sym none)))
   | inr fails ↦
-    let more : before_first (λ x. nat_eq x 47) (b ∷ bs) ≡ b ∷ before_first (λ x. nat_eq x 47) bs = first-cons b bs ∙ rw fails refl in
-    let rest = before_parts bs in
-    (ap (list_any (λ x. nat_eq x 47)) more ∙ rw fails rest.0, elim rest.1 [
-      | inl all ↦ inl (ap (λ (l : List ℕ). b ∷ l) all ∙ sym more)
-      | inr some ↦ inr (some.0, ap (λ (l : List ℕ). b ∷ l) some.1 ∙ ap (λ (l : List ℕ). l ++ 47 ∷ some.0) (sym more))
-    ])
+      let more : before_first (λ x. nat_eq x 47) (b ∷ bs) ≡ b ∷ before_first (λ x. nat_eq x 47) bs = first-cons b bs ∙ rw fails refl in
+      let rest = before_parts bs in (
+        ap (list_any (λ x. nat_eq x 47)) more ∙ rw fails rest.0,
+        elim rest.1 [
+          | inl all ↦ inl (ap (λ (l : List ℕ). b ∷ l) all ∙ sym more)
+          | inr some ↦ inr (some.0, ap (λ (l : List ℕ). b ∷ l) some.1 ∙ ap (λ (l : List ℕ). l ++ 47 ∷ some.0) (sym more))
+        ],
+      )
 ]
 
 entry_here : (front name at : List ℕ) → IsEntryName name → (at ≡ front ++ name) ⊎ ((rest : List ℕ) × (at ≡ front ++ name ++ 47 ∷ rest)) → entry_of front at ≡ name
@@ -163,14 +165,16 @@ entry_parts front name at leads =
     let some : name ≢ [] = λ none. cc (both.0, (bytes_eq-Decides (entry_of front at) []).1 (sym is ∙ none)) in
     elim (cases_Bool (bytes_eq (take (length front) at) front)) [
       | inl holds ↦
-        let here : name ≡ before_first (λ b. nat_eq b 47) (drop (length front) at) = is ∙ rw holds refl in
-        let parts = before_parts (drop (length front) at) in
-        let first : take (length front) at ≡ front = (bytes_eq-Decides (take (length front) at) front).0 holds in
-        let whole : at ≡ front ++ drop (length front) at = sym (take-append-drop (length front) at) ∙ ap (λ (l : List ℕ). l ++ drop (length front) at) first in
-        (record { some = some; one = ap (list_any (λ b. nat_eq b 47)) here ∙ parts.0 }, elim parts.1 [
-          | inl all ↦ inl (whole ∙ ap (λ (l : List ℕ). front ++ l) (all ∙ sym here))
-          | inr more ↦ inr (more.0, whole ∙ ap (λ (l : List ℕ). front ++ l) (more.1 ∙ ap (λ (l : List ℕ). l ++ 47 ∷ more.0) (sym here)) ∙ sym (append_assoc front name (47 ∷ more.0)))
-        ])
+          let here : name ≡ before_first (λ b. nat_eq b 47) (drop (length front) at) = is ∙ rw holds refl in
+          let parts = before_parts (drop (length front) at) in
+          let first : take (length front) at ≡ front = (bytes_eq-Decides (take (length front) at) front).0 holds in
+          let whole : at ≡ front ++ drop (length front) at = sym (take-append-drop (length front) at) ∙ ap (λ (l : List ℕ). l ++ drop (length front) at) first in (
+            record { some = some; one = ap (list_any (λ b. nat_eq b 47)) here ∙ parts.0 },
+            elim parts.1 [
+              | inl all ↦ inl (whole ∙ ap (λ (l : List ℕ). front ++ l) (all ∙ sym here))
+              | inr more ↦ inr (more.0, whole ∙ ap (λ (l : List ℕ). front ++ l) (more.1 ∙ ap (λ (l : List ℕ). l ++ 47 ∷ more.0) (sym here)) ∙ sym (append_assoc front name (47 ∷ more.0)))
+            ],
+          )
       | inr fails ↦ absurd (some (is ∙ rw fails refl))
     ]
 

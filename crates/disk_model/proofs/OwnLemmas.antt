@@ -30,6 +30,7 @@ lists_files es names is ascend = record {
     some : (o : Option Kept) (bytes : List ℕ) → option_map (λ f. f.written) o ≡ Some bytes → IsSome o
     some None bytes is = cc is
     some (Some f) bytes is = refl
+
     found : (o : Option Kept) → IsSome o → (bytes : List ℕ) × (option_map (λ f. f.written) o ≡ Some bytes)
     found None is = absurd (cc is)
     found (Some f) is = (f.written, refl)

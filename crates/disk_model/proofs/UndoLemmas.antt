@@ -35,20 +35,20 @@ file_cut b cs len b' cs' le is pushed =
 spliced : (b bytes : List ℕ) (at over : ℕ) → at ≤ length b → over ≡ min (length bytes) (length b - at) → splice at (take over bytes) (b ++ drop over bytes) ≡ splice at bytes b
 spliced b bytes at over le is = elim (cases_lt (length b) (at + length bytes)) [
   | inl past ↦
-    let all : at + over ≡ length b = omega (arith, is) in
-    let size : length (take over bytes) ≡ over = length-take-le over bytes (omega (arith, is)) in
-    let back : drop (at + length (take over bytes)) (b ++ drop over bytes) ≡ drop over bytes = drop_at b (drop over bytes) (at + length (take over bytes)) (omega (arith, all, size)) in
-    let none : drop (at + length bytes) b ≡ [] = drop_all (at + length bytes) b (omega arith) in
-    ap (λ (l : List ℕ). l ++ take over bytes ++ drop (at + length (take over bytes)) (b ++ drop over bytes)) (take-append-le at b (drop over bytes) le)
-    ∙ ap (λ (l : List ℕ). take at b ++ take over bytes ++ l) back
-    ∙ append_assoc (take at b) (take over bytes) (drop over bytes)
-    ∙ ap (λ (l : List ℕ). take at b ++ l) (take-append-drop over bytes)
-    ∙ sym (ap (λ (l : List ℕ). take at b ++ bytes ++ l) none ∙ append-nil (take at b ++ bytes))
+      let all : at + over ≡ length b = omega (arith, is) in
+      let size : length (take over bytes) ≡ over = length-take-le over bytes (omega (arith, is)) in
+      let back : drop (at + length (take over bytes)) (b ++ drop over bytes) ≡ drop over bytes = drop_at b (drop over bytes) (at + length (take over bytes)) (omega (arith, all, size)) in
+      let none : drop (at + length bytes) b ≡ [] = drop_all (at + length bytes) b (omega arith) in
+      ap (λ (l : List ℕ). l ++ take over bytes ++ drop (at + length (take over bytes)) (b ++ drop over bytes)) (take-append-le at b (drop over bytes) le)
+      ∙ ap (λ (l : List ℕ). take at b ++ take over bytes ++ l) back
+      ∙ append_assoc (take at b) (take over bytes) (drop over bytes)
+      ∙ ap (λ (l : List ℕ). take at b ++ l) (take-append-drop over bytes)
+      ∙ sym (ap (λ (l : List ℕ). take at b ++ bytes ++ l) none ∙ append-nil (take at b ++ bytes))
   | inr within ↦
-    let all : over ≡ length bytes = omega (arith, is) in
-    let same : take over bytes ≡ bytes = take_all over bytes (omega (arith, all)) in
-    let none : drop over bytes ≡ [] = drop_all over bytes (omega (arith, all)) in
-    ap (λ (l : List ℕ). splice at (take over bytes) (b ++ l)) none ∙ ap (λ (l : List ℕ). splice at (take over bytes) l) (append-nil b) ∙ ap (λ (l : List ℕ). splice at l b) same
+      let all : over ≡ length bytes = omega (arith, is) in
+      let same : take over bytes ≡ bytes = take_all over bytes (omega (arith, all)) in
+      let none : drop over bytes ≡ [] = drop_all over bytes (omega (arith, all)) in
+      ap (λ (l : List ℕ). splice at (take over bytes) (b ++ l)) none ∙ ap (λ (l : List ℕ). splice at (take over bytes) l) (append-nil b) ∙ ap (λ (l : List ℕ). splice at l b) same
 ]
 
 write_back : (b bytes : List ℕ) (at over : ℕ) → at ≤ length b → over ≡ min (length bytes) (length b - at)
@@ -68,13 +68,13 @@ write_back b bytes at over le is =
     rest : take over (drop at b) ++ drop (at + length bytes) b ≡ drop at b
     rest = elim (cases_lt (length b) (at + length bytes)) [
       | inl past ↦
-        let none : drop (at + length bytes) b ≡ [] = drop_all (at + length bytes) b (omega arith) in
-        let all : take over (drop at b) ≡ drop at b = take_all over (drop at b) (omega (arith, is, length-drop at b)) in
-        ap (λ (l : List ℕ). take over (drop at b) ++ l) none ∙ append-nil (take over (drop at b)) ∙ all
+          let none : drop (at + length bytes) b ≡ [] = drop_all (at + length bytes) b (omega arith) in
+          let all : take over (drop at b) ≡ drop at b = take_all over (drop at b) (omega (arith, is, length-drop at b)) in
+          ap (λ (l : List ℕ). take over (drop at b) ++ l) none ∙ append-nil (take over (drop at b)) ∙ all
       | inr within ↦
-        let all : over ≡ length bytes = omega (arith, is) in
-        ap (λ (l : List ℕ). take over (drop at b) ++ l) (sym (drop-drop (length bytes) at b)) ∙ ap (λ (n : ℕ). take n (drop at b) ++ drop (length bytes) (drop at b)) all
-        ∙ take-append-drop (length bytes) (drop at b)
+          let all : over ≡ length bytes = omega (arith, is) in
+          ap (λ (l : List ℕ). take over (drop at b) ++ l) (sym (drop-drop (length bytes) at b)) ∙ ap (λ (n : ℕ). take n (drop at b) ++ drop (length bytes) (drop at b)) all
+          ∙ take-append-drop (length bytes) (drop at b)
     ]
 
 pub written_in : (b bytes : List ℕ) (at over : ℕ) (more wide front now : List ℕ) → at ≤ length b → over ≡ min (length bytes) (length b - at)

@@ -118,7 +118,7 @@ module _ {X : Type 0} where
   refilled : (o : Ordering) (from to : List ℕ) (v w : X) (e : List ℕ × X) (es : List (List ℕ × X)) → slice_cmp nat_cmp to e.0 ≡ o → is_named from to ≡ false
       → adding to v (without from (adding to w es)) ≡ without from (adding to v es)
       → adding to v (without from (match_ordering o ((to, w) ∷ e ∷ es) ((e.0, w) ∷ es) (e ∷ adding to w es)))
-        ≡ without from (match_ordering o ((to, v) ∷ e ∷ es) ((e.0, v) ∷ es) (e ∷ adding to v es))
+      ≡ without from (match_ordering o ((to, v) ∷ e ∷ es) ((e.0, v) ∷ es) (e ∷ adding to v es))
   refilled Less from to v w e es is other rest = let same = equal_self to in rw other (rw same refl)
   refilled Equal from to v w e es is other rest =
       let also : is_named from e.0 ≡ false = ap (is_named from) (sym (named_is to e.0 (ap is_eq is))) ∙ other in rw also (rw is refl)

@@ -30,6 +30,7 @@ stopped_shown pick h own same =
     written : (q : List ℕ) (o : Option Kept) → option_map (λ f. f.written) (option_map (λ f. settled (chosen (digit_of pick h.own q) f)) o) ≡ option_map (λ f. chosen (digit_of pick h.own q) f) o
     written q None = refl
     written q (Some f) = refl
+
     at : (q : List ℕ) → option_map (λ f. f.written) (under q own) ≡ option_map (λ f. chosen (digit_of pick h.own q) f) (under q h.own)
     at q = ap (option_map (λ f. f.written)) (same q ∙ under-stopped q pick h.own) ∙ written q (under q h.own)
 
@@ -42,13 +43,16 @@ one_chosen q name pick file rest files own v is none made =
   where
     w : Kept
     w = settled (chosen (digit_for pick file) file)
+
     X : Option Kept
     X = under q (stopped_files (rest_for pick file) rest)
+
     gone : is_named q name ≡ true → under q (stopped_files (rest_for pick file) rest) ≡ None
     gone here = under-stopped q (rest_for pick file) rest ∙ ap (option_map (λ f. settled (chosen (digit_of (rest_for pick file) rest q) f))) (ap (λ (n : List ℕ). under n rest) (named_is q name here) ∙ none)
+
     by_name : (b : Bool) → is_named q name ≡ b
         → either (under q ((name, settled (chosen (digit_for pick file) file)) ∷ stopped_files (rest_for pick file) rest)) (under q files)
-          ≡ either (under q (stopped_files (rest_for pick file) rest)) (under q (adding name (settled (chosen (digit_for pick file) file)) files))
+        ≡ either (under q (stopped_files (rest_for pick file) rest)) (under q (adding name (settled (chosen (digit_for pick file) file)) files))
     by_name true here =
         let now = under-adding q name (settled (chosen (digit_for pick file) file)) files in
         let none_here = gone here in
@@ -66,11 +70,12 @@ calm_adding name b es is = adds es ∙ ap (adding name (settled b)) is
   where
     by_order : (o : Ordering) (e : List ℕ × Kept) (es : List (List ℕ × Kept)) → map (λ e. (e.0, settled e.1.written)) (adding name (settled b) es) ≡ adding name (settled b) (map (λ e. (e.0, settled e.1.written)) es)
         → map (λ e. (e.0, settled e.1.written)) (match_ordering o ((name, settled b) ∷ e ∷ es) ((e.0, settled b) ∷ es) (e ∷ adding name (settled b) es))
-          ≡ match_ordering o ((name, settled b) ∷ (e.0, settled e.1.written) ∷ map (λ e. (e.0, settled e.1.written)) es) ((e.0, settled b) ∷ map (λ e. (e.0, settled e.1.written)) es)
-            ((e.0, settled e.1.written) ∷ adding name (settled b) (map (λ e. (e.0, settled e.1.written)) es))
+        ≡ match_ordering o ((name, settled b) ∷ (e.0, settled e.1.written) ∷ map (λ e. (e.0, settled e.1.written)) es) ((e.0, settled b) ∷ map (λ e. (e.0, settled e.1.written)) es)
+        ((e.0, settled e.1.written) ∷ adding name (settled b) (map (λ e. (e.0, settled e.1.written)) es))
     by_order Less e es rest = refl
     by_order Equal e es rest = refl
     by_order Greater e es rest = ap (λ (l : List (List ℕ × Kept)). (e.0, settled e.1.written) ∷ l) rest
+
     adds : (es : List (List ℕ × Kept)) → map (λ e. (e.0, settled e.1.written)) (adding name (settled b) es) ≡ adding name (settled b) (map (λ e. (e.0, settled e.1.written)) es)
     adds [] = refl
     adds (e ∷ es) = by_order (slice_cmp nat_cmp name e.0) e es (adds es)

@@ -57,6 +57,7 @@ module _ (g : List ℕ → ℕ) where
       stands (Some f) at b is =
           let same : chosen (g name) f ≡ b = cc (ap (option_map (chosen (g name))) at, is) in
           (chosen (g name) (how f), ap (option_map (chosen (g name))) (in_amending name how es ∙ ap (option_map how) at), subst (λ (x : List ℕ). R x (chosen (g name) (how f))) same (law f at))
+
       absent : (o : Option Kept) → under name es ≡ o → option_map (chosen (g name)) (under name es) ≡ None → option_map (chosen (g name)) (under name (amending name how es)) ≡ None
       absent None at none = ap (option_map (chosen (g name))) (in_amending name how es ∙ ap (option_map how) at)
       absent (Some f) at none = absurd (cc (ap (option_map (chosen (g name))) at, none))
@@ -94,22 +95,24 @@ module _ (h : Holding) (g : List ℕ → ℕ) where
       by_cases_at : (n : List ℕ) (o : Option Kept) → under n h.own ≡ o → option_map (chosen (g n)) (under n (amending name made_durable h.own)) ≡ option_map (chosen (with_digit name 1 g n)) (under n h.own)
       by_cases_at n o at = elim (cases_Bool (is_named name n)) [
         | inl holds ↦
-          let same : name ≡ n = named_is name n holds in
-          let digit : with_digit name 1 g n ≡ 1 = rw holds refl in
-          let here : under n (amending name made_durable h.own) ≡ option_map made_durable (under n h.own) = subst (λ (m : List ℕ). under m (amending name made_durable h.own) ≡ option_map made_durable (under m h.own)) same (in_amending name made_durable h.own) in
-          ap (option_map (chosen (g n))) (here ∙ ap (option_map made_durable) at) ∙ settled_at n o ∙ sym (ap (λ (k : ℕ). option_map (chosen k) (under n h.own)) digit ∙ ap (option_map (chosen 1)) at)
+            let same : name ≡ n = named_is name n holds in
+            let digit : with_digit name 1 g n ≡ 1 = rw holds refl in
+            let here : under n (amending name made_durable h.own) ≡ option_map made_durable (under n h.own) = subst (λ (m : List ℕ). under m (amending name made_durable h.own) ≡ option_map made_durable (under m h.own)) same (in_amending name made_durable h.own) in
+            ap (option_map (chosen (g n))) (here ∙ ap (option_map made_durable) at) ∙ settled_at n o ∙ sym (ap (λ (k : ℕ). option_map (chosen k) (under n h.own)) digit ∙ ap (option_map (chosen 1)) at)
         | inr fails ↦
-          let digit : with_digit name 1 g n ≡ g n = rw fails refl in
-          let other : n ≢ name = λ same. absurd (cc (fails, ap (is_named name) same, named_same name)) in
-          ap (option_map (chosen (g n))) (past_amending n name made_durable h.own other) ∙ sym (ap (λ (k : ℕ). option_map (chosen k) (under n h.own)) digit)
+            let digit : with_digit name 1 g n ≡ g n = rw fails refl in
+            let other : n ≢ name = λ same. absurd (cc (fails, ap (is_named name) same, named_same name)) in
+            ap (option_map (chosen (g n))) (past_amending n name made_durable h.own other) ∙ sym (ap (λ (k : ℕ). option_map (chosen k) (under n h.own)) digit)
       ]
         where
           settled_at : (m : List ℕ) (p : Option Kept) → option_map (chosen (g m)) (option_map made_durable p) ≡ option_map (chosen 1) p
           settled_at m None = refl
           settled_at m (Some f) = ap Some (chosen_settled (g m) f.written)
+
       whole : picked g (play (Synced name) h) ≡ picked (with_digit name 1 g) h
       whole = ap (λ (own : Files). record { own = own; outside = λ path. under path h.outside; gifts = h.gifts })
           (same_files (λ n. option_map (chosen (g n)) (under n (amending name made_durable h.own))) (λ n. option_map (chosen (with_digit name 1 g n)) (under n h.own)) (λ n. by_cases_at n (under n h.own) refl))
+
       by_cases_read : (o : Option Kept) → under name h.own ≡ o → option_map (chosen (g name)) (under name (amending name made_durable h.own)) ≡ option_map (λ f. f.written) (under name h.own)
       by_cases_read o at =
           by_cases_at name o at ∙ ap (λ (k : ℕ). option_map (chosen k) (under name h.own)) (digit_here g name 1)
@@ -121,54 +124,68 @@ module _ (h : Holding) (g : List ℕ → ℕ) where
     where
       by_names : (same : Bool) → is_named from to ≡ same
           → (g' : List ℕ → ℕ) × ((((shown h).own from ≡ None) × (picked g (if same then h else with_own (without from (adding to f h.own)) h) ≡ picked g' h))
-            ⊎ OnOwn (Renames from to) (picked g' h) (picked g (if same then h else with_own (without from (adding to f h.own)) h))) × (Ones g → Ones g')
+          ⊎ OnOwn (Renames from to) (picked g' h) (picked g (if same then h else with_own (without from (adding to f h.own)) h))) × (Ones g → Ones g')
       by_names true is =
-          let one : from ≡ to = named_is from to is in
-          (g, inr (record {
-            own = record { moved = ap (λ (n : List ℕ). option_map (chosen (g n)) (under n h.own)) (sym one); gone = λ other. absurd (other one); others = λ n a b. refl };
-            outside = refl;
-            gifts = refl;
-          }), λ ones. ones)
+          let one : from ≡ to = named_is from to is in (
+            g,
+            inr (record {
+              own = record { moved = ap (λ (n : List ℕ). option_map (chosen (g n)) (under n h.own)) (sym one); gone = λ other. absurd (other one); others = λ n a b. refl };
+              outside = refl;
+              gifts = refl;
+            }),
+            λ ones. ones,
+          )
       by_names false is =
-          let apart : from ≢ to = λ one. absurd (cc (ap (is_named from) (sym one), named_same from, is)) in
-          (with_digit from (g to) g, inr (record {
-            own = record {
-              moved = ap (option_map (chosen (g to))) (past_without to from (adding to f h.own) (λ one. apart (sym one)) ∙ in_adding to f h.own)
-                  ∙ sym (ap (λ (k : ℕ). option_map (chosen k) (under from h.own)) (digit_here g from (g to)) ∙ ap (option_map (chosen (g to))) at);
-              gone = λ other. ap (option_map (chosen (g from))) (in_without from (adding to f h.own));
-              others = λ n a b. ap (option_map (chosen (g n))) (past_without n from (adding to f h.own) a ∙ past_adding n to f h.own b)
-                  ∙ sym (ap (λ (k : ℕ). option_map (chosen k) (under n h.own)) (digit_past g from n (g to) a));
-            };
-            outside = refl;
-            gifts = refl;
-          }), λ ones. ones_kept from (g to) g (ones to) ones)
+          let apart : from ≢ to = λ one. absurd (cc (ap (is_named from) (sym one), named_same from, is)) in (
+            with_digit from (g to) g,
+            inr (record {
+              own = record {
+                moved = ap (option_map (chosen (g to))) (past_without to from (adding to f h.own) (λ one. apart (sym one)) ∙ in_adding to f h.own)
+                    ∙ sym (ap (λ (k : ℕ). option_map (chosen k) (under from h.own)) (digit_here g from (g to)) ∙ ap (option_map (chosen (g to))) at);
+                gone = λ other. ap (option_map (chosen (g from))) (in_without from (adding to f h.own));
+                others = λ n a b. ap (option_map (chosen (g n))) (past_without n from (adding to f h.own) a ∙ past_adding n to f h.own b)
+                    ∙ sym (ap (λ (k : ℕ). option_map (chosen k) (under n h.own)) (digit_past g from n (g to) a));
+              };
+              outside = refl;
+              gifts = refl;
+            }),
+            λ ones. ones_kept from (g to) g (ones to) ones,
+          )
 
   moved_by : (path name : List ℕ) (o : Option OutFile) → under path h.outside ≡ o
       → (g' : List ℕ → ℕ) × (((under path h.outside ≡ None) × (picked g (moved o path name h) ≡ picked g' h)) ⊎ Moves path name (picked g' h) (picked g (moved o path name h))) × (Ones g → Ones g')
   moved_by path name None at = (g, inl (at, refl), λ ones. ones)
-  moved_by path name (Some file) at = (g, inr (record {
-    file = file;
-    was = at;
-    gone = loses_out path h.outside;
-    own = added g name (settled file.bytes) file.bytes h.own (chosen_settled (g name) file.bytes);
-    gifts = refl;
-  }), λ ones. ones)
+  moved_by path name (Some file) at = (
+    g,
+    inr (record {
+      file = file;
+      was = at;
+      gone = loses_out path h.outside;
+      own = added g name (settled file.bytes) file.bytes h.own (chosen_settled (g name) file.bytes);
+      gifts = refl;
+    }),
+    λ ones. ones,
+  )
 
   given_by : (own folder name path : List ℕ) (o : Option Kept) → under own h.own ≡ o
       → (g' : List ℕ → ℕ) × ((((shown h).own own ≡ None) × (picked g (given o own folder name path h) ≡ picked g' h)) ⊎ Gives own folder name path (picked g' h) (picked g (given o own folder name path h))) × (Ones g → Ones g')
   unfolding with_digit
   given_by own folder name path None at = (g, inl (ap (option_map (λ f. f.written)) at, refl), λ ones. ones)
-  given_by own folder name path (Some f) at = (with_digit own 1 g, inr (record {
-    bytes = f.written;
-    time = 0;
-    was = ap (λ (k : ℕ). option_map (chosen k) (under own h.own)) (digit_here g own 1) ∙ ap (option_map (chosen 1)) at;
-    gone = record {
-      here = ap (option_map (chosen (g own))) (in_without own h.own);
-      others = λ n other. ap (option_map (chosen (g n))) (past_without n own h.own other) ∙ sym (ap (λ (k : ℕ). option_map (chosen k) (under n h.own)) (digit_past g own n 1 other));
-    };
-    outside = puts_out path (record { bytes = f.written; time = 0 }) h.outside;
-    gifts = refl;
-  }), λ ones. ones_kept own 1 g refl ones)
+  given_by own folder name path (Some f) at = (
+    with_digit own 1 g,
+    inr (record {
+      bytes = f.written;
+      time = 0;
+      was = ap (λ (k : ℕ). option_map (chosen k) (under own h.own)) (digit_here g own 1) ∙ ap (option_map (chosen 1)) at;
+      gone = record {
+        here = ap (option_map (chosen (g own))) (in_without own h.own);
+        others = λ n other. ap (option_map (chosen (g n))) (past_without n own h.own other) ∙ sym (ap (λ (k : ℕ). option_map (chosen k) (under n h.own)) (digit_past g own n 1 other));
+      };
+      outside = puts_out path (record { bytes = f.written; time = 0 }) h.outside;
+      gifts = refl;
+    }),
+    λ ones. ones_kept own 1 g refl ones,
+  )
 
 -- each call, from digits after it to digits before it
 picked_step : (x : Call) (h : Holding) (g : List ℕ → ℕ) → (g' : List ℕ → ℕ) × may x (shown h) (picked g' h) (picked g (play x h)) × (Ones g → Ones g')
@@ -210,7 +227,7 @@ pub calm_picked : (h : Holding) (g : List ℕ → ℕ) → h ≡ calm h → pick
 calm_picked h g is =
     ap (picked g) is
     ∙ ap (λ (own : Files). record { own = own; outside = λ path. under path h.outside; gifts = h.gifts })
-        (same_files (λ n. option_map (chosen (g n)) (under n (calm h).own)) (λ n. option_map (λ f. f.written) (under n h.own)) (λ n. ap (option_map (chosen (g n))) (under-map n h.own) ∙ settled_at n (under n h.own)))
+    (same_files (λ n. option_map (chosen (g n)) (under n (calm h).own)) (λ n. option_map (λ f. f.written) (under n h.own)) (λ n. ap (option_map (chosen (g n))) (under-map n h.own) ∙ settled_at n (under n h.own)))
   where
     settled_at : (n : List ℕ) (o : Option Kept) → option_map (chosen (g n)) (option_map (λ f. settled f.written) o) ≡ option_map (λ f. f.written) o
     settled_at n None = refl

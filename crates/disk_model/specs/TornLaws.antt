@@ -111,7 +111,7 @@ cut_spoiled how R len b =
     (cut_taken len (spoiled how R 0 b))
   where
     either : (i : ℕ) → (i < len) ⊎ (len + 0 ≤ i)
-    either i = elim (cases_lt i len) [ | inl lt ↦ inl lt | inr ge ↦ inr (omega (arith, ge)) ]
+    either i = elim (cases_lt i len) [ inl lt ↦ inl lt | inr ge ↦ inr (omega (arith, ge)) ]
 
 spoiled_none : (how : ℕ → ℕ) (k : ℕ) (bs : List ℕ) → spoiled how [] k bs ≡ bs
 spoiled_none how k [] = refl
@@ -131,15 +131,15 @@ chosen_pair R digit f g synced written changed = elim (cases_Bool (nat_eq digit 
 pub chosen_written : (digit at : ℕ) (bytes : List ℕ) (f : Kept) → Torn at (length bytes) (chosen digit f) (chosen digit (written_over at bytes f))
 chosen_written digit at bytes f = elim (cases_Bool (nat_le at (length f.written))) [
   | inl fits ↦ rw fits (chosen_pair (Torn at (length bytes)) digit f (record { written = splice at bytes f.written; synced = f.synced; ranges = f.ranges ++ (at, length bytes) ∷ [] })
-    (torn_same at (length bytes) f.synced) (torn_written at bytes f.written (within at (length f.written) fits))
-    (λ how. torn_spoiled how f.ranges at bytes f.written (within at (length f.written) fits)))
+      (torn_same at (length bytes) f.synced) (torn_written at bytes f.written (within at (length f.written) fits))
+      (λ how. torn_spoiled how f.ranges at bytes f.written (within at (length f.written) fits)))
   | inr past ↦ rw past (torn_same at (length bytes) (chosen digit f))
 ]
 
 pub chosen_shortened : (digit len : ℕ) (f : Kept) → Cut len (chosen digit f) (chosen digit (shortened len f))
 chosen_shortened digit len f = elim (cases_Bool (nat_le len (length f.written))) [
   | inl fits ↦ rw fits (chosen_pair (Cut len) digit f (record { written = take len f.written; synced = f.synced; ranges = f.ranges ++ (len, 0) ∷ [] })
-    (cut_same len f.synced) (cut_taken len f.written) (λ how. cut_spoiled how f.ranges len f.written))
+      (cut_same len f.synced) (cut_taken len f.written) (λ how. cut_spoiled how f.ranges len f.written))
   | inr past ↦ rw past (cut_same len (chosen digit f))
 ]
 

@@ -14,6 +14,8 @@ mod answers;
 mod disk;
 mod memory;
 mod name;
+#[cfg(test)]
+mod tests;
 mod yard;
 
 pub use answers::{Copied, Giving, Hit, ListFault, Made, Marking, Moved, OutStat};

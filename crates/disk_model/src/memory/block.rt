@@ -61,6 +61,7 @@ impl Block {
         Block::from_slice(alloc, self.as_slice())
     }
 }
+
 impl Clone for Block {
     ghost use Rattle.std.specs.Prelude.{◌≡◌};
 

@@ -13,6 +13,8 @@ pub struct MemDisk {
     pub(super) first: Holdings,
     pub(super) held: Holdings,
     pub(super) log: Vec<Call>,
+    // Behind each item of the log: how many own files had unsynced changes.
+    pub(super) changed: Vec<usize>,
     pub(super) calls: u64,
     pub(super) failing: Vec<u64>,
     pub(super) faults: u64,

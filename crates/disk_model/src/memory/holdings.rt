@@ -81,7 +81,13 @@ impl Holdings {
     }
 
     #[tactic(auto, using(std::proofs::lemmas::Map::Steps::set_value_same))]
-    fn write_at(&mut self, alloc: Global, name: &Name, at: usize, bytes: &[u8]) -> Result<(), NoMemory>
+    fn write_at(
+        &mut self,
+        alloc: Global,
+        name: &Name,
+        at: usize,
+        bytes: &[u8],
+    ) -> Result<(), NoMemory>
         ensures ok { OnOk result (self.new ≡ play (Wrote name.now at bytes.now) self.old) }
         ensures err { OnErr result (self.new ≡ self.old) }
     {
@@ -138,7 +144,13 @@ impl Holdings {
         move_own(alloc, &mut self.own, from, to)
     }
 
-    fn put_out(&mut self, alloc: Global, path: &Block, bytes: &Block, time: u64) -> Result<(), NoMemory>
+    fn put_out(
+        &mut self,
+        alloc: Global,
+        path: &Block,
+        bytes: &Block,
+        time: u64,
+    ) -> Result<(), NoMemory>
         ensures ok { OnOk result (self.new ≡ play (PutOut path.now bytes.now time) self.old) }
         ensures err { OnErr result (self.new ≡ self.old) }
     {
@@ -222,7 +234,12 @@ fn is_same(name: &Name, other: &Name) -> bool
 }
 
 // The new name finds its memory before the file leaves the old one.
-fn move_own(alloc: Global, files: &mut BTreeMap<Name, MemFile>, from: &Name, to: &Name) -> Result<(), NoMemory>
+fn move_own(
+    alloc: Global,
+    files: &mut BTreeMap<Name, MemFile>,
+    from: &Name,
+    to: &Name,
+) -> Result<(), NoMemory>
     requires apart { is_named from.now to.now ≡ false }
     requires stands { IsSome (under from.now files.old.entries) }
     ensures ok { OnOk result (IfSome (under from.now files.old.entries) (λ file. files.new.entries ≡ without from.now (adding to.now file files.old.entries))) }

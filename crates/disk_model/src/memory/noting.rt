@@ -25,6 +25,7 @@ impl MemDisk {
             first: Holdings::new(alloc),
             held: Holdings::new(alloc),
             log: Vec::new(alloc),
+            changed: Vec::new(alloc),
             calls: 0,
             failing: Vec::new(alloc),
             faults: 0,
@@ -32,7 +33,11 @@ impl MemDisk {
     }
 
     /// The call of that number, counted from 1, is to fail.
-    pub fn fail_at(&mut self, call: u64) -> Result<(), NoMemory> {
+    pub fn fail_at(&mut self, call: u64) -> Result<(), NoMemory>
+        ensures listed { OnOk result (self.new.failing.items ≡ self.old.failing.items ++ call ∷ []) }
+        ensures same { Unnoted self.old self.new }
+        ensures faults { self.new.faults ≡ self.old.faults }
+    {
         self.failing.push(call)?;
         Ok(())
     }
@@ -64,7 +69,16 @@ impl MemDisk {
         ensures faults { self.new.faults ≡ self.old.faults }
     {
         self.log.reserve(1)?;
-        self.held.play(self.alloc, &call)?;
+        let before = self.changed.last().copied().unwrap_or(0);
+        let touched = self.held.changed_by(&call);
+        self.changed.push(before.saturating_sub(touched))?;
+        if self.held.play(self.alloc, &call).is_err() {
+            self.changed.pop();
+            return Err(NoMemory);
+        }
+        if let Some(changed) = self.changed.last_mut() {
+            *changed = changed.saturating_add(self.held.changed_by(&call));
+        }
         let calls = calls_with(self.calls, &self.log, &call);
         match self.log.push(call) {
             Ok(()) => {

@@ -3,6 +3,7 @@ ghost use Rattle.std.specs.Prelude.{◌≡◌, ◌+◌, ◌≤◌, length, take,
 ghost use Rattle.disk_model.specs.Folders.{Ascend};
 ghost use Rattle.disk_model.specs.Holding.{under};
 
+use super::call::Call;
 use super::holdings::Holdings;
 use crate::Name;
 use ftn_addr::NoMemory;
@@ -14,6 +15,32 @@ impl Holdings {
         ensures { result ≡ is_some (under name.now self.now.own) }
     {
         self.own.contains_key(name)
+    }
+
+    /// How many of the own files that a call names have unsynced changes.
+    pub fn changed_by(&self, call: &Call) -> usize {
+        match call {
+            Call::Wrote(name, ..)
+            | Call::Shortened(name, _)
+            | Call::Synced(name)
+            | Call::Created(name)
+            | Call::Removed(name)
+            | Call::Moved(_, name)
+            | Call::Copied(name, _)
+            | Call::Given(name, ..) => self.changed_at(name),
+            Call::Renamed(from, to) if from == to => self.changed_at(from),
+            Call::Renamed(from, to) => self.changed_at(from) + self.changed_at(to),
+            Call::Nothing | Call::Placed(..) | Call::PutOut(..) | Call::LostOut(_) => 0,
+        }
+    }
+
+    fn changed_at(&self, name: &Name) -> usize
+        ensures { result ≤ 1 }
+    {
+        match self.own.get(name) {
+            Some(file) if file.is_changed() => 1,
+            _ => 0,
+        }
     }
 
     /// The length of an own file.

@@ -1,5 +1,5 @@
 //! Stops of a disk in memory.
-ghost use Rattle.std.specs.Prelude.{◌≡◌, ◌≤◌, ℕ, List, [], IfOk, OnOk, IfErr, map};
+ghost use Rattle.std.specs.Prelude.{◌≡◌, ◌≤◌, ℕ, List, [], length, IfOk, OnOk, IfErr, map};
 ghost use Rattle.disk_model.specs.Changes.{Every};
 ghost use Rattle.disk_model.specs.Kept.{settled, chosen};
 ghost use Rattle.disk_model.specs.Holding.{calls_in, first_calls, replay, under, adding, calm, shown, picked};
@@ -45,10 +45,43 @@ impl MemDisk {
             first,
             held,
             log: Vec::new(self.alloc),
+            changed: Vec::new(self.alloc),
             calls: 0,
             failing: Vec::new(self.alloc),
             faults: 0,
         })
+    }
+
+    /// How many numbers pick the images of a stop after so many calls: 4 to the number of files with
+    /// unsynced changes, or 2^64 - 1 where there are more than 31. It takes no memory.
+    pub fn picks(&self, after: u64) -> u64
+        ensures some { 1 ≤ result }
+    {
+        let place = self.place_after(after);
+        let changed = match place {
+            0 => 0,
+            _ => self.changed.get(place - 1).copied().unwrap_or(0),
+        };
+        if changed > 31 {
+            return u64::MAX;
+        }
+        1u64 << (2 * changed)
+    }
+
+    // How many items of the log stand before the call behind so many.
+    fn place_after(&self, after: u64) -> usize
+        ensures { result ≡ length (first_calls after self.now.log.items) }
+    {
+        let mut left = after;
+        for (place, call) in self.log.iter().enumerate() {
+            if call.is_call() {
+                if left == 0 {
+                    return place;
+                }
+                left -= 1;
+            }
+        }
+        self.log.len()
     }
 
     // What was kept after so many calls.

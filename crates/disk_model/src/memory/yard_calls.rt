@@ -149,7 +149,13 @@ impl Yard for MemDisk {
     }
 }
 
-fn given(alloc: Global, own: &Name, folder: &Bytes, name: &Bytes, path: Block) -> Result<Call, NoMemory>
+fn given(
+    alloc: Global,
+    own: &Name,
+    folder: &Bytes,
+    name: &Bytes,
+    path: Block,
+) -> Result<Call, NoMemory>
     ensures { IfOk result (λ it. it ≡ Given own.now folder.now.list name.now.list path) }
 {
     let folder = Block::from_bytes(alloc, folder)?;

@@ -17,3 +17,6 @@ returns-in-Ok-note-clause-read c =
 
 pub returns-in-Err-clause-read : goal.returns-in-Err-clause-read
 returns-in-Err-clause-read c = at_once_failed (Removes c.args.path.now.list) (mem_files c.args.self.now) (mem_files c.note.new.self) c.in-Err.ensures.read
+
+pub returns-in_default-clause-read : goal.returns-in_default-clause-read
+returns-in_default-clause-read c = at_once_unchanged (Removes c.args.path.now.list) (mem_files c.args.self.now) (mem_files c.no_memory.new.self) c.no_memory.ensures.read

@@ -29,3 +29,6 @@ returns-in-Ok-note-clause-read c =
 
 pub returns-in-Err-clause-read : goal.returns-in-Err-clause-read
 returns-in-Err-clause-read c = at_once_failed (Takes c.args.path.now.list c.args.own.now) (mem_files c.args.self.now) (mem_files c.note.new.self) c.in-Err.ensures.read
+
+pub returns-in_default-clause-read : goal.returns-in_default-clause-read
+returns-in_default-clause-read c = at_once_unchanged (Takes c.args.path.now.list c.args.own.now) (mem_files c.args.self.now) (mem_files c.no_memory.new.self) c.no_memory.ensures.read
