@@ -1,6 +1,6 @@
 -- The names in a folder, and whether a path is in use.
-use Rattle.std.proofs.Common.{◌≡◌, ◌≢◌, ◌⊎◌, inl, inr, ℕ, zero, suc, ◌+◌, ◌<◌, ◌≤◌, List, [], ◌∷◌, ◌++◌, length, get_or, take, drop, map, Option, Some, None, Bool, true, false, cond, refl, sym, ◌∙◌, ap, subst, arith, length-append, take-append-drop}
-use Rattle.std.specs.Prelude.{◌||◌, ◌&&◌, not, nat_eq, Contains, if◌then◌else◌, Result, Ok, Err, IfOk}
+use Rattle.std.proofs.Common.{◌≡◌, ◌≢◌, ◌⊎◌, inl, inr, ℕ, ◌+◌, ◌<◌, List, [], ◌∷◌, ◌++◌, length, get_or, take, drop, map, Some, Bool, true, false, cond, refl, sym, ◌∙◌, ap, arith, take-append-drop}
+use Rattle.std.specs.Prelude.{◌||◌, ◌&&◌, not, nat_eq, Result, Ok, Err, IfOk}
 use Rattle.std.specs.Str.{bytes_eq}
 use Rattle.std.specs.List.{list_any, before_first}
 use Rattle.std.proofs.lemmas.Slice.Eq.{bytes_eq-Decides}
@@ -8,7 +8,6 @@ use Rattle.std.proofs.lemmas.Map.Text.{is_eq-slice_cmp}
 use Rattle.std.proofs.lemmas.Bool.{cases_Bool}
 use Rattle.std.proofs.lemmas.List.{map_more, take_at, drop_at}
 use Rattle.std.proofs.lemmas.List.Folds.{list_any-append}
-use denote.Ref.{Bor}
 use Rattle.disk_model.specs.Holding.{is_named}
 use Rattle.std.specs.Ordering.{nat_cmp, eq_by_cmp}
 use Rattle.std.specs.Cmp.{eq_by_cmp_equiv}
@@ -19,7 +18,7 @@ use Rattle.std.proofs.lemmas.Bool.{and_parts}
 use Rattle.std.proofs.lemmas.List.{append-nil, append_assoc, take_all, drop_all}
 use Rattle.std.proofs.lemmas.List.Sums.{take_while-cons}
 use Rattle.disk_model.specs.World.{OutFile}
-use Rattle.disk_model.specs.Folders.{front_of, path_in, begins_below, is_at_or_below, entry_of, leads_to, IsInUse, IsEntryName, Ascend, ListsFolder}
+use Rattle.disk_model.specs.Folders.{front_of, begins_below, is_at_or_below, entry_of, leads_to, IsInUse, IsEntryName, Ascend, ListsFolder}
 use Rattle.disk_model.specs.Holding.{under}
 use Rattle.disk_model.specs.EntryLaws.{named_same, named_is, named_turned}
 

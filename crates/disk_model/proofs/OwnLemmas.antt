@@ -1,20 +1,18 @@
 -- Own files: what a query found is what a read gives.
-use Rattle.std.proofs.Common.{◌≡◌, ◌≢◌, ◌⊎◌, inl, inr, ℕ, ◌+◌, ◌≤◌, List, [], ◌∷◌, ◌++◌, length, take, drop, map, Option, Some, None, Bool, true, false, refl, sym, ◌∙◌, ap, subst, arith}
-use Rattle.std.specs.Prelude.{option_map, is_some, IsSome, IfSome, Contains, nat_le, if◌then◌else◌}
+use Rattle.std.proofs.Common.{◌≡◌, ℕ, ◌+◌, ◌≤◌, List, length, take, drop, map, Option, Some, None, true, refl, sym, ◌∙◌, ap, subst, arith}
+use Rattle.std.specs.Prelude.{option_map, is_some, IsSome, IfSome, Contains, nat_le}
 use Rattle.std.specs.Ordering.{nat_cmp, eq_by_cmp}
 use Rattle.std.specs.Cmp.{eq_by_cmp_equiv}
 use Rattle.std.specs.Cmp.Lexicographic.{slice_cmp, nat_list_cmp_total}
 use Rattle.std.proofs.lemmas.Map.Views.{Contains-keys_from_lookup, IsSome-lookup_from_Contains}
-use Rattle.std.proofs.lemmas.Bool.{cases_Bool, le-leb}
-use Rattle.std.proofs.lemmas.List.{take_all}
-use Rattle.disk_model.specs.World.{Files, World}
-use Rattle.disk_model.specs.Changes.{Stands, Rewrites, Torn, Cut, Holds}
+use Rattle.std.proofs.lemmas.Bool.{le-leb}
+use Rattle.disk_model.specs.World.{Files}
+use Rattle.disk_model.specs.Changes.{Stands, Rewrites, Holds}
 use Rattle.disk_model.specs.Folders.{Ascend, ListsFiles}
 use Rattle.disk_model.specs.Kept.{Kept, splice, written_over, shortened}
 use Rattle.disk_model.specs.Holding.{Holding, under, amending, shown}
 use Rattle.disk_model.specs.EntryLaws.{named_is}
 use Rattle.disk_model.specs.StopLaws.{own_by, rewritten}
-use Rattle.disk_model.specs.TornLaws.{torn_same, cut_same}
 
 pub stands_of : (o : Option Kept) → is_some o ≡ true → (b : List ℕ) × (option_map (λ f. f.written) o ≡ Some b) × (0 ≤ length b)
 stands_of None is = absurd (cc is)

@@ -1,13 +1,12 @@
 -- From the step of a noted call to the step that a clause names.
-use Rattle.std.proofs.Common.{◌≡◌, ◌⊎◌, inl, inr, ℕ, List, Option, Some, None, true, Result, Ok, Err, refl, sym, ◌∙◌, ap, subst}
-use Rattle.std.specs.Prelude.{IfOk, OnOk, MatchResult, option_map, is_some}
+use Rattle.std.proofs.Common.{◌≡◌, ◌⊎◌, inl, Option, Some, None, true, Result, Ok, Err, refl, sym, ◌∙◌, ap, subst}
+use Rattle.std.specs.Prelude.{IfOk, OnOk, MatchResult, is_some}
 use Rattle.ftn_addr.specs.declared.refusals.NoMemory.{NoMemory}
 use Rattle.disk_model.specs.World.{Files, World}
 use Rattle.disk_model.specs.Changes.{Every, Follows, Same, AtOnce, OnOwn}
 use Rattle.disk_model.specs.Holding.{Holding, play, shown}
 use Rattle.disk_model.specs.MemoryDisk.{may, mem_files, Plays}
 use Rattle.disk_model.specs.declared.memory.call.Call.{Call}
-use Rattle.disk_model.specs.declared.memory.call.Call.TheVariants.{Nothing}
 use Rattle.disk_model.specs.declared.memory.disk.MemDisk.{MemDisk}
 
 -- where the step of a done call and no step at all both are R

@@ -1,10 +1,10 @@
 -- A file in memory: what is taken back is what was there.
-use Rattle.std.proofs.Common.{◌≡◌, ℕ, ◌+◌, ◌-◌, ◌≤◌, ◌<◌, min, List, [], ◌∷◌, ◌++◌, length, get_or, take, drop, map, true, inl, inr, refl, sym, ◌∙◌, ap, subst, arith, length-append, length-drop, length-take, append_assoc, take-append-drop}
+use Rattle.std.proofs.Common.{◌≡◌, ℕ, ◌+◌, ◌-◌, ◌≤◌, ◌<◌, min, List, [], ◌∷◌, ◌++◌, length, get_or, take, drop, map, true, inl, inr, refl, sym, ◌∙◌, ap, arith, length-append, length-drop, append_assoc, take-append-drop}
 use Rattle.std.specs.Prelude.{nat_le, nat_lt, ◌&&◌, ◌||◌, Bool, if◌then◌else◌}
 use Rattle.std.specs.List.{list_any}
 use Rattle.std.proofs.lemmas.Bool.{le-leb, cases_lt}
-use Rattle.std.proofs.lemmas.List.{append-nil, map-append, take_at, drop_at, take_all, drop_all, take-take, take-append-le, drop-append-le, length-take-le, drop-drop, take_more}
-use Rattle.disk_model.specs.Kept.{Kept, splice, written_over, shortened, is_open, spoiled}
+use Rattle.std.proofs.lemmas.List.{append-nil, map-append, take_at, drop_at, take_all, drop_all, take-take, take-append-le, length-take-le, drop-drop, take_more}
+use Rattle.disk_model.specs.Kept.{splice, written_over, shortened, is_open, spoiled}
 use Rattle.disk_model.specs.Undo.{taken_back, all_taken_back, range_of, kept_file}
 use Rattle.disk_model.specs.declared.memory.file.Change.{Change}
 

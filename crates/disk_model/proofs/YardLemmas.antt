@@ -1,12 +1,12 @@
 -- A copy and a gift, as a read gives them.
-use Rattle.std.proofs.Common.{◌≡◌, ◌⊎◌, inl, inr, ⊎_elim, ℕ, List, Option, Some, None, refl, sym, ◌∙◌, ap, subst}
+use Rattle.std.proofs.Common.{◌≡◌, inl, inr, ℕ, List, Option, Some, None, refl, sym, ◌∙◌, ap, subst}
 use Rattle.std.specs.Prelude.{option_map}
-use Rattle.disk_model.specs.World.{Files, OutFile, World}
-use Rattle.disk_model.specs.Changes.{Every, Follows, Same, OnOwn, Puts, PutsPart, Gives}
+use Rattle.disk_model.specs.World.{OutFile, World}
+use Rattle.disk_model.specs.Changes.{Every, Follows, OnOwn, Puts, PutsPart}
 use Rattle.disk_model.specs.Answers.{stat_of}
 use Rattle.disk_model.specs.Kept.{unsynced}
-use Rattle.disk_model.specs.Holding.{Holding, under, adding, play, shown}
-use Rattle.disk_model.specs.MemoryDisk.{mem_files, may}
+use Rattle.disk_model.specs.Holding.{under, play, shown}
+use Rattle.disk_model.specs.MemoryDisk.{mem_files}
 use Rattle.disk_model.specs.StopLaws.{added}
 use Rattle.disk_model.specs.declared.memory.call.Call.TheVariants.{Copied}
 use Rattle.disk_model.specs.declared.answers.OutStat.{OutStat}

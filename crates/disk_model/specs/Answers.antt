@@ -1,5 +1,5 @@
 -- What each answer of a disk says of the world before the call, and what it does (own).
-use Rattle.std.specs.Prelude.{◌≡◌, ◌≢◌, ◌⊎◌, ℕ, ◌<◌, ◌≤◌, List, [], length, Option, Some, None, Result, Ok, Err, option_map}
+use Rattle.std.specs.Prelude.{◌≡◌, ◌≢◌, ℕ, ◌<◌, ◌≤◌, List, [], length, Option, Some, None, Result, Ok, Err, option_map}
 use Rattle.ftn_addr.specs.declared.refusals.Failed.{Failed}
 use Rattle.disk_model.specs.World.{OutFile, World}
 use Rattle.disk_model.specs.Changes.{Same, Stands, IsFree, OnOwn, OnOutside, Puts, PutsPart, Moves, Gives, PutsOut}

@@ -1,6 +1,6 @@
 -- What a call of a disk may do to the world (own).
 use Rattle.std.specs.Prelude.{◌≡◌, ◌≢◌, ◌⊎◌, ℕ, ◌+◌, ◌≤◌, min, max, List, [], ◌∷◌, ◌++◌, length, take, drop, Option, Some, None, Result, MatchResult}
-use Rattle.disk_model.specs.World.{Files, OutFile, Gift, World}
+use Rattle.disk_model.specs.World.{Files, OutFile, World}
 
 -- each of these worlds has P. Of a disk that doesn't tell there are none.
 abbrev pub Every : (World → Type 0) → (World → Type 0) → Type 0

@@ -1,5 +1,5 @@
 -- The names that stand in a folder of outside files (own).
-use Rattle.std.specs.Prelude.{◌≡◌, ◌≢◌, ◌⊎◌, ◌↔◌, ℕ, List, [], ◌∷◌, ◌++◌, Option, Some, None, Contains, if◌then◌else◌, ◌||◌, ◌&&◌, ◌+◌, length, take, drop, not, nat_eq, Bool, true, false}
+use Rattle.std.specs.Prelude.{◌≡◌, ◌≢◌, ◌⊎◌, ℕ, List, [], ◌∷◌, ◌++◌, Option, Some, Contains, if◌then◌else◌, ◌||◌, ◌&&◌, length, take, drop, not, nat_eq, Bool, true, false}
 use Rattle.std.specs.List.{before_first, list_any}
 use Rattle.std.specs.Str.{bytes_eq}
 use Rattle.std.specs.Ordering.{nat_cmp}

@@ -1,5 +1,5 @@
 -- What a disk in memory keeps, and how its calls change it (own).
-use Rattle.std.specs.Prelude.{◌≡◌, ◌⊎◌, ℕ, ◌-◌, nat_eq, count_by, List, [], ◌∷◌, ◌++◌, length, Option, Some, None, option_map, Bool, true, false, not, map, if◌then◌else◌}
+use Rattle.std.specs.Prelude.{ℕ, ◌-◌, nat_eq, count_by, List, [], ◌∷◌, ◌++◌, Option, Some, None, option_map, Bool, true, false, not, map, if◌then◌else◌}
 use Rattle.std.specs.List.{filter}
 use Rattle.std.specs.Map.{lookup, set_value}
 use Rattle.std.specs.BTreeMap.{is_at, insert_entry}

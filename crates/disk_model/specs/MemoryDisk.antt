@@ -1,10 +1,9 @@
 -- A disk in memory: what a read gives, and what a stop may leave after so many of its calls (own).
-use Rattle.std.specs.Prelude.{◌≡◌, ◌⊎◌, ℕ, ◌-◌, List, [], ◌∷◌, ◌++◌, length, take, map, count_by, Option, Some, None, Bool, nat_eq, if◌then◌else◌, Result, Ok, Err, MatchResult, IsErr}
+use Rattle.std.specs.Prelude.{◌≡◌, ◌⊎◌, ℕ, List, [], ◌∷◌, ◌++◌, length, take, Some, None, Result, Ok, Err, MatchResult, IsErr}
 use Rattle.ftn_addr.specs.declared.refusals.NoMemory.{NoMemory}
-use Rattle.disk_model.specs.World.{OutFile, World}
+use Rattle.disk_model.specs.World.{World}
 use Rattle.disk_model.specs.Changes.{OnOwn, OnOutside, Rewrites, Torn, Cut, Puts, PutsPart, Renames, Moves, Gives}
-use Rattle.disk_model.specs.Kept.{Kept, settled}
-use Rattle.disk_model.specs.Holding.{Holding, first_calls, play, replay, shown}
+use Rattle.disk_model.specs.Holding.{Holding, first_calls, play, shown}
 use Rattle.disk_model.specs.declared.memory.call.Call.{Call}
 use Rattle.disk_model.specs.declared.memory.call.Call.TheVariants.{Nothing, Wrote, Shortened, Synced, Created, Removed, Renamed, Placed, PutOut, LostOut, Moved, Copied, Given}
 use Rattle.disk_model.specs.declared.memory.disk.MemDisk.{MemDisk}

@@ -1,13 +1,13 @@
 -- A disk in memory is a disk.
-use Rattle.std.proofs.Common.{◌≡◌, ◌⊎◌, inl, inr, ℕ, ◌+◌, ◌≤◌, List, [], ◌∷◌, ◌++◌, length, take, refl, sym, ◌∙◌, ap, subst, arith, length-append, Result, Ok, Err}
-use Rattle.std.specs.Prelude.{OnOk, IfOk, MatchResult}
+use Rattle.std.proofs.Common.{◌≡◌, inl, inr, ℕ, ◌+◌, List, [], ◌∷◌, ◌++◌, length, take, refl, sym, ◌∙◌, ap, subst, arith, length-append, Result, Ok, Err}
+use Rattle.std.specs.Prelude.{OnOk, MatchResult}
 use Rattle.std.proofs.lemmas.List.{take_all, take-append-le}
 use Rattle.ftn_addr.specs.declared.refusals.NoMemory.{NoMemory}
 use Rattle.disk_model.specs.World.{World}
 use Rattle.disk_model.specs.Changes.{Follows}
 use Rattle.disk_model.specs.Moments.{Now, Steps}
-use Rattle.disk_model.specs.Holding.{Holding, play, replay, calm, shown}
-use Rattle.disk_model.specs.MemoryDisk.{may, run, left, mem_files, mem_moment, mem_images, Added, Unnoted, Noted, NotedAs, Plays}
+use Rattle.disk_model.specs.Holding.{Holding, play, replay, shown}
+use Rattle.disk_model.specs.MemoryDisk.{may, run, left, mem_files, mem_moment, mem_images, Added, Unnoted, NotedAs, Plays}
 use Rattle.disk_model.specs.StopLaws.{shown_left, whole}
 use Rattle.disk_model.specs.declared.memory.call.Call.{Call}
 use Rattle.disk_model.specs.declared.memory.call.Call.TheVariants.{Nothing}

@@ -1,6 +1,6 @@
 -- The moments of a disk are the numbers up to `moment`, and `images d k` is what a stop at the moment k may have left.
 use Rattle.std.specs.Prelude.{◌≡◌, ◌⊎◌, ℕ, ◌+◌, ◌<◌, ◌≤◌}
-use Rattle.std.proofs.Common.{inl, inr, ⊎_elim, refl, sym, subst, arith}
+use Rattle.std.proofs.Common.{inl, inr, ⊎_elim, sym, subst, arith}
 use Rattle.std.proofs.lemmas.Bool.{cases_lt}
 use Rattle.disk_model.specs.World.{World}
 use Rattle.disk_model.specs.Changes.{Follows, Same}

@@ -1,5 +1,5 @@
 -- The names of own files: 1 to 64 bytes of a-z, 0-9, '.' and '-' (own).
-use Rattle.std.specs.Prelude.{◌≡◌, ℕ, ◌-◌, Bool, true, nat_le, nat_eq, ◌&&◌, ◌||◌, IsTrue, List, ◌++◌, length, take, replicate}
+use Rattle.std.specs.Prelude.{◌≡◌, ℕ, ◌-◌, Bool, true, nat_le, nat_eq, ◌&&◌, ◌||◌, List, ◌++◌, length, take, replicate}
 use Rattle.std.specs.List.{list_all}
 
 abbrev pub is_name_byte : ℕ → Bool

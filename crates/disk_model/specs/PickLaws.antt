@@ -1,18 +1,16 @@
 -- What stands under each name in the image that a number picks.
-use Rattle.std.proofs.Common.{◌≡◌, ◌≢◌, ◌⊎◌, inl, inr, ℕ, zero, suc, ◌+◌, ◌-◌, List, [], ◌∷◌, ◌++◌, length, take, drop, map, Option, Some, None, Bool, true, false, cond, refl, sym, ◌∙◌, ap, subst, arith}
-use Rattle.std.specs.Prelude.{option_map, nat_eq, if◌then◌else◌}
+use Rattle.std.proofs.Common.{◌≡◌, inl, inr, ℕ, suc, ◌+◌, ◌-◌, List, [], ◌∷◌, length, take, map, Option, Some, None, Bool, true, false, refl, sym, ◌∙◌, ap, arith}
+use Rattle.std.specs.Prelude.{option_map, nat_eq}
 use Rattle.std.specs.Ordering.{nat_cmp, match_ordering}
 use Rattle.std.specs.declared.cmp.Ordering.{Ordering}
 use Rattle.std.specs.declared.cmp.Ordering.TheVariants.{Less, Equal, Greater}
 use Rattle.std.specs.Cmp.Lexicographic.{slice_cmp}
 use Rattle.std.proofs.lemmas.Bool.{cases_Bool}
-use Rattle.disk_model.specs.World.{Files, World}
+use Rattle.disk_model.specs.World.{Files}
 use Rattle.disk_model.specs.Kept.{Kept, settled, chosen}
-use Rattle.disk_model.specs.Holding.{Holding, is_named, is_call, first_calls, under, adding, with_own, replay, play, calm, shown, picked}
+use Rattle.disk_model.specs.Holding.{Holding, is_named, is_call, first_calls, under, adding, with_own, shown, picked}
 use Rattle.disk_model.specs.EntryLaws.{under-adding, named_is}
-use Rattle.disk_model.specs.StopLaws.{picked_left}
 use Rattle.disk_model.specs.Picks.{digit_for, rest_for, digit_of, stopped_files, either}
-use Rattle.disk_model.specs.MemoryDisk.{left}
 use Rattle.disk_model.specs.declared.memory.call.Call.{Call}
 
 pub under-stopped : (q : List ℕ) (pick : ℕ) (es : List (List ℕ × Kept)) → under q (stopped_files pick es) ≡ option_map (λ f. settled (chosen (digit_of pick es q) f)) (under q es)

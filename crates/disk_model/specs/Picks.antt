@@ -1,8 +1,7 @@
 -- The image of a stop that a number picks (own).
-use Rattle.std.specs.Prelude.{◌≡◌, ℕ, ◌/◌, ◌%◌, List, [], ◌∷◌, Option, Some, None, option_map, if◌then◌else◌}
-use Rattle.disk_model.specs.World.{Files, World}
+use Rattle.std.specs.Prelude.{ℕ, ◌/◌, ◌%◌, List, [], ◌∷◌, Option, Some, None, if◌then◌else◌}
 use Rattle.disk_model.specs.Kept.{Kept, settled, is_changed, chosen}
-use Rattle.disk_model.specs.Holding.{Holding, is_named, under, with_own, shown, picked}
+use Rattle.disk_model.specs.Holding.{is_named}
 
 -- the files with unsynced changes, in the order of their names, each take the next digit of the pick in base 4
 abbrev pub digit_for : ℕ → Kept → ℕ

@@ -1,11 +1,11 @@
 -- What is picked by digits is what a stop may have left.
-use Rattle.std.proofs.Common.{◌≡◌, ◌≢◌, ◌⊎◌, inl, inr, ℕ, zero, suc, ◌+◌, ◌≤◌, List, [], ◌∷◌, ◌++◌, length, take, map, Option, Some, None, Bool, true, false, refl, sym, ◌∙◌, ap, subst, arith, length-append}
+use Rattle.std.proofs.Common.{◌≡◌, ◌≢◌, ◌⊎◌, inl, inr, ℕ, List, [], ◌∷◌, length, map, Option, Some, None, Bool, true, false, refl, sym, ◌∙◌, ap, subst, arith}
 use Rattle.std.specs.Prelude.{option_map, if◌then◌else◌}
 use Rattle.std.proofs.lemmas.Bool.{cases_Bool}
-use Rattle.disk_model.specs.World.{Files, OutFile, Gift, World}
-use Rattle.disk_model.specs.Changes.{OnOwn, OnOutside, Rewrites, Torn, Cut, Puts, PutsPart, Renames, Moves, Gives}
+use Rattle.disk_model.specs.World.{Files, OutFile, World}
+use Rattle.disk_model.specs.Changes.{OnOwn, Rewrites, Torn, Cut, Puts, PutsPart, Renames, Moves, Gives}
 use Rattle.disk_model.specs.Kept.{Kept, settled, unsynced, written_over, shortened, made_durable, chosen}
-use Rattle.disk_model.specs.Holding.{Holding, is_named, under, adding, without, amending, with_own, with_outside, renamed, moved, given, play, replay, calm, shown, picked}
+use Rattle.disk_model.specs.Holding.{Holding, is_named, under, adding, without, amending, with_own, renamed, moved, given, play, replay, calm, shown, picked}
 use Rattle.disk_model.specs.EntryLaws.{named_same, named_is, named_other, in_adding, past_adding, in_without, past_without, in_amending, past_amending}
 use Rattle.disk_model.specs.TornLaws.{chosen_written, chosen_shortened, chosen_settled, length-chosen-le}
 use Rattle.disk_model.specs.MemoryDisk.{may, run, left}

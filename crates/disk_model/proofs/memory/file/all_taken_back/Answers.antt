@@ -1,5 +1,5 @@
-use Rattle.std.proofs.Common.{◌≡◌, ◌+◌, ◌-◌, ◌<◌, ◌≤◌, ◌∙◌, ℕ, List, length, get_or, take, ap, sym, rules, arith}
-use Rattle.disk_model.specs.Undo.{all_taken_back, taken_back}
+use Rattle.std.proofs.Common.{◌≡◌, ◌+◌, ◌-◌, ◌<◌, ◌∙◌, ℕ, length, take, ap, sym, rules, arith}
+use Rattle.disk_model.specs.Undo.{all_taken_back}
 use Rattle.disk_model.proofs.UndoLemmas.{taken_back_last}
 use Rattle.disk_model.proofs.memory.file.all_taken_back.Goals as goal
 

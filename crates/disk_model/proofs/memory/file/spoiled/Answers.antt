@@ -1,4 +1,4 @@
-use Rattle.std.proofs.Common.{◌≡◌, ◌+◌, ◌<◌, ◌++◌, ◌∷◌, [], ◌∙◌, ℕ, List, length, get_or, take, map, ap, sym, rules}
+use Rattle.std.proofs.Common.{◌<◌, ◌++◌, ◌∷◌, [], ◌∙◌, ℕ, List, length, take, map, ap, sym, rules}
 use Rattle.disk_model.specs.Kept.{spoiled, spoilt_by}
 use Rattle.disk_model.specs.Undo.{range_of}
 use Rattle.disk_model.proofs.UndoLemmas.{spoiled_more}

@@ -1,4 +1,3 @@
-use Rattle.std.proofs.Common.{rules, sym}
 use Rattle.disk_model.proofs.HoldingLemmas.{filled, keeps_place}
 use Rattle.disk_model.proofs.memory.holdings.move_own.Goals as goal
 

@@ -1,4 +1,4 @@
-use Rattle.std.proofs.Common.{◌≡◌, List, [], ℕ, false, rules}
+use Rattle.std.proofs.Common.{◌≡◌, [], false, rules}
 use Rattle.std.specs.Str.{bytes_eq}
 use Rattle.std.specs.List.{list_any}
 use Rattle.disk_model.specs.Holding.{is_named}

@@ -1,8 +1,8 @@
-use Rattle.std.proofs.Common.{◌≡◌, ◌+◌, ◌<◌, List, [], ℕ, Bool, length, map, take, refl, sym, ◌∙◌, ap, subst, rules, arith}
+use Rattle.std.proofs.Common.{◌≡◌, ◌<◌, List, [], ℕ, Bool, length, sym, ◌∙◌, ap, rules}
 use Rattle.std.specs.Prelude.{◌||◌, ◌&&◌, not}
 use Rattle.std.specs.Str.{bytes_eq}
 use Rattle.std.specs.List.{list_any}
-use Rattle.disk_model.specs.Folders.{front_of, entry_of, leads_to, Ascend}
+use Rattle.disk_model.specs.Folders.{front_of, entry_of, leads_to}
 use Rattle.disk_model.specs.Holding.{is_named}
 use Rattle.disk_model.proofs.FolderLemmas.{one_more}
 use Rattle.disk_model.proofs.memory.outside_files.names_in.Goals as goal

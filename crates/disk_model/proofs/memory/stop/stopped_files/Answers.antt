@@ -1,7 +1,7 @@
-use Rattle.std.proofs.Common.{◌≡◌, ◌∙◌, ℕ, List, map, ap, sym, refl}
+use Rattle.std.proofs.Common.{◌∙◌, ℕ, List, map, ap, sym, refl}
 use Rattle.disk_model.specs.Kept.{Kept, settled, chosen}
 use Rattle.disk_model.specs.Holding.{under, adding}
-use Rattle.disk_model.specs.Picks.{digit_for, rest_for, stopped_files, either}
+use Rattle.disk_model.specs.Picks.{digit_for, stopped_files, either}
 use Rattle.disk_model.specs.PickLaws.{one_chosen, calm_adding}
 use Rattle.disk_model.proofs.memory.stop.stopped_files.Goals as goal
 

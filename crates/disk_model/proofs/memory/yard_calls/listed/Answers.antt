@@ -1,4 +1,4 @@
-use Rattle.std.proofs.Common.{◌≡◌, ◌∙◌, List, ℕ, map, ap, sym, subst, rules}
+use Rattle.std.proofs.Common.{◌≡◌, ◌∙◌, map, ap, sym, subst}
 use Rattle.std.specs.List.{list_any}
 use Rattle.disk_model.specs.Folders.{front_of, leads_to, ListsFolder}
 use Rattle.disk_model.specs.Holding.{under}

@@ -1,11 +1,10 @@
-use Rattle.std.proofs.Common.{◌≡◌, List, ℕ, Some, Ok, Err, Result, ◌∙◌, ap, subst, refl}
+use Rattle.std.proofs.Common.{◌≡◌, List, ℕ, Some, Ok, Err, Result, ◌∙◌, ap, subst}
 use Rattle.std.specs.Prelude.{OnOk}
-use Rattle.disk_model.specs.World.{World}
-use Rattle.disk_model.specs.Changes.{Follows, OnOutside, Puts}
+use Rattle.disk_model.specs.Changes.{OnOutside, Puts}
 use Rattle.disk_model.specs.Moments.{Steps}
 use Rattle.disk_model.specs.Holding.{play, shown}
 use Rattle.disk_model.specs.StopLaws.{whole}
-use Rattle.disk_model.specs.MemoryDisk.{may, mem_files, mem_moment, mem_images, Added}
+use Rattle.disk_model.specs.MemoryDisk.{may, mem_moment, mem_images, Added}
 use Rattle.disk_model.specs.MemoryLaws.{added_steps}
 use Rattle.disk_model.specs.declared.memory.call.Call.{Call}
 use Rattle.disk_model.specs.declared.memory.call.Call.TheVariants.{Placed}

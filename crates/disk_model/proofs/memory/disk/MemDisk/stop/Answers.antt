@@ -1,4 +1,4 @@
-use Rattle.std.proofs.Common.{◌≡◌, ◌∙◌, List, length, take, sym, subst}
+use Rattle.std.proofs.Common.{◌∙◌, List, length, take, sym, subst}
 use Rattle.disk_model.specs.Holding.{first_calls, replay, picked}
 use Rattle.disk_model.specs.Picks.{digit_of}
 use Rattle.disk_model.specs.StopLaws.{picked_left}

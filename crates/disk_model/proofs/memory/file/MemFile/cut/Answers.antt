@@ -1,4 +1,4 @@
-use Rattle.std.proofs.Common.{rules, ◌≡◌, ◌≤◌, ◌++◌, ◌∷◌, [], ◌∙◌, ap, sym, List, ℕ, length, take, drop, arith}
+use Rattle.std.proofs.Common.{rules, ◌≤◌, ◌++◌, ◌∷◌, [], ◌∙◌, ap, List, ℕ, length, drop}
 use Rattle.disk_model.specs.Kept.{Kept, shortened}
 use Rattle.disk_model.specs.declared.memory.file.Change.{Change}
 use Rattle.disk_model.proofs.UndoLemmas.{file_cut}

@@ -1,5 +1,5 @@
-use Rattle.std.proofs.Common.{rules, ◌≡◌, ◌≤◌, ◌-◌, ◌++◌, ◌∷◌, [], ◌∙◌, ap, sym, List, ℕ, min, length, take, drop, arith}
-use Rattle.disk_model.specs.Kept.{Kept, splice, written_over}
+use Rattle.std.proofs.Common.{rules, ◌≤◌, ◌-◌, ◌++◌, ◌∷◌, [], ◌∙◌, ap, List, ℕ, min, length, take, drop}
+use Rattle.disk_model.specs.Kept.{Kept, written_over}
 use Rattle.disk_model.specs.declared.memory.file.Change.{Change}
 use Rattle.disk_model.proofs.UndoLemmas.{file_written}
 use Rattle.disk_model.proofs.memory.file.MemFile.write_at.Goals as goal

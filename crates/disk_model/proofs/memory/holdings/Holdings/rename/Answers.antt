@@ -1,7 +1,6 @@
-use Rattle.std.proofs.Common.{rules, ◌≡◌, true, false, Some, None, sym, ◌∙◌, ap}
-use Rattle.std.specs.Prelude.{IsSome}
-use Rattle.disk_model.specs.Holding.{Holding, renamed, is_named, under}
-use Rattle.disk_model.proofs.HoldingLemmas.{renamed_same, renamed_absent, renamed_done}
+use Rattle.std.proofs.Common.{rules, ◌≡◌, true}
+use Rattle.disk_model.specs.Holding.{is_named, under}
+use Rattle.disk_model.proofs.HoldingLemmas.{renamed_same}
 use Rattle.disk_model.proofs.memory.holdings.Holdings.rename.Goals as goal
 
 pub returns-then-is_same-clause-ok : goal.returns-then-is_same-clause-ok

@@ -1,4 +1,4 @@
-use Rattle.std.proofs.Common.{◌≡◌, ◌∙◌, ap}
+use Rattle.std.proofs.Common.{◌∙◌, ap}
 use Rattle.disk_model.specs.Holding.{Holding, under, with_own, shown}
 use Rattle.disk_model.specs.Picks.{stopped_files}
 use Rattle.disk_model.specs.PickLaws.{stopped_shown}

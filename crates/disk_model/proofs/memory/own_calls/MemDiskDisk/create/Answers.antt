@@ -1,16 +1,10 @@
-use Rattle.std.proofs.Common.{◌≡◌, ◌⊎◌, inl, inr, ⊎_elim, ℕ, ◌+◌, ◌≤◌, List, length, take, drop, Some, None, Ok, Err, refl, sym, ◌∙◌, ap, subst, arith, rules}
-use Rattle.std.specs.Prelude.{option_map, IfOk, OnOk}
-use Rattle.disk_model.specs.World.{World}
-use Rattle.disk_model.specs.Changes.{Every, Follows, Same, AtOnce, Stands, OnOwn, Rewrites, Puts, Renames, Holds, Torn, Cut}
-use Rattle.disk_model.specs.Folders.{ListsFiles}
-use Rattle.disk_model.specs.Moments.{steps_map}
+use Rattle.std.proofs.Common.{◌≡◌, ◌⊎◌, inl, rules}
+use Rattle.disk_model.specs.Changes.{Same, Stands}
 use Rattle.disk_model.specs.Answers.{Creates}
-use Rattle.disk_model.specs.Holding.{shown, play, under}
-use Rattle.disk_model.specs.MemoryDisk.{mem_moment, mem_images, mem_files, may, Plays}
-use Rattle.disk_model.specs.TornLaws.{torn_same, cut_same}
-use Rattle.disk_model.specs.declared.memory.call.Call.TheVariants.{Wrote, Shortened, Synced, Created, Removed, Renamed}
-use Rattle.disk_model.proofs.PlayLemmas.{plays_is, plays_at_once, follows_map, follows_same, told_by, own_same, done_follows, done_of}
-use Rattle.disk_model.proofs.OwnLemmas.{stands_of, lists_files, read_of, holds_all, cuts_all, rewrites_same}
+use Rattle.disk_model.specs.Holding.{under}
+use Rattle.disk_model.specs.MemoryDisk.{mem_files}
+use Rattle.disk_model.proofs.PlayLemmas.{follows_map, told_by}
+use Rattle.disk_model.proofs.OwnLemmas.{stands_of}
 use Rattle.disk_model.specs.declared.answers.Made.{Made}
 use Rattle.disk_model.proofs.memory.own_calls.MemDiskDisk.create.Goals as goal
 

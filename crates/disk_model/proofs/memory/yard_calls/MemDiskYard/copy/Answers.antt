@@ -1,16 +1,9 @@
-use Rattle.std.proofs.Common.{◌≡◌, ◌⊎◌, inl, inr, ⊎_elim, ℕ, ◌+◌, ◌≤◌, ◌<◌, List, [], length, true, false, Option, Some, None, Ok, Err, refl, sym, ◌∙◌, ap, subst, arith, rules}
-use Rattle.std.specs.Prelude.{option_map, is_some, IfOk, OnOk}
-use Rattle.disk_model.specs.World.{World, OutFile}
-use Rattle.disk_model.specs.Changes.{Every, Follows, Same, AtOnce, Stands, OnOwn, OnOutside, Puts, PutsPart, Moves, Gives, PutsOut}
-use Rattle.disk_model.specs.Folders.{path_in, IsInUse}
-use Rattle.disk_model.specs.Moments.{Steps, steps_map}
-use Rattle.disk_model.specs.Answers.{stat_of, Takes, Removes, Empties, Marks, GivesTo, CopySays, CopyLeaves}
-use Rattle.disk_model.specs.Holding.{shown, play, under}
-use Rattle.disk_model.specs.MemoryDisk.{mem_moment, mem_images, mem_files, may}
-use Rattle.disk_model.specs.declared.memory.call.Call.TheVariants.{PutOut, LostOut, Copied, Removed, Given, Moved as Moved'}
-use Rattle.disk_model.proofs.PlayLemmas.{follows_map, told_by, at_once_unchanged, at_once_failed, found_of, own_same, done_follows, done_of}
-use Rattle.disk_model.proofs.YardLemmas.{part_same, part_unchanged, part_failed, stat_found, copy_says}
-use Rattle.disk_model.proofs.FolderLemmas.{in_use, not_in_use}
+use Rattle.std.proofs.Common.{◌≡◌, ℕ, List, Some, subst}
+use Rattle.disk_model.specs.World.{OutFile}
+use Rattle.disk_model.specs.Changes.{Follows, OnOwn, Puts}
+use Rattle.disk_model.specs.Holding.{under}
+use Rattle.disk_model.specs.MemoryDisk.{mem_files}
+use Rattle.disk_model.proofs.YardLemmas.{part_unchanged, part_failed, stat_found, copy_says}
 use Rattle.disk_model.proofs.memory.yard_calls.MemDiskYard.copy.Goals as goal
 
 pub returns-in_default-clause-read : goal.returns-in_default-clause-read
