@@ -4,8 +4,11 @@
 //! are shared with other programs. Their contracts speak of a *world*: the own files, the outside files
 //! and the gifts. `files` is the world as a read gives it, `images` are the worlds that a stop at a
 //! moment may have left, and each call says in one line how it leads from the old ones to the new. A
-//! caller goes from call to call by the lemmas of `specs/Moments.antt`. What the model says and what it
-//! allows beyond that is told in `docs/model.md`.
+//! caller goes from call to call by the lemmas of `specs/Moments.antt`. What the model says, and what it
+//! allows beyond that, is told in `docs/model.md`.
+//!
+//! [`MemDisk`] is both in memory: it keeps its calls, lets those fail that a test names, and gives the
+//! images of a stop.
 //!
 //! Left out: a real folder (`real_edge`).
 #![tactic(auto)]
@@ -20,6 +23,6 @@ mod yard;
 
 pub use answers::{Copied, Giving, Hit, ListFault, Made, Marking, Moved, OutStat};
 pub use disk::Disk;
-pub use memory::{Block, Call, Holdings, MemDisk};
+pub use memory::MemDisk;
 pub use name::Name;
 pub use yard::Yard;

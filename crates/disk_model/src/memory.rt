@@ -12,7 +12,4 @@ mod own_files;
 mod stop;
 mod yard_calls;
 
-pub use block::Block;
-pub use call::Call;
 pub use disk::MemDisk;
-pub use holdings::Holdings;
