@@ -2,7 +2,6 @@ ghost use Rattle.std.specs.Prelude.{◌≡◌, None, option_map, IfOk};
 ghost use Rattle.std.specs.List.{list_all};
 ghost use Rattle.ftn_addr.specs.Address.{address};
 ghost use Rattle.ftn_addr.specs.Content.{Content};
-
 ghost use Rattle.ftn_addr.specs.Limits.{IsAddress};
 ghost use Rattle.ftn_addr.specs.Reading.{Gives, domain_byte, number_at, number_or, is_domain, domain_at, domain_or, reading};
 ghost use Rattle.ftn_addr.specs.Views.{piece, pieces};

@@ -1,6 +1,5 @@
 ghost use Rattle.std.specs.Prelude.{◌≡◌, ◌++◌, OnOk, OnErr, Ok};
 ghost use Rattle.ftn_addr.specs.Address.{Address, address};
-
 ghost use Rattle.ftn_addr.specs.Reading.{reading};
 ghost use Rattle.ftn_addr.specs.Limits.{IsAddress};
 ghost use Rattle.ftn_addr.specs.Writing.{point_text, canonical};

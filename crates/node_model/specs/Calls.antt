@@ -1,5 +1,5 @@
 -- The calls of a desk with their answers, and their chain.
-use Rattle.std.specs.Prelude.{zero, suc, ◌≡◌, ◌≢◌, ◌⊎◌, ℕ, Bool, true, false, ◌+◌, ◌-◌, ◌^◌, ◌≤◌, ◌<◌, min, List, [], ◌∷◌, Option, Some, None, length}
+use Rattle.std.specs.Prelude.{zero, suc, ◌≡◌, ◌≢◌, ◌⊎◌, ℕ, Bool, true, false, ◌+◌, ◌≤◌, List, [], ◌∷◌, Option, Some, None}
 use Rattle.ftn_addr.specs.Address.{Address}
 use Rattle.ftn_addr.specs.Counts.{Rose, risen}
 use Rattle.ftn_addr.specs.Key.{Key}
@@ -7,7 +7,7 @@ use Rattle.ftn_addr.specs.declared.source_file.Action.{Action}
 use Rattle.node_model.specs.declared.words.Flavour.{Flavour}
 use Rattle.node_model.specs.declared.words.Role.{Role}
 use Rattle.node_model.specs.Durable.{Durable}
-use Rattle.node_model.specs.Node.{Session, Seat, Node, session_at, seat_in}
+use Rattle.node_model.specs.Node.{Session, Node, session_at, seat_in}
 use Rattle.node_model.specs.Rows.{KnockCome, OpenRow, FileAnswer, FileRow, DataMore, DataWhole, LeaveRow, released, unheld}
 
 -- a file that is to be queued, and how it was queued: under a new number, or it stands there already
@@ -26,7 +26,7 @@ pub data Slot : Type 0 where
 pub data Call : Type 0 where
   Queue_call : (files : List NewFile) → Call
   Knock_call : (role : Role) → Call
-  Open_call : (role : Role) (first : Address) (others : List Address) (secure : Bool) (moment : ℕ) → Call
+  Open_call : (role : Role) (peers : List Address) (secure : Bool) (moment : ℕ) → Call
   Offer_call : Call
   Read_call : (place room : ℕ) → Call
   Got_call : (number : ℕ) → Call
@@ -71,8 +71,8 @@ one call answer = record { call = call; answer = answer } ∷ []
 -- what a call does where it isn't refused; the rows of the other calls come with later work
 abbrev pub Made : ℕ → Node → Call → Answer → Node → Type 0
 Made seat old (Knock_call role) Let_in new = KnockCome seat role old new
-Made seat old (Open_call role first others secure moment) (Begun number) new =
-    (number ≡ old.begun + 1) × OpenRow seat role first others secure moment old new
+Made seat old (Open_call role peers secure moment) (Begun number) new =
+    (number ≡ old.begun + 1) × OpenRow seat role peers secure moment old new
 Made seat old (File_call key offset) (Filed answer) new = FileRow seat key offset answer old new
 Made seat old (Data_call bytes) More new = DataMore seat bytes old new
 Made seat old (Data_call bytes) Whole_now new = DataWhole seat bytes old new

@@ -2,8 +2,11 @@ pub mod Calls
 pub mod Durable
 pub mod Images
 pub mod Items
+pub mod ListStates
 pub mod Lists
 pub mod Node
+pub mod Receipts
+pub mod Refusals
 pub mod Rows
 pub mod Stores
 pub mod Talk

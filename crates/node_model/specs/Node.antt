@@ -1,5 +1,5 @@
 -- Node state: what a node keeps, and what is gone after a stop (own).
-use Rattle.std.specs.Prelude.{zero, suc, ℕ, ◌-◌, Bool, true, false, List, [], ◌∷◌, Option, Some, None, slice_index_or, length}
+use Rattle.std.specs.Prelude.{zero, suc, ℕ, Bool, List, [], ◌∷◌, Option, Some, None, slice_index_or}
 use Rattle.ftn_addr.specs.Address.{Address}
 use Rattle.ftn_addr.specs.Key.{Key}
 use Rattle.node_model.specs.declared.words.Role.{Role}

@@ -1,12 +1,12 @@
 -- Node step: for each call its answer and its change (own; the answers to a file are those of FTS-1026's receiver).
-use Rattle.std.specs.Prelude.{◌≡◌, ◌≢◌, ◌⊎◌, ℕ, Bool, true, false, ◌||◌, ◌&&◌, ◌+◌, ◌-◌, ◌/◌, max, ◌≤◌, ◌<◌, List, [], ◌∷◌, ◌++◌, Option, Some, None, length, map, drop, ◌==◌, if◌then◌else◌, nat_lt, nat_le, count_by, nat_eq}
+use Rattle.std.specs.Prelude.{◌≡◌, ◌≢◌, ◌⊎◌, ℕ, Bool, true, false, ◌||◌, ◌&&◌, ◌+◌, ◌-◌, ◌/◌, max, ◌<◌, List, [], ◌∷◌, ◌++◌, Option, Some, None, length, map, drop, if◌then◌else◌, nat_lt, nat_le, count_by, nat_eq}
 use Rattle.std.specs.Char.{to_ascii_lowercase}
 use Rattle.std.specs.Cmp.Lexicographic.{pointwise}
 use Rattle.ftn_addr.specs.Address.{Address}
 use Rattle.ftn_addr.specs.Key.{Key}
 use Rattle.node_model.specs.declared.words.Role.{Role}
 use Rattle.node_model.specs.declared.words.Role.TheVariants.{Calls, Answers}
-use Rattle.node_model.specs.Items.{Receipt, Refusal, Mark}
+use Rattle.node_model.specs.Items.{Receipt, Mark}
 use Rattle.node_model.specs.Lists.{Member, Each, some_passes}
 use Rattle.node_model.specs.Durable.{Durable, is_same, is_known, mark_of, marked, with_receipt, with_refusal}
 use Rattle.node_model.specs.Node.{Hold, Session, Seat, Settings, Node, session_at, hold_in, with_session, Logged, Record, Received_record, Refused_record}
@@ -44,8 +44,11 @@ abbrev pub new_session : ℕ → Role → Address → List Address → Bool → 
 new_session number role first others secure moment =
     record { number = number; role = role; first = first; others = others; secure = secure; moment = moment; claim = None; skipped = []; hold = None; missed = []; claim_places = 0; hold_places = 0 }
 
--- a session opens under the next number, with what is handed in
-pub record OpenRow (seat : ℕ) (role : Role) (first : Address) (others : List Address) (secure : Bool) (moment : ℕ) (old new : Node) : Type 0 where
+-- a session opens under the next number, with what is handed in; the peer's first address is the sender of its files
+pub record OpenRow (seat : ℕ) (role : Role) (peers : List Address) (secure : Bool) (moment : ℕ) (old new : Node) : Type 0 where
+  pub first : Address
+  pub others : List Address
+  pub has_first : peers ≡ first ∷ others
   pub none_yet : session_at old seat ≡ None
   pub after : new ≡ record (with_session seat (Some (new_session (old.begun + 1) role first others secure moment)) old) { begun = old.begun + 1 }
 

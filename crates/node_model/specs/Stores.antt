@@ -1,7 +1,7 @@
 -- What a store's calls do to what it keeps.
-use Rattle.std.specs.Prelude.{◌≡◌, ◌≢◌, ◌⊎◌, ℕ, Bool, true, false, ◌==◌, ◌+◌, ◌-◌, max, ◌≤◌, ◌<◌, List, [], ◌∷◌, ◌++◌, Option, Some, None, Result, Ok, Err, length, if◌then◌else◌}
+use Rattle.std.specs.Prelude.{◌≡◌, ◌≢◌, ◌⊎◌, ℕ, Bool, true, false, ◌==◌, ◌+◌, ◌-◌, max, ◌≤◌, ◌<◌, List, ◌++◌, Option, Some, None, Result, Ok, Err, length, if◌then◌else◌}
 use Rattle.ftn_addr.specs.Address.{Address}
-use Rattle.ftn_addr.specs.Counts.{Rose}
+use Rattle.ftn_addr.specs.Counts.{Rose, risen}
 use Rattle.ftn_addr.specs.Key.{Key}
 use Rattle.node_model.specs.declared.store.PartAt.{PartAt}
 use Rattle.node_model.specs.declared.store.StoreFault.{StoreFault}
@@ -208,8 +208,7 @@ pub record BreaksStore (call : StoreCall) (old new : StoreState) : Type 0 where
 
 pub record FindsFull (call : StoreCall) (old new : StoreState) : Type 0 where
   pub full : IsFull call old
-  pub rose : Rose old.counts.fulls new.counts.fulls
-  pub after : new ≡ record old { counts = record old.counts { fulls = new.counts.fulls } }
+  pub after : new ≡ record old { counts = record old.counts { fulls = risen old.counts.fulls } }
 
 -- one call with its answer; only reading answers Read
 abbrev pub StoreMade : StoreState → StoreCall → StoreAnswer → StoreState → Type 0

@@ -1,12 +1,12 @@
 -- A session after login, a message at a time: what it asks the desk, what it says, and how it goes on
 -- (FTS-1026, the receiving and the sending side; the order of files is own).
-use Rattle.std.specs.Prelude.{◌≡◌, ◌≢◌, ℕ, Bool, true, false, ◌&&◌, ◌||◌, ◌-◌, ◌≤◌, ◌<◌, List, [], ◌∷◌, Option, Some, None, length, MatchBool}
+use Rattle.std.specs.Prelude.{◌≡◌, ◌≢◌, ℕ, Bool, true, false, ◌&&◌, ◌||◌, ◌-◌, ◌≤◌, ◌<◌, List, [], ◌∷◌, Option, Some, None, length}
 use Rattle.ftn_addr.specs.Key.{Key}
 use Rattle.node_model.specs.declared.words.Role.{Role}
 use Rattle.node_model.specs.declared.words.Role.TheVariants.{Calls, Answers}
-use Rattle.node_model.specs.Node.{Hold, Session, Node, session_at, hold_in}
+use Rattle.node_model.specs.Node.{Hold, Node, session_at, hold_in}
 use Rattle.node_model.specs.Rows.{Have, Refuse, Elsewhere, Go, Whole, From, Late}
-use Rattle.node_model.specs.Calls.{File_call, Data_call, Fault, Disk, Read, Full, No_memory, Answer, Filed, More, Whole_now, Refused, Event, one}
+use Rattle.node_model.specs.Calls.{File_call, Data_call, Fault, Answer, Filed, More, Whole_now, Refused, Event, one}
 
 pub data Message : Type 0 where
   File : (key : Key) (offset : ℕ) → Message

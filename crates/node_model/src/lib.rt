@@ -8,9 +8,14 @@
 //! Left out: the desk that makes a node's steps over a store, sessions over bytes, and stores on a disk.
 #![tactic(auto)]
 
+mod list_store;
+mod open_part;
+mod received;
 mod store;
 mod words;
 
 pub use ftn_addr::{Action, Failed, NoMemory};
+pub use list_store::ListStore;
+pub use received::Received;
 pub use store::{PartAt, Store, StoreFault};
 pub use words::{Flavour, Known, Role};

@@ -1,0 +1,8 @@
+pub mod Addresses
+pub mod Command
+pub mod Escape
+pub mod File
+pub mod Limits
+pub mod Reading
+pub mod Words
+pub mod Writing

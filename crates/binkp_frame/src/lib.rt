@@ -1,0 +1,22 @@
+//! Frames of the binkp protocol (FTS-1026), read from a stream that comes in any
+//! pieces, and written.
+//!
+//! A [`Frame`] is a command with its argument, or data. A [`Decoder`] is fed the pieces of a stream and
+//! adds each frame, once it is whole, to a list that its caller walks; it refuses nothing.
+//! [`put_frame`] writes one frame, and [`head_of`] reads the two bytes before a frame's data.
+//!
+//! `specs/Stream.antt` says which frames a stream has. Three laws about it are functions with empty
+//! bodies: [`reads_one_way`], [`pieces_add_up`] and [`reads_what_is_sent`].
+//!
+//! Left out: what a command's argument says (`binkp_args`), and every line that a stream comes from.
+#![tactic(auto)]
+
+mod decoder;
+mod frame;
+#[cfg(test)]
+mod tests;
+mod writing;
+
+pub use decoder::{Decoder, pieces_add_up, reads_one_way};
+pub use frame::{Frame, Head, head_of};
+pub use writing::{put_frame, reads_what_is_sent};

@@ -1,0 +1,13 @@
+pub mod Rans
+pub mod Writings
+pub mod Dids
+pub mod Heard
+pub mod Gives
+pub mod Runs
+pub mod Room
+pub mod Left
+pub mod Causes
+pub mod LineLaws
+pub mod Laws
+pub mod Seats
+pub mod TopCalls

@@ -1,0 +1,32 @@
+-- Calls of a desk, one after another.
+use Rattle.std.proofs.Common.{◌≡◌, ◌⊎◌, ◌<◌, ◌≤◌, ℕ, Bool, List, [], ◌∷◌, ◌++◌, Option, Some, None, rules, refl, sym, subst, inl, inr, le_refl, arith, ⊎_elim}
+use Rattle.std.proofs.Math.Path.{subst_refl, path_j}
+use Rattle.node_model.specs.Durable.{Durable}
+use Rattle.node_model.specs.Calls.{Call, Answer, Event, one, Chain, DeskState}
+use Rattle.node_model.specs.Images.{Stand, Kept, Ran, OpensTo, Along}
+
+opens_weaker : (P Q : Durable → Type 0) → ((x : Durable) → P x → Q x) → (d : Option Durable) → OpensTo P d → OpensTo Q d
+opens_weaker P Q f None h = h
+opens_weaker P Q f (Some x) h = f x h
+
+not_between : (m k : ℕ) → m < k → k ≤ m → ⊥
+not_between m k a b = omega arith
+
+-- no call
+pub ran_none : (alone : Bool) (s : Stand) → Ran alone s [] s
+ran_none alone s = record { chain = refl; later = le_refl s.moment; before = λ k d _ i. i; since = λ k d a b i. absurd (not_between s.moment k a b) }
+
+-- one call
+pub ran_one : (alone : Bool) (old : Stand) (call : Call) (answer : Answer) (new : Stand) → Kept alone old call answer new → Ran alone old (one call answer) new
+ran_one alone old call answer new c =
+    record {
+      chain = (new.state, c.made, refl);
+      later = c.later;
+      before = c.before;
+      since = λ k d a b i. opens_weaker _ _ (λ x p. inl p) d (c.since k d a b i);
+    }
+
+-- chain after chain
+pub chain_then : (alone : Bool) (old : DeskState) (es fs : List Event) (mid new : DeskState) → Chain alone old es mid → Chain alone mid fs new → Chain alone old (es ++ fs) new
+chain_then alone old [] fs mid new a b = subst (λ (s : DeskState). Chain alone s fs new) a b
+chain_then alone old (e ∷ es) fs mid new (s, made, rest) b = (s, made, chain_then alone s es fs mid new rest b)

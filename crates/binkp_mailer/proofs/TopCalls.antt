@@ -1,0 +1,59 @@
+-- What a held session tells of the call's status, and of receipts.
+use Rattle.std.proofs.Common.{◌≡◌, ◌⊎◌, ◌∙◌, ℕ, ◌≤◌, Bool, true, List, Option, Some, None, refl, sym, ap, subst, inl, inr}
+use Rattle.ftn_addr.specs.Address.{Address}
+use Rattle.ftn_addr.specs.Counts.{Rose, risen}
+use Rattle.node_model.specs.Calls.{Counts, counts_of, DeskState, Chain, Knows, Tells, Counts_alone}
+use Rattle.node_model.specs.Node.{Node}
+use Rattle.node_model.specs.Receipts.{HasOnce, TellsOnce}
+use Rattle.node_model.specs.Stores.{Stored, StoreState}
+use Rattle.node_model.proofs.OneReceipt.{chain_once}
+use Rattle.binkp_mailer.specs.declared.ending.End.{End}
+use Rattle.binkp_mailer.specs.declared.ending.End.TheVariants as E
+use Rattle.binkp_mailer.specs.declared.status.Status.{Status}
+use Rattle.binkp_mailer.specs.Lines.{LineState}
+use Rattle.binkp_mailer.specs.Machine.{Phase, Closed}
+use Rattle.binkp_mailer.specs.Laws.{Facts, EndCount, EndCountAt, LineCause, LineCauseAt, DeskCause, DeskCauseAt}
+use Rattle.binkp_mailer.specs.Seats.{Sitting, node_of, told}
+use Rattle.binkp_mailer.specs.Statuses.{status_of}
+use Rattle.binkp_mailer.specs.TopCall.{HeldSession, HasOnceTold, StatusCause, one_seat, lent}
+
+from_causes : (end : End) (line line' : LineState) (counts counts' : Counts) → counts.broken ≡ None → EndCount end line.ends line'.ends → LineCause end line.faults line'.faults line'.calm → DeskCause end counts counts' → StatusCause (status_of end) line line' counts counts'
+from_causes E.Finished line line' counts counts' whole e l d = e
+from_causes (E.Broke cause n) line line' counts counts' whole e l d = e
+from_causes E.Dropped line line' counts counts' whole e l d = e
+from_causes E.LineFault line line' counts counts' whole e l d = (l, e)
+from_causes (E.DiskFault count) line line' counts counts' whole e l (inl broke) = absurd (let clash : None ≡ Some count = sym whole ∙ broke in cc)
+from_causes (E.DiskFault count) line line' counts counts' whole e l (inr rose) = (rose, e)
+from_causes E.LedgerFull line line' counts counts' whole e l d = (d, e)
+from_causes E.Quiet line line' counts counts' whole e l d = (l, e)
+from_causes E.Endless line line' counts counts' whole e l d = e
+from_causes E.NoMemory line line' counts counts' whole e l d = e
+
+pub held_causes : (home : Address) (moment : ℕ) (line : LineState) (store : StoreState) (status : Status) (line' : LineState) (store' : StoreState) → HeldSession home moment line store status line' store' → store.counts.broken ≡ None → StatusCause status line line' store.counts store'.counts
+held_causes home moment line store status line' store' h whole =
+    let s = h.session in
+    let f : Facts true line (one_seat store 0 None) s.last = s.facts in
+    let ends : EndCount h.end line.ends line'.ends = subst (λ (x : LineState). EndCount h.end line.ends x.ends) s.line_is (subst (λ (p : Phase). EndCountAt p line.ends s.last.line.ends) s.closed f.ends) in
+    let lines : LineCause h.end line.faults line'.faults line'.calm = subst (λ (x : LineState). LineCause h.end line.faults x.faults x.calm) s.line_is (subst (λ (p : Phase). LineCauseAt p line.faults s.last.line.faults s.last.line.calm) s.closed f.line_cause) in
+    let desks : DeskCause h.end store.counts store'.counts = subst (λ (x : DeskState). DeskCause h.end store.counts (counts_of x.knows)) s.desk_is (subst (λ (p : Phase). DeskCauseAt p store.counts (counts_of s.last.desk.knows)) s.closed (f.desk_cause refl)) in
+    subst (λ (x : Status). StatusCause x line line' store.counts store'.counts) (sym h.status_is) (from_causes h.end line line' store.counts store'.counts whole ends lines desks)
+
+once_told : (content : Option Stored) → HasOnceTold content → HasOnce (told content).state
+once_told None once = tt
+once_told (Some kept) once = once
+
+told_once : (content : Option Stored) → HasOnce (told content).state → HasOnceTold content
+told_once None once = tt
+told_once (Some kept) once = once
+
+known_node : (knows : Knows) (n : Node) → TellsOnce knows → knows ≡ Tells n → HasOnce n.state
+known_node knows n t is =
+    let same : Tells t.node ≡ Tells n = sym t.tells ∙ is in
+    let node : t.node ≡ n = cc in
+    subst (λ (x : Node). HasOnce x.state) node t.once
+
+pub held_once : (home : Address) (moment : ℕ) (line : LineState) (store : StoreState) (status : Status) (line' : LineState) (store' : StoreState) → HeldSession home moment line store status line' store' → HasOnceTold store.content → HasOnceTold store'.content
+held_once home moment line store status line' store' h once =
+    let s = h.session in
+    let kept : TellsOnce s.last.desk.knows = chain_once (one_seat store 0 None) s.last.events s.last.desk (node_of store 0 None) s.facts.chain refl refl (once_told store.content once) in
+    told_once store'.content (known_node s.last.desk.knows (node_of store' h.begun h.sitting) kept (ap (λ (x : DeskState). x.knows) s.desk_is))

@@ -1,0 +1,12 @@
+pub mod Desks
+pub mod Laws
+pub mod Lines
+pub mod Machine
+pub mod Replies
+pub mod Runs
+pub mod SeatSteps
+pub mod Seats
+pub mod Sessions
+pub mod Statuses
+pub mod TopCall
+pub mod Words

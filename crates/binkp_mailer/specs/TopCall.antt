@@ -1,0 +1,53 @@
+-- What the program's call does (own, after FTS-1026).
+use Rattle.std.specs.Prelude.{◌≡◌, ◌⊎◌, ℕ, ◌≤◌, Bool, true, List, Option, Some, None}
+use Rattle.ftn_addr.specs.Address.{Address}
+use Rattle.ftn_addr.specs.Counts.{Rose, risen}
+use Rattle.node_model.specs.Calls.{Counts, DeskState, Tells}
+use Rattle.node_model.specs.Receipts.{HasOnce}
+use Rattle.node_model.specs.Stores.{Stored, StoreState, IfTold}
+use Rattle.binkp_mailer.specs.declared.ending.End.{End}
+use Rattle.binkp_mailer.specs.declared.status.Status.{Status}
+use Rattle.binkp_mailer.specs.declared.status.Status.TheVariants as S
+use Rattle.binkp_mailer.specs.Lines.{LineState}
+use Rattle.binkp_mailer.specs.Sessions.{Setting}
+use Rattle.binkp_mailer.specs.Laws.{IsSession}
+use Rattle.binkp_mailer.specs.Seats.{Sitting, node_of}
+use Rattle.binkp_mailer.specs.Statuses.{status_of}
+use Rattle.binkp_mailer.specs.Words.{AreWords}
+
+-- what a session is lent: the own address, the moment, and 16 TiB to take and write
+abbrev pub lent : Address → ℕ → Setting
+lent home moment = record { home = home; moment = moment; limit = 17592186044416 }
+
+-- the one seat of a node over a store, with so many sessions begun
+abbrev pub one_seat : StoreState → ℕ → Option Sitting → DeskState
+one_seat store begun sitting = record { seat = 0; knows = Tells (node_of store begun sitting) }
+
+-- a whole session over the line, at a node over the store; with it the call ended so
+pub record HeldSession (home : Address) (moment : ℕ) (line : LineState) (store : StoreState) (status : Status) (line' : LineState) (store' : StoreState) : Type 0 where
+  pub end : End
+  pub status_is : status ≡ status_of end
+  pub taken : ℕ
+  pub begun : ℕ
+  pub sitting : Option Sitting
+  pub session : IsSession true (lent home moment) line (one_seat store 0 None) end taken line' (one_seat store' begun sitting)
+
+-- A session was held, where the words are those of a call; else nothing was done.
+pub data Answers_line (words : List (List ℕ)) (moment : ℕ) (line : LineState) (store : StoreState) (status : Status) (line' : LineState) (store' : StoreState) : Type 0 where
+  Turned_away : (status ≡ S.Usage) ⊎ (status ≡ S.NoMemory) → line' ≡ line → store' ≡ store → Answers_line words moment line store status line' store'
+  Held_one : (home : Address) → AreWords words home → HeldSession home moment line store status line' store' → Answers_line words moment line store status line' store'
+
+-- What a status tells of the counts of line and store. The line's count of ends rose exactly at Dropped, and at a
+-- DiskFault that came after.
+abbrev pub StatusCause : Status → (line line' : LineState) → (counts counts' : Counts) → Type 0
+StatusCause S.Dropped line line' counts counts' = line'.ends ≡ risen line.ends
+StatusCause (S.DiskFault count) line line' counts counts' =
+    Rose counts.faults counts'.faults × ((line'.ends ≡ line.ends) ⊎ (line'.ends ≡ risen line.ends))
+StatusCause S.LedgerFull line line' counts counts' = Rose counts.fulls counts'.fulls × (line'.ends ≡ line.ends)
+StatusCause S.LineFault line line' counts counts' = Rose line.faults line'.faults × (line'.ends ≡ line.ends)
+StatusCause S.Quiet line line' counts counts' = (60 ≤ line'.calm) × (line'.ends ≡ line.ends)
+StatusCause status line line' counts counts' = line'.ends ≡ line.ends
+
+-- no sender and key has two receipts
+abbrev pub HasOnceTold : Option Stored → Type 0
+HasOnceTold content = IfTold content (λ kept. HasOnce kept.state)

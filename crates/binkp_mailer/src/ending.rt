@@ -1,0 +1,51 @@
+//! How a session ends.
+
+use binkp_args::ArgFault;
+
+/// What was wrong with a frame of the peer's.
+#[derive(Clone, Copy, Debug, PartialEq, Eq)]
+pub enum Cause {
+    /// Its argument can't be read.
+    Arg(ArgFault),
+    /// It doesn't belong here, or isn't built yet.
+    OutOfTurn,
+    /// The same file was offered again from a place that isn't the one asked for.
+    Late,
+    /// More data than the file has.
+    TooMuch,
+}
+
+/// How a session ended.
+#[derive(Clone, Copy, Debug, PartialEq, Eq)]
+pub enum End {
+    /// Both sides said that they are done, and nothing was held.
+    Finished,
+    /// The peer's frame with that number was refused. Frames that aren't empty are counted from 1.
+    Broke(Cause, u64),
+    /// The peer ended the line first.
+    Dropped,
+    LineFault,
+    /// The node's store is broken with that count of faults.
+    DiskFault(u64),
+    LedgerFull,
+    /// Sixty reads or writes on end found nothing to move.
+    Quiet,
+    /// The bytes taken and written reached the limit.
+    Endless,
+    NoMemory,
+}
+
+/// What became of a frame.
+#[derive(Clone, Copy, Debug, PartialEq, Eq)]
+pub enum Took {
+    More,
+    Ended(End),
+}
+
+/// What became of an own turn.
+#[derive(Clone, Copy, Debug, PartialEq, Eq)]
+pub enum Gave {
+    Sent,
+    Waits,
+    Ended(End),
+}
