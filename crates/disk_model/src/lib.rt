@@ -5,7 +5,7 @@
 //! and the gifts. `files` is the world as a read gives it, `images` are the worlds that a stop at a
 //! moment may have left, and each call says in one line how it leads from the old ones to the new. A
 //! caller goes from call to call by the lemmas of `specs/Moments.antt`. What the model says, and what it
-//! allows beyond that, is told in `docs/model.md`.
+//! allows beyond that, is told in `docs/disk.md`.
 //!
 //! [`MemDisk`] is both in memory: it keeps its calls, lets those fail that a test names, and gives the
 //! images of a stop.
