@@ -12,7 +12,8 @@ use Rattle.binkp_mailer.specs.declared.ending.End.TheVariants as E
 use Rattle.binkp_mailer.specs.declared.status.Status.{Status}
 use Rattle.binkp_mailer.specs.Lines.{LineState}
 use Rattle.binkp_mailer.specs.Machine.{Phase, Closed}
-use Rattle.binkp_mailer.specs.Laws.{Facts, EndCount, EndCountAt, LineCause, LineCauseAt, DeskCause, DeskCauseAt}
+use Rattle.binkp_mailer.specs.Sessions.{Setting}
+use Rattle.binkp_mailer.specs.Laws.{IsSession, Facts, EndCount, EndCountAt, LineCause, LineCauseAt, DeskCause, DeskCauseAt}
 use Rattle.binkp_mailer.specs.Seats.{Sitting, node_of, told}
 use Rattle.binkp_mailer.specs.Statuses.{status_after}
 use Rattle.binkp_mailer.specs.declared.status.Status.TheVariants as S
@@ -71,3 +72,7 @@ pub answers_causes : (words : List (List ℕ)) (moment : ℕ) (line : LineState)
 answers_causes words moment line store status line' store' (Turned_away why line_is store_is) whole =
     subst (λ (x : LineState). StatusCause status line x store.counts store'.counts) (sym line_is) (subst (λ (x : StoreState). StatusCause status line line store.counts x.counts) (sym store_is) (turned_causes status line store.counts why))
 answers_causes words moment line store status line' store' (Held_one home are h) whole = held_causes home moment line store status line' store' h whole
+
+-- a seat that tells the same node
+pub from_node : (s : Setting) (line : LineState) (a b : Node) (end : End) (taken : ℕ) (line' : LineState) (desk' : DeskState) → a ≡ b → IsSession true s line (record { seat = 0; knows = Tells a }) end taken line' desk' → IsSession true s line (record { seat = 0; knows = Tells b }) end taken line' desk'
+from_node s line a b end taken line' desk' e session = subst (λ (n : Node). IsSession true s line (record { seat = 0; knows = Tells n }) end taken line' desk') e session

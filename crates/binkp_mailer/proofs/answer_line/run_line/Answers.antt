@@ -2,7 +2,7 @@ use Rattle.std.proofs.Common.{option_map}
 use Rattle.ftn_addr.specs.Address.{address}
 use Rattle.binkp_mailer.specs.Seats.{sitting}
 use Rattle.binkp_mailer.specs.TopCall.{Held_one}
-use Rattle.binkp_mailer.proofs.TopCalls.{answers_once}
+use Rattle.binkp_mailer.proofs.TopCalls.{answers_once, from_node}
 use Rattle.binkp_mailer.proofs.answer_line.run_line.Goals as goal
 
 pub returns-clause-session : goal.returns-clause-session
@@ -13,7 +13,7 @@ returns-clause-session g c =
       taken = c.run_session-report.result.taken;
       begun = c.run_session-report.new.desk.begun;
       sitting = option_map sitting c.run_session-report.new.desk.session;
-      session = rw c.into_store.ensures (rw c.new-seat.ensures.session at (rw c.new-seat.ensures.begun at (rw c.new-seat.ensures.store at c.run_session-report.ensures.session)));
+      session = rw c.into_store.ensures (from_node _ _ _ _ _ _ _ _ c.new-seat.ensures.node c.run_session-report.ensures.session);
     })
 
 pub returns-clause-once : goal.returns-clause-once
