@@ -37,6 +37,8 @@ pub fn run_line<S: Store, L: Line, O: Sink>(
     ensures usage { result.0 ≡ Usage → (home : Address) → AreWords (texts words.now) home → ⊥ }
     ensures session { Answers_line (texts words.now) now (L.state line.old) (S.stand store).state result.0 (L.state line.new) (S.stand result.1).state }
     ensures cause { StatusCause result.0 (L.state line.old) (L.state line.new) (S.stand store).state.counts (S.stand result.1).state.counts }
+    ensures free { IsMarkFree (S.stand result.1).state.content }
+    ensures settled { (S.stand result.1).state.counts.broken ≡ None → IsSettled (told (S.stand result.1).state.content).state (S.stand result.1) }
     ensures once { HasOnceTold (S.stand store).state.content → HasOnceTold (S.stand result.1).state.content }
 {
     let home = match read_words(alloc, words) {
@@ -53,3 +55,6 @@ pub fn run_line<S: Store, L: Line, O: Sink>(
     let report = run_session(alloc, line, &mut seat, &setting);
     (status_of(report.end), seat.into_store())
 }
+
+#[cfg(test)]
+mod tests;

@@ -18,3 +18,9 @@ returns-clause-session g c =
 
 pub returns-clause-once : goal.returns-clause-once
 returns-clause-once g c = answers_once _ _ _ _ _ _ _ (returns-clause-session g c)
+
+pub returns-clause-free : goal.returns-clause-free
+returns-clause-free g c = rw c.into_store.ensures c.run_session-report.ensures.ready.free
+
+pub returns-clause-settled : goal.returns-clause-settled
+returns-clause-settled g c = rw c.into_store.ensures c.run_session-report.ensures.ready.settled
