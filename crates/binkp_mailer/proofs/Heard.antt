@@ -58,6 +58,7 @@ gave_up mid out' took w = go w.said
     nothing : (xs ys : List ℕ) → [] ≡ xs ++ ys → xs ≡ []
     nothing [] ys e = refl
     nothing (x ∷ xs) ys e = absurd (let clash : [] ≡ x ∷ (xs ++ ys) = e in cc)
+
     go : ((took ≡ T.Ended E.NoMemory) × (w.written ≡ [])) ⊎ ((took ≡ T.Ended E.NoMemory) × ((rest : List ℕ) × ([] ≡ w.written ++ rest))) → (took ≡ T.Ended E.NoMemory) × (out' ≡ mid)
     go (inl d) = (d.0, w.grew ∙ ap (λ (x : List ℕ). mid ++ x) d.1 ∙ append-nil mid)
     go (inr d) = (d.0, w.grew ∙ ap (λ (x : List ℕ). mid ++ x) (nothing w.written d.1.0 d.1.1) ∙ append-nil mid)
@@ -73,8 +74,8 @@ heard n talk held held' message alone old new out mid out' step took keeps d w =
   writes = elim d.writes as (λ _. Writes out out' (said_bytes d.verdict.said ++ outcome_bytes d.verdict.outcome) (outcome_took n d.verdict.outcome) took) [
     | inl x ↦ wrote_then out mid out' (said_bytes d.verdict.said) (outcome_bytes d.verdict.outcome) (outcome_took n d.verdict.outcome) took x.1 (subst (λ (o : Outcome). Writes mid out' (outcome_bytes o) (outcome_took n o) took) x.0 w)
     | inr x ↦ let none = gave_up mid out' took (subst (λ (o : Outcome). Writes mid out' (outcome_bytes o) (outcome_took n o) took) (ap step_outcome x.0) w) in
-    let over : Writes out out' (said_bytes d.verdict.said ++ outcome_bytes d.verdict.outcome) (outcome_took n d.verdict.outcome) (T.Ended E.NoMemory) = no_more out out' _ _ (none.1 ∙ x.1) in
-    subst (λ (k : Took). Writes out out' (said_bytes d.verdict.said ++ outcome_bytes d.verdict.outcome) (outcome_took n d.verdict.outcome) k) (sym none.0) over
+        let over : Writes out out' (said_bytes d.verdict.said ++ outcome_bytes d.verdict.outcome) (outcome_took n d.verdict.outcome) (T.Ended E.NoMemory) = no_more out out' _ _ (none.1 ∙ x.1) in
+        subst (λ (k : Took). Writes out out' (said_bytes d.verdict.said ++ outcome_bytes d.verdict.outcome) (outcome_took n d.verdict.outcome) k) (sym none.0) over
   ];
 }
 

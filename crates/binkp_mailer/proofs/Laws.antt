@@ -240,7 +240,7 @@ keeps alone line desk w v f (leaves s) =
       line_cause = leave_line s.end s.answer line.faults w.line.faults w.line.calm (subst (λ p. LineCauseAt p line.faults w.line.faults w.line.calm) s.phase f.line_cause);
       counts = since_after alone _ w.desk s.desk (one Leave_call s.answer) f.counts chain;
       desk_cause = λ is. leave_desk s.end s.answer (counts_of desk.knows) (counts_of w.desk.knows) (counts_of s.desk.knows) (f.counts is) (caused_alone w.desk s.desk Leave_call s.answer (subst (λ x. Calls x w.desk Leave_call s.answer s.desk) is s.call))
-      (subst (λ p. DeskCauseAt p (counts_of desk.knows) (counts_of w.desk.knows)) s.phase (f.desk_cause is));
+          (subst (λ p. DeskCauseAt p (counts_of desk.knows) (counts_of w.desk.knows)) s.phase (f.desk_cause is));
     })
 keeps alone line desk w v f (drains s) = subst (Facts alone line desk) (sym s.is) (record {
   pieces = f.pieces;

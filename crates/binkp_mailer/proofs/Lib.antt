@@ -15,3 +15,4 @@ pub mod Plays
 pub mod PlaysWrites
 pub mod SeatData
 pub mod SeatCalls
+pub mod Pushes

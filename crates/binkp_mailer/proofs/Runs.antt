@@ -72,13 +72,15 @@ pub begins_front : (stream rest : List ℕ) (frames : List FrameText) (frame : F
 begins_front stream rest frames frame more b =
     let x = front_blocks b.blocks frames frame more b.found in
     let short : All (λ block. length block.body < 32768) (x.0 ++ x.1) = subst (λ (l : List Block). All (λ block. length block.body < 32768) l) x.2 b.short in
-    let front : All (λ block. length block.body < 32768) x.0 = subst (λ (l : List Block). All (λ block. length block.body < 32768) l) (take_at x.0 x.1 (length x.0) refl) (All-take (λ (block : Block). length block.body < 32768) (length x.0) (x.0 ++ x.1) short) in
-    (flat_map spelling x.1 ++ rest, record {
-      blocks = x.0;
-      whole = b.whole ∙ ap (λ (l : List Block). flat_map spelling l ++ rest) x.2 ∙ ap (λ (l : List ℕ). l ++ rest) (flat_map-append spelling x.0 x.1) ∙ append_assoc (flat_map spelling x.0) (flat_map spelling x.1) rest;
-      short = front;
-      found = x.3;
-    })
+    let front : All (λ block. length block.body < 32768) x.0 = subst (λ (l : List Block). All (λ block. length block.body < 32768) l) (take_at x.0 x.1 (length x.0) refl) (All-take (λ (block : Block). length block.body < 32768) (length x.0) (x.0 ++ x.1) short) in (
+      flat_map spelling x.1 ++ rest,
+      record {
+        blocks = x.0;
+        whole = b.whole ∙ ap (λ (l : List Block). flat_map spelling l ++ rest) x.2 ∙ ap (λ (l : List ℕ). l ++ rest) (flat_map-append spelling x.0 x.1) ∙ append_assoc (flat_map spelling x.0) (flat_map spelling x.1) rest;
+        short = front;
+        found = x.3;
+      },
+    )
 
 -- more bytes behind
 pub begins_more : (stream rest more : List ℕ) (frames : List FrameText) → Begins stream frames rest → Begins (stream ++ more) frames (rest ++ more)
@@ -102,17 +104,20 @@ fed_it alone s run run' line desk frames law feeds session piece out taken wrote
         fed = st.fed ++ run.piece.list;
         whole = st.whole ∙ sym (append-nil (st.fed ++ run.piece.list)) ∙ ap (λ (x : List ℕ). (st.fed ++ run.piece.list) ++ x) (sym piece);
         splits = subst (λ (fs : List FrameText). Splits (st.fed ++ run.piece.list) fs run'.decoder) (sym all.appended) all.splits;
-      } in
-      (w, here, record {
-        setting_is = at.setting_is;
-        line_is = at.line_is;
-        desk_is = at.desk_is;
-        phase_is = at.phase_is;
-        unsent = at.unsent ∙ ap (λ (x : List ℕ). w.sent ++ x) (sym out);
-        taken = at.taken ∙ sym taken;
-        wrote = at.wrote ∙ sym wrote;
-        follows = stream;
-      });
+      } in (
+        w,
+        here,
+        record {
+          setting_is = at.setting_is;
+          line_is = at.line_is;
+          desk_is = at.desk_is;
+          phase_is = at.phase_is;
+          unsent = at.unsent ∙ ap (λ (x : List ℕ). w.sent ++ x) (sym out);
+          taken = at.taken ∙ sym taken;
+          wrote = at.wrote ∙ sym wrote;
+          follows = stream;
+        },
+      );
 }
 
 -- want of memory between two rows
@@ -120,17 +125,20 @@ pub gave_up_at : (alone : Bool) (s : Setting) (run run' : Run) (line : LineState
 gave_up_at alone s run run' line desk pending pending' p may out taken wrote = record {
   goes = λ w at.
       let v : World = record w { phase = Over E.NoMemory } in
-      let step : GivesUp w v = record { phase = subst MayGiveUp (sym at.phase_is) may; is = refl } in
-      (v, next here (gives_up step), record {
-        setting_is = at.setting_is;
-        line_is = at.line_is;
-        desk_is = at.desk_is;
-        phase_is = refl;
-        unsent = at.unsent ∙ ap (λ (x : List ℕ). w.sent ++ x) (sym out);
-        taken = at.taken ∙ sym taken;
-        wrote = at.wrote ∙ sym wrote;
-        follows = tt;
-      });
+      let step : GivesUp w v = record { phase = subst MayGiveUp (sym at.phase_is) may; is = refl } in (
+        v,
+        next here (gives_up step),
+        record {
+          setting_is = at.setting_is;
+          line_is = at.line_is;
+          desk_is = at.desk_is;
+          phase_is = refl;
+          unsent = at.unsent ∙ ap (λ (x : List ℕ). w.sent ++ x) (sym out);
+          taken = at.taken ∙ sym taken;
+          wrote = at.wrote ∙ sym wrote;
+          follows = tt;
+        },
+      );
 }
 
 follows_took : (took : Took) (run : Run) (pending : List FrameText) (v : World) → IfMore took (Stream run pending v) → Follows (after_took took) run pending v
@@ -177,17 +185,20 @@ took_row alone s run run' line old new frame more took number d decoder piece ta
         fed = st.fed;
         whole = st.whole ∙ ap (λ (x : List ℕ). st.fed ++ x) (sym piece);
         splits = subst (λ (x : List ℕ). Splits st.fed ((w.frames ++ frame ∷ []) ++ more) x) (sym decoder) (subst (λ (fs : List FrameText). Splits st.fed fs run.decoder) (sym (append_assoc w.frames (frame ∷ []) more)) st.splits);
-      } in
-      (v, next here (takes_frame step), record {
-        setting_is = at.setting_is;
-        line_is = at.line_is;
-        desk_is = refl;
-        phase_is = refl;
-        unsent = ap (λ (x : List ℕ). x ++ d.writes.written) at.unsent ∙ append_assoc w.sent run.out.list d.writes.written ∙ ap (λ (x : List ℕ). w.sent ++ x) (sym d.writes.grew);
-        taken = at.taken ∙ sym taken;
-        wrote = at.wrote ∙ sym wrote;
-        follows = follows_took took run' more v (if_more_map took (stage_of run'.session.stage ≡ d.reply.stage) (Stream run' more v) (λ e. stream (sym e)) d.stage_is);
-      });
+      } in (
+        v,
+        next here (takes_frame step),
+        record {
+          setting_is = at.setting_is;
+          line_is = at.line_is;
+          desk_is = refl;
+          phase_is = refl;
+          unsent = ap (λ (x : List ℕ). x ++ d.writes.written) at.unsent ∙ append_assoc w.sent run.out.list d.writes.written ∙ ap (λ (x : List ℕ). w.sent ++ x) (sym d.writes.grew);
+          taken = at.taken ∙ sym taken;
+          wrote = at.wrote ∙ sym wrote;
+          follows = follows_took took run' more v (if_more_map took (stage_of run'.session.stage ≡ d.reply.stage) (Stream run' more v) (λ e. stream (sym e)) d.stage_is);
+        },
+      );
 }
 
 pub took_it : (alone : Bool) (s : Setting) (run run' : Run) (line : LineState) (old new : Stand) (frame : FrameText) (more : List FrameText) (took : Took) → run'.session.frames ≡ min (run.session.frames + 1) (2 ^ 64 - 1) → MadeRow (Row s run'.session.frames (stage_of run.session.stage) frame) alone old new (stage_of run'.session.stage) run.out.list run'.out.list took → run'.decoder ≡ run.decoder → run'.piece.list ≡ run.piece.list → run'.taken ≡ run.taken → run'.wrote ≡ run.wrote → Goes alone s (spot run line old.state (frame ∷ more) Taking) (spot run' line new.state more (after_took took))
@@ -201,9 +212,10 @@ took_it alone s run run' line old new frame more took number (inr g) decoder pie
 pub over_drops : (alone : Bool) (s : Setting) (a : Spot) (run : Run) (line : LineState) (desk : DeskState) (pending pending' : List FrameText) (took : Took) (end : End) → took ≡ T.Ended end → Goes alone s a (spot run line desk pending (after_took took)) → Goes alone s a (spot run line desk pending' (Over end))
 over_drops alone s a run line desk pending pending' took end e g =
     let g' = subst (λ (k : Took). Goes alone s a (spot run line desk pending (after_took k))) e g in
-    record { goes = λ w at.
-      let x = g'.goes w at in
-      (x.0, x.1, record { setting_is = x.2.setting_is; line_is = x.2.line_is; desk_is = x.2.desk_is; phase_is = x.2.phase_is; unsent = x.2.unsent; taken = x.2.taken; wrote = x.2.wrote; follows = tt });
+    record {
+      goes = λ w at.
+          let x = g'.goes w at in
+          (x.0, x.1, record { setting_is = x.2.setting_is; line_is = x.2.line_is; desk_is = x.2.desk_is; phase_is = x.2.phase_is; unsent = x.2.unsent; taken = x.2.taken; wrote = x.2.wrote; follows = tt });
     }
 
 -- the next of the pending frames
@@ -262,17 +274,20 @@ gave_it alone s run run' line desk gave empty d frames decoder piece taken wrote
             fed = st.fed;
             whole = st.whole ∙ ap (λ (l : List ℕ). st.fed ++ l) (sym piece);
             splits = subst (λ (l : List ℕ). Splits st.fed (w.frames ++ []) l) (sym decoder) st.splits;
-          } in
-          (v, next here (makes_turn step), record {
-            setting_is = at.setting_is;
-            line_is = at.line_is;
-            desk_is = at.desk_is;
-            phase_is = ap after_gave (sym x.0);
-            unsent = ap (λ (l : List ℕ). l ++ d.turn.output) at.unsent ∙ append_assoc w.sent run.out.list d.turn.output ∙ ap (λ (l : List ℕ). w.sent ++ l) (sym x.2);
-            taken = at.taken ∙ sym taken;
-            wrote = at.wrote ∙ sym wrote;
-            follows = follows_gave gave run' v stream;
-          });
+          } in (
+            v,
+            next here (makes_turn step),
+            record {
+              setting_is = at.setting_is;
+              line_is = at.line_is;
+              desk_is = at.desk_is;
+              phase_is = ap after_gave (sym x.0);
+              unsent = ap (λ (l : List ℕ). l ++ d.turn.output) at.unsent ∙ append_assoc w.sent run.out.list d.turn.output ∙ ap (λ (l : List ℕ). w.sent ++ l) (sym x.2);
+              taken = at.taken ∙ sym taken;
+              wrote = at.wrote ∙ sym wrote;
+              follows = follows_gave gave run' v stream;
+            },
+          );
     }
     go (inr x) = subst (λ (k : Gave). Goes alone s (spot run line desk [] Taking) (spot run' line desk [] (after_gave k))) (sym x.0) (gave_up_at alone s run run' line desk [] [] Taking tt x.2 taken wrote)
 
@@ -313,17 +328,20 @@ wrote_it alone s run run' l l' desk waits answer result some is did to = record 
       let ends : v.phase ≡ over_or result (Reading waits) =
       ap (λ (x : Setting). after_write answer x.limit (length w.taken + length (w.sent ++ gone)) l'.calm (Reading waits)) at.setting_is
       ∙ ap (λ (x : ℕ). after_write answer s.limit (x + length (w.sent ++ gone)) l'.calm (Reading waits)) at.taken
-      ∙ ap (λ (x : ℕ). after_write answer s.limit (run.taken + x) l'.calm (Reading waits)) now ∙ sym to in
-      (v, next here (writes step), record {
-        setting_is = at.setting_is;
-        line_is = refl;
-        desk_is = at.desk_is;
-        phase_is = ends;
-        unsent = at.unsent ∙ ap (λ (x : List ℕ). w.sent ++ x) did.out ∙ sym (append_assoc w.sent gone run'.out.list);
-        taken = at.taken ∙ sym did.taken;
-        wrote = now;
-        follows = follows_reading result waits run' v (stream_same run run' [] w v refl refl refl did.session did.decoder did.piece at.follows);
-      });
+      ∙ ap (λ (x : ℕ). after_write answer s.limit (run.taken + x) l'.calm (Reading waits)) now ∙ sym to in (
+        v,
+        next here (writes step),
+        record {
+          setting_is = at.setting_is;
+          line_is = refl;
+          desk_is = at.desk_is;
+          phase_is = ends;
+          unsent = at.unsent ∙ ap (λ (x : List ℕ). w.sent ++ x) did.out ∙ sym (append_assoc w.sent gone run'.out.list);
+          taken = at.taken ∙ sym did.taken;
+          wrote = now;
+          follows = follows_reading result waits run' v (stream_same run run' [] w v refl refl refl did.session did.decoder did.piece at.follows);
+        },
+      );
 }
 
 pub came_it : (alone : Bool) (s : Setting) (run run' : Run) (l l' : LineState) (desk : DeskState) (waits : Bool) (answer : ReadAnswer) (buffer : List ℕ) (result : Option End) → length buffer ≡ 4096 → IsRead (waits && (length run.out.list == 0)) l answer buffer l' → Came run run' (came answer buffer) → over_or result Taking ≡ after_read answer s.limit (run'.taken + run.wrote) l'.calm → Goes alone s (spot run l desk [] (Reading waits)) (spot run' l' desk [] (over_or result Taking))
@@ -355,17 +373,20 @@ came_it alone s run run' l l' desk waits answer buffer result room is did to = r
         fed = st.fed;
         whole = ap (λ (x : List ℕ). x ++ piece) st.whole ∙ append_assoc st.fed run.piece.list piece ∙ ap (λ (x : List ℕ). st.fed ++ x) (sym did.piece_is);
         splits = subst (λ (x : List ℕ). Splits st.fed (w.frames ++ []) x) (sym did.decoder) st.splits;
-      } in
-      (v, next here (reads step), record {
-        setting_is = at.setting_is;
-        line_is = refl;
-        desk_is = at.desk_is;
-        phase_is = ends;
-        unsent = at.unsent ∙ ap (λ (x : List ℕ). w.sent ++ x) (sym did.out);
-        taken = now;
-        wrote = at.wrote ∙ sym did.wrote;
-        follows = follows_taking result run' v stream;
-      });
+      } in (
+        v,
+        next here (reads step),
+        record {
+          setting_is = at.setting_is;
+          line_is = refl;
+          desk_is = at.desk_is;
+          phase_is = ends;
+          unsent = at.unsent ∙ ap (λ (x : List ℕ). w.sent ++ x) (sym did.out);
+          taken = now;
+          wrote = at.wrote ∙ sym did.wrote;
+          follows = follows_taking result run' v stream;
+        },
+      );
 }
 
 pub from_pending : {alone : Bool} {s : Setting} {b : Spot} (run : Run) (line : LineState) (desk : DeskState) (fs gs : List FrameText) (p : Phase) → fs ≡ gs → Goes alone s (spot run line desk fs p) b → Goes alone s (spot run line desk gs p) b
@@ -399,17 +420,20 @@ greeted_it alone s run run' line old new answer reply took kept after is_new ses
         fed = st.fed;
         whole = st.whole ∙ ap (λ (x : List ℕ). st.fed ++ x) (sym piece);
         splits = subst (λ (x : List ℕ). Splits st.fed (w.frames ++ []) x) (sym decoder) st.splits;
-      } in
-      (v, next here (greets step), record {
-        setting_is = at.setting_is;
-        line_is = at.line_is;
-        desk_is = refl;
-        phase_is = refl;
-        unsent = ap (λ (x : List ℕ). x ++ grows.written) at.unsent ∙ append_assoc w.sent run.out.list grows.written ∙ ap (λ (x : List ℕ). w.sent ++ x) (sym grows.grew);
-        taken = at.taken ∙ sym taken;
-        wrote = at.wrote ∙ sym wrote;
-        follows = follows_took took run' [] v (if_more took (Stream run' [] v) stream);
-      });
+      } in (
+        v,
+        next here (greets step),
+        record {
+          setting_is = at.setting_is;
+          line_is = at.line_is;
+          desk_is = refl;
+          phase_is = refl;
+          unsent = ap (λ (x : List ℕ). x ++ grows.written) at.unsent ∙ append_assoc w.sent run.out.list grows.written ∙ ap (λ (x : List ℕ). w.sent ++ x) (sym grows.grew);
+          taken = at.taken ∙ sym taken;
+          wrote = at.wrote ∙ sym wrote;
+          follows = follows_took took run' [] v (if_more took (Stream run' [] v) stream);
+        },
+      );
 }
 
 -- the desk is left

@@ -78,6 +78,7 @@ data_refused a b m x y bytes fault word is whole puts l =
   where
     own : unheld_in (session_at (node_of b.state m (Some y)) 0) ≡ unheld_in (session_at (node_of a.state m (Some x)) 0)
     own = ap (λ (z : Sitting). unheld_in (Some (session_in b.state z))) puts.1
+
     go : (f : StoreFault) → BrokenBy (PutPasses bytes a.state x) f a.state b.state → Kept true (seat_stand a m (Some x)) (Data_call bytes) (Refused (fault_in f b.state.counts.faults)) (seat_stand b m (Some y))
     go D.Disk broke =
         kept_of a b m m (Some x) (Some y) (Data_call bytes) (Refused (Disk b.state.counts.faults)) (inr (whole, broke.rose, broke.counts)) (inr (breaks (PutPasses bytes a.state x) a.state b.state m (Some x) (Some y) (Data_call bytes) whole own (put_passes bytes a.state m x) broke)) (leaves_as (PutPasses bytes a.state x) (Passes 0 (node_of a.state m (Some x)) (Data_call bytes)) a b (put_passes bytes a.state m x) l) (λ answered. absurd answered)
@@ -143,10 +144,12 @@ file_made a b c m x y z key word go counts takes l settled =
   where
     same : c.state.counts ≡ a.state.counts
     same = counts ∙ ap (λ (t : StoreState). t.counts) go.places
+
     caused : (word : FileIn) → Caused a.state.counts (file_answer (Ok word)) c.state.counts
     caused F.Go = same
     caused F.Whole = same
     caused F.Have = same
+
     step : (word : FileIn) → Takes key (Ok word) b.state y c.state z → NodeStep 0 (node_of a.state m (Some x)) (File_call key 0) (file_answer (Ok word)) (node_of c.state m (Some z))
     step F.Go takes = (go.whole, file_row a b m x y key (file_word F.Go) (node_of c.state m (Some z)) go (takes m))
     step F.Whole takes = (go.whole, file_row a b m x y key (file_word F.Whole) (node_of c.state m (Some z)) go (takes m))
@@ -165,12 +168,16 @@ file_refused a b c m x y z key fault word is lets takes l =
   where
     before : b.state.counts ≡ a.state.counts
     before = ap (λ (t : StoreState). t.counts) lets.places
+
     node : node_of b.state m (Some z) ≡ released 0 (session_in a.state x) (node_of a.state m (Some x))
     node = ap (λ (w : Sitting). node_of b.state m (Some w)) takes.1 ∙ let_go_node a b m x y lets
+
     own : unheld_in (session_at (node_of c.state m (Some z)) 0) ≡ unheld_in (session_at (node_of a.state m (Some x)) 0)
     own = ap (λ (w : Sitting). unheld_in (Some (session_in c.state w))) (takes.1 ∙ lets.session)
+
     passes : Leaves (Passes 0 (node_of a.state m (Some x)) (File_call key 0)) a c
     passes = file_leaves a b c m x y key lets l
+
     go : (f : StoreFault) → RefusedBy (TakePasses key b.state y) f b.state c.state → Kept true (seat_stand a m (Some x)) (File_call key 0) (Refused (fault_in f c.state.counts.faults)) (seat_stand c m (Some z))
     go D.Disk broke =
         let broke' = broke_from (TakePasses key b.state y) (Passes 0 (node_of a.state m (Some x)) (File_call key 0)) a.state b.state c.state (take_passes a b m x y key lets) before broke in
@@ -196,6 +203,7 @@ begin_refused a b m x role peers secure moment fault word is whole refused l =
   where
     passes : Leaves (Passes 0 (node_of a.state m x) (Open_call role peers secure moment)) a b
     passes = leaves_as (λ d. d ≡ state_in a.state) (Passes 0 (node_of a.state m x) (Open_call role peers secure moment)) a b (λ d same. Before_it same) l
+
     go : (f : StoreFault) → RefusedBy (λ d. d ≡ state_in a.state) f a.state b.state → Kept true (seat_stand a m x) (Open_call role peers secure moment) (Refused (fault_in f b.state.counts.faults)) (seat_stand b m x)
     go D.Disk broke =
         kept_of a b m m x x (Open_call role peers secure moment) (Refused (Disk b.state.counts.faults)) (inr (whole, broke.rose, broke.counts)) (inr (breaks (λ d. d ≡ state_in a.state) a.state b.state m x x (Open_call role peers secure moment) whole (own_same a.state b.state x) (λ d same. Before_it same) broke)) passes (λ answered. absurd answered)

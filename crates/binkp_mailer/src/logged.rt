@@ -8,8 +8,8 @@ ghost use Rattle.binkp_mailer.specs.Replies.{Did, DidGive, IsWithin, Sits, SitsS
 ghost use Rattle.binkp_mailer.specs.Sessions.{Talks, LoggedRow, TalkRow, outcome_bytes, outcome_took};
 
 use crate::hearing::Heard;
-use crate::receiver::{RecvStep, take_data, take_file};
 use crate::holding::Receiver;
+use crate::receiver::{RecvStep, take_data, take_file};
 use crate::saying::{break_off, refuse, say_end};
 use crate::stage::{Stage, Talking, is_none, out_of_turn};
 use crate::{Cause, Desk, DeskFault, End, Gave, Took};
@@ -18,12 +18,7 @@ use node_model::Role;
 use std::alloc::Global;
 
 /// Tells what became of a message.
-fn conclude(
-    alloc: Global,
-    number: u64,
-    step: Result<RecvStep, DeskFault>,
-    out: &mut Bytes,
-) -> Took
+fn conclude(alloc: Global, number: u64, step: Result<RecvStep, DeskFault>, out: &mut Bytes) -> Took
     ensures { Writes out.old.list out.new.list (outcome_bytes (step_outcome step)) (outcome_took number (step_outcome step)) result }
 {
     match step {

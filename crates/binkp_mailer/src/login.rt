@@ -28,11 +28,7 @@ fn push_other(home: &Addr, addr: Addr, others: &mut Vec<Addr>) -> Result<(), NoM
 }
 
 /// The peer's addresses without the own one.
-fn without_home(
-    alloc: Global,
-    addresses: Vec<Addr>,
-    home: &Addr,
-) -> Result<Vec<Addr>, NoMemory>
+fn without_home(alloc: Global, addresses: Vec<Addr>, home: &Addr) -> Result<Vec<Addr>, NoMemory>
     ensures { IfOk result (λ others. map address others.items ≡ without (same_address (address home.now)) (map address addresses.items)) }
 {
     let mut others = Vec::new(alloc);
@@ -71,7 +67,13 @@ fn take_addresses(
     match without_home(alloc, addresses, home) {
         Ok(peers) => {
             if peers.is_empty() {
-                return unreadable(alloc, Stage::AwaitsAddress, number, ArgFault::NoAddress, out);
+                return unreadable(
+                    alloc,
+                    Stage::AwaitsAddress,
+                    number,
+                    ArgFault::NoAddress,
+                    out,
+                );
             }
             (Stage::AwaitsPassword(peers), Took::More)
         }
@@ -113,7 +115,13 @@ fn let_in<K: Desk>(
     ensures row { Did (LoginRow (setting_of setting.now) (map address peers.items)) K.alone (K.stand desk.old) (K.stand desk.new) (stage_of result.0) out.old.list out.new.list result.1 }
     ensures sits { SitsStill (K.ready desk.new) (K.part desk.new) (stage_of result.0) result.1 }
 {
-    match desk.begin(alloc, Role::Answers, peers.as_slice(), false, setting.moment) {
+    match desk.begin(
+        alloc,
+        Role::Answers,
+        peers.as_slice(),
+        false,
+        setting.moment,
+    ) {
         Ok(_) => {
             let stage = Stage::Talks(Talking {
                 role: Role::Answers,

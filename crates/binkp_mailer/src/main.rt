@@ -36,23 +36,21 @@ pub use acts::{ReadAct, WriteAct};
 pub use answer_line::{SESSION_LIMIT, run_line};
 pub use desk::{DataIn, Desk, DeskFault, FileIn, Knock};
 pub use ending::{Cause, End, Gave, Took};
+use ftn_addr::{Bytes, NoMemory};
 pub use link::{Line, ReadAnswer, Sink, WriteAnswer};
 pub use mem_line::MemLine;
 pub use mem_sink::MemSink;
+use node_model::ListStore;
 pub use run::Run;
 pub use seat::Seat;
 pub use session::Session;
 pub use status::{Status, status_of};
-pub use std_line::StdLine;
-pub use words::{WordsFault, read_words};
-
-use ftn_addr::{Bytes, NoMemory};
-use node_model::ListStore;
-use std::env;
-use std::io;
 use std::process::ExitCode;
 use std::rt::{Clock, Env};
 use std::time::{SystemTime, UNIX_EPOCH};
+use std::{env, io};
+pub use std_line::StdLine;
+pub use words::{WordsFault, read_words};
 
 /// The words behind the program's name.
 fn own_words<R: Env + AllocGlobal>(rt: &R) -> Result<Vec<Bytes>, NoMemory> {

@@ -15,9 +15,9 @@ ghost use Rattle.binkp_mailer.specs.declared.ending.End.TheVariants as E;
 ghost use Rattle.binkp_mailer.specs.declared.ending.Took.TheVariants as T;
 ghost use Rattle.binkp_mailer.specs.declared.ending.Gave.TheVariants as G;
 
+use crate::saying::{refuse, say_greeting};
 use crate::session::Session;
 use crate::terms::Setting;
-use crate::saying::{refuse, say_greeting};
 use crate::{Desk, DeskFault, End, Gave, Knock, Line, ReadAnswer, Took, WriteAnswer};
 use binkp_frame::{Decoder, Frame, pieces_add_up};
 use ftn_addr::{Bytes, NoMemory};
@@ -91,7 +91,10 @@ impl Run {
         ensures counts { SameCounts self.old self.new }
     {
         for frame in frames {
-            match self.session.take(alloc, frame, setting, desk, &mut self.out) {
+            match self
+                .session
+                .take(alloc, frame, setting, desk, &mut self.out)
+            {
                 Took::More => {}
                 Took::Ended(end) => return Took::Ended(end),
             }

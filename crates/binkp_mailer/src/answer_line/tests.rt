@@ -11,13 +11,18 @@ use std::alloc::Global;
 use std::test::Fail;
 
 const LOGIN: &[u8] = b"\x80\x12\x012:5047/13@fidonet\x80\x02\x02-";
+
 const OFFER: &[u8] = b"\x80\x15\x03a.txt 5 1000000000 0";
+
 const END: &[u8] = b"\x80\x01\x05";
 
 const GREETING: &[u8] =
     b"\x80\x1f\x00VER binkp_mailer/1.0 binkp/1.0\x80\x14\x012:5020/1042@fidonet";
+
 const WELCOME: &[u8] = b"\x80\x0b\x04non-secure";
+
 const GOT: &[u8] = b"\x80\x13\x06a.txt 5 1000000000";
+
 const BROKEN_FRAME: &[u8] = b"\x80\x0d\x07broken frame";
 
 // Pieces, one behind the other.

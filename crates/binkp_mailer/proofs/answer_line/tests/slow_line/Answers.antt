@@ -1,0 +1,10 @@
+use Rattle.std.proofs.Common.{rules, refl, sym, ap, subst, ◌≡◌, map}
+use Rattle.binkp_mailer.specs.Scripts.{AllGiveSome, act_of}
+use Rattle.binkp_mailer.proofs.Pushes.{some_push}
+use Rattle.binkp_mailer.proofs.answer_line.tests.slow_line.Goals as goal
+
+pub loop-byte-preserved : goal.loop-byte-preserved
+loop-byte-preserved c = some_push _ _ _ c.in_ok-push.ensures.items c.loop-byte.invariant (search (rules))
+
+pub new-requires-2-clause-give : goal.new-requires-2-clause-give
+new-requires-2-clause-give c = some_push _ _ _ c.in_ok-push-2.ensures.items c.loop-byte.invariant tt
