@@ -1,4 +1,0 @@
-pub mod Answer
-pub mod Hmac
-pub mod Offer
-pub mod Views

@@ -1,2 +1,0 @@
-pub mod Item
-pub mod Views

@@ -1,5 +1,0 @@
-pub mod Found
-pub mod IndexLaw
-pub mod LookUp
-pub mod OneNode
-pub mod ReadBack
