@@ -1,0 +1,4 @@
+pub mod Answer
+pub mod Hmac
+pub mod Offer
+pub mod Views

@@ -1,0 +1,20 @@
+//! CRAM-MD5, the password exchange of binkp (FTS-1027): HMAC-MD5 (RFC 2104), the offer of a challenge,
+//! and the answer to one.
+//!
+//! The side that answers a call offers a challenge in an M_NUL frame, whose word [`offer_text`] writes.
+//! The side that calls reads it with [`read_offer`] and answers with [`answer_text`] in its M_PWD frame.
+//! The side that answers judges that with [`check`], which takes a plain password too. The digest is
+//! [`hmac`], with the password as the key and the challenge as the text.
+//!
+//! Left out: frames and commands, and which offer counts where several came.
+#![tactic(auto)]
+
+mod answer;
+mod digest;
+mod offer;
+#[cfg(test)]
+mod tests;
+
+pub use answer::{answer_text, check};
+pub use digest::hmac;
+pub use offer::{Offer, offer_text, read_offer};

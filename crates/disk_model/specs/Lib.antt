@@ -1,0 +1,17 @@
+pub mod Answers
+pub mod Causes
+pub mod Changes
+pub mod EntryLaws
+pub mod Folders
+pub mod Holding
+pub mod Kept
+pub mod MemoryDisk
+pub mod MemoryLaws
+pub mod Moments
+pub mod Name
+pub mod PickLaws
+pub mod Picks
+pub mod StopLaws
+pub mod TornLaws
+pub mod Undo
+pub mod World

@@ -1,0 +1,16 @@
+//! File requests (own): a text whose lines name files, and which files of the node's shares it
+//! gets.
+//!
+//! A [`Share`] is a folder with the names of the files in it that may be requested. [`answer_request`]
+//! gives the paths of the files that a text asks for, and how many of its lines got none.
+//!
+//! Left out: listing the folders, and sending the files.
+#![tactic(auto)]
+
+mod answer;
+mod share;
+#[cfg(test)]
+mod tests;
+
+pub use answer::{Answer, answer_request};
+pub use share::Share;

@@ -1,0 +1,15 @@
+//! Flow files (FTS-5005, section 3.3): a text whose lines each name a file to be sent, and say what is to
+//! be done with it once it is queued.
+//!
+//! [`read_flow`] gives one [`FlowLine`] for each line. It refuses nothing: what names no file is passed.
+//!
+//! Left out: the files that are named, and which node a flow file is for.
+#![tactic(auto)]
+
+mod item;
+mod reading;
+#[cfg(test)]
+mod tests;
+
+pub use item::FlowLine;
+pub use reading::read_flow;

@@ -1,0 +1,162 @@
+use crate::{Conf, ConfCause, ConfFault, read_conf};
+use ftn_addr::{Addr, Bytes};
+use std::alloc::Global;
+use std::test::Fail;
+
+const SAMPLE: &[u8] = b"# an example
+domain fidonet /ftn/outbound 2
+address 2:5020/1042@fidonet
+sysname \"Example Node\"
+sysop Joe Doe
+location Town
+nodeinfo 115200,TCP,BINKP
+inbound /ftn/in
+inbound-nonsecure /ftn/in.open
+iport 24554
+maxservers 10
+maxclients 4
+oblksize 4096
+refuse-name .exe
+refuse-over 100000000
+request-folder /ftn/files
+log /ftn/binkp.log
+loglevel 4
+node 2:5047/13@fidonet peer.example:24554 Jefe c
+node 2:5020/7@fidonet -
+";
+
+fn addr(alloc: Global, net: u16, node: u16) -> Result<Addr, Fail> {
+    Ok(Addr {
+        zone: 2,
+        net,
+        node,
+        point: 0,
+        domain: Bytes::from_slice(alloc, b"fidonet")?,
+    })
+}
+
+#[test]
+fn an_example_is_read(rt: HostRuntime) -> Result<(), Fail> {
+    let conf = read_conf(rt.alloc(), SAMPLE)?;
+    assert_eq!(rt; conf.addresses.len(), 1);
+    assert_eq!(rt; conf.sysname.as_slice(), b"Example Node".as_slice());
+    assert_eq!(rt; conf.sysop.as_slice(), b"Joe Doe".as_slice());
+    assert_eq!(rt; conf.base.as_slice(), b"/ftn/outbound".as_slice());
+    assert_eq!(rt;
+        conf.inbound_nonsecure.as_slice(),
+        b"/ftn/in.open".as_slice()
+    );
+    assert_eq!(rt; conf.max_servers, 10);
+    assert_eq!(rt; conf.refuse_over, 100_000_000);
+    assert_eq!(rt; conf.session_limit, 17_592_186_044_416);
+    assert_eq!(rt; conf.shares.len(), 1);
+    let peer = conf.node(&addr(rt.alloc(), 5047, 13)?).ok_or("no node")?;
+    assert_eq!(rt; peer.host.as_slice(), b"peer.example".as_slice());
+    assert_eq!(rt; peer.password.as_slice(), b"Jefe".as_slice());
+    let other = conf.node(&addr(rt.alloc(), 5020, 7)?).ok_or("no node")?;
+    assert!(rt; other.host.is_empty());
+    assert_eq!(rt; other.port, 24_554);
+    assert!(rt; conf.node(&addr(rt.alloc(), 5020, 8)?).is_none());
+    Ok(())
+}
+
+#[test]
+fn defaults_stand_for_what_is_not_set(rt: HostRuntime) -> Result<(), Fail> {
+    let conf = read_conf(rt.alloc(), b"address 46:1/2.3")?;
+    assert_eq!(rt; conf.domain.as_slice(), b"fidonet".as_slice());
+    assert_eq!(rt; conf.base.as_slice(), b"outbound".as_slice());
+    assert_eq!(rt; conf.zone, 46);
+    assert_eq!(rt; conf.inbound_nonsecure.as_slice(), b"inbound".as_slice());
+    assert_eq!(rt;
+        (conf.port, conf.max_servers, conf.max_clients, conf.block),
+        (24_554, 100, 100, 4096)
+    );
+    assert_eq!(rt; conf.refuse_over, u64::MAX);
+    Ok(())
+}
+
+fn fault(alloc: Global, text: &[u8]) -> Option<ConfFault> {
+    read_conf(alloc, text).err()
+}
+
+#[test]
+fn the_first_bad_line_is_told(rt: HostRuntime) -> Result<(), Fail> {
+    let alloc = rt.alloc();
+    let told = |line, cause| Some(ConfFault { line, cause });
+    assert_eq!(rt; fault(alloc, b""), told(0, ConfCause::NoAddress));
+    assert_eq!(rt;
+        fault(alloc, b"adress 2:5020/1042"),
+        told(1, ConfCause::UnknownWord)
+    );
+    assert_eq!(rt;
+        fault(alloc, b"address 2:5020"),
+        told(1, ConfCause::BadAddress)
+    );
+    assert_eq!(rt;
+        fault(alloc, b"address 5020/1"),
+        told(1, ConfCause::BadAddress)
+    );
+    assert_eq!(rt; fault(alloc, b"iport x"), told(1, ConfCause::BadNumber));
+    assert_eq!(rt; fault(alloc, b"iport"), told(1, ConfCause::MissingWord));
+    assert_eq!(rt; fault(alloc, b"iport 0"), told(1, ConfCause::BadNumber));
+    assert_eq!(rt;
+        fault(alloc, b"sysop a\r\n\r\nSYSOP b"),
+        told(3, ConfCause::Twice)
+    );
+    assert_eq!(rt;
+        fault(alloc, b"node 2:1/1\nnode 2:1/1@FidoNet"),
+        told(2, ConfCause::Twice)
+    );
+    assert_eq!(rt;
+        fault(alloc, b"address 1/1\ndomain a!b x 2"),
+        told(2, ConfCause::BadAddress)
+    );
+    let long = vec![in alloc; b'\n'; 1_048_577]?;
+    assert_eq!(rt; fault(alloc, long.as_slice()), told(0, ConfCause::TooLong));
+    Ok(())
+}
+
+#[test]
+fn addresses_take_zone_and_domain_of_the_domain_line(rt: HostRuntime) -> Result<(), Fail> {
+    let conf = read_conf(
+        rt.alloc(),
+        b"address 1/2 3:1/2@other\ndomain x alias-for y\ndomain Amiga out 39",
+    )?;
+    assert_eq!(rt; conf.addresses.len(), 2);
+    assert_eq!(rt; conf.addresses[0].zone, 39);
+    assert_eq!(rt; conf.addresses[0].domain.as_slice(), b"amiga".as_slice());
+    assert_eq!(rt; conf.addresses[1].domain.as_slice(), b"other".as_slice());
+    Ok(())
+}
+
+fn sysname(alloc: Global, line: &[u8]) -> Result<Conf, Fail> {
+    let mut text = Bytes::from_slice(alloc, b"address 2:1/1\n")?;
+    text.push_slice(line)?;
+    Ok(read_conf(alloc, text.as_slice())?)
+}
+
+#[test]
+fn quotes_hide_no_comment(rt: HostRuntime) -> Result<(), Fail> {
+    let alloc = rt.alloc();
+    let conf = sysname(alloc, b"sysname \"a # b\"")?;
+    assert_eq!(rt; conf.sysname.as_slice(), b"\"a".as_slice());
+    let conf = sysname(alloc, b"sysname \t \"\" # none")?;
+    assert!(rt; conf.sysname.is_empty());
+    Ok(())
+}
+
+#[test]
+fn forms_of_a_host(rt: HostRuntime) -> Result<(), Fail> {
+    let text = b"address 2:1/1
+node 2:1/2 a.example:99;b.example pass
+node 2:1/3 * -
+node 2:1/4 -nr a.example -md pass
+";
+    let conf = read_conf(rt.alloc(), text)?;
+    let node = |n| conf.nodes.get(n).ok_or("no node");
+    assert_eq!(rt; node(0)?.host.as_slice(), b"a.example".as_slice());
+    assert_eq!(rt; node(0)?.port, 99);
+    assert!(rt; node(1)?.host.is_empty() && node(1)?.password.is_empty());
+    assert_eq!(rt; node(2)?.password.as_slice(), b"pass".as_slice());
+    Ok(())
+}

@@ -1,0 +1,5 @@
+pub mod Found
+pub mod IndexLaw
+pub mod LookUp
+pub mod OneNode
+pub mod ReadBack
