@@ -1,4 +1,4 @@
--- The items of a flow file (FTS-5005, section 3.3).
+-- The items of a flow file (FTS-5005).
 use Rattle.std.specs.Prelude.{ℕ, ◌==◌, ◌||◌, nat_lt, List, [], ◌∷◌, length, map, Option, Some, None, if◌then◌else◌}
 use Rattle.std.specs.Str.Lines.{lines}
 use Rattle.ftn_addr.specs.declared.source_file.Action.{Action}

@@ -1,4 +1,4 @@
-//! Flow files (FTS-5005, section 3.3): a text whose lines each name a file to be sent, and say what is to
+//! Flow files (FTS-5005): a text whose lines each name a file to be sent, and say what is to
 //! be done with it once it is queued.
 //!
 //! [`read_flow`] gives one [`FlowLine`] for each line. It refuses nothing: what names no file is passed.

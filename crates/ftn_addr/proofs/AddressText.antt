@@ -1,18 +1,18 @@
 -- The canonical text of an address is read as that address.
-use Rattle.std.proofs.Common.{◌≡◌, ◌≢◌, ℕ, ◌+◌, ◌<◌, ◌≤◌, ◌^◌, Bool, true, false, not, ◌&&◌, eqb, List, [], ◌∷◌, ◌++◌, length, take, drop, map, Option, Some, None, Result, Ok, Err, refl, sym, ap, ◌∙◌, inl, inr, ◌*◌, ◌-◌, ltb, arith, rules}
-use Rattle.std.specs.Prelude.{position, IsTrue, nat_lt}
+use Rattle.std.proofs.Common.{◌≡◌, ℕ, ◌+◌, ◌≤◌, Bool, true, false, not, eqb, List, [], ◌∷◌, ◌++◌, length, drop, map, Some, None, Ok, refl, sym, ap, ◌∙◌, inl, inr, ◌*◌, ◌-◌, ltb, arith, rules}
+use Rattle.std.specs.Prelude.{position}
 use Rattle.std.specs.Char.{is_ascii_digit, to_ascii_lowercase}
 use Rattle.std.specs.Fmt.{decimal}
 use Rattle.std.specs.List.{list_all, prefix_len, fold}
-use Rattle.std.proofs.lemmas.Bool.{lt-ltb, le-ltb, cases_Bool, true≢false, eqb-true, and_parts, and_from, cond-true, cond-false}
+use Rattle.std.proofs.lemmas.Bool.{lt-ltb, le-ltb, cases_Bool, true≢false, eqb-true, and_parts, and_from}
 use Rattle.std.proofs.lemmas.Fmt.{digits_decimal, digits_value-decimal, decimal_nonempty}
 use Rattle.std.proofs.lemmas.Grind.{common_steps}
 use Rattle.std.proofs.lemmas.List.{take_at, drop_at, append_assoc, length_push, length-append, append-nil}
 use Rattle.std.proofs.lemmas.List.Folds.{list_all-append}
 use Rattle.std.proofs.lemmas.Str.Parse.{IsNumeralModel, numerals_by_fold}
 use Rattle.ftn_addr.specs.Address.{Address}
-use Rattle.ftn_addr.specs.Digits.{is_numeral, number_of}
-use Rattle.ftn_addr.specs.Parts.{Piece, Pieces, cut, cut_at, pieces_from, pieces_of}
+use Rattle.ftn_addr.specs.Digits.{number_of}
+use Rattle.ftn_addr.specs.Parts.{cut, pieces_from, pieces_of}
 use Rattle.ftn_addr.specs.Reading.{number_at, domain_at, is_domain, reading}
 use Rattle.ftn_addr.specs.Limits.{IsAddress}
 use Rattle.ftn_addr.specs.Writing.{canonical, point_text}

@@ -1,4 +1,4 @@
--- Frames and how bytes spell them (FTS-1026, section 3, "Frames").
+-- Frames and how bytes spell them (FTS-1026).
 use Rattle.std.specs.Prelude.{ℕ, ◌+◌, ◌<◌, ◌/◌, ◌%◌, Bool, true, false, List, [], ◌∷◌, ◌++◌, length, Option, Some, None, if◌then◌else◌}
 
 -- a frame without where it lies in memory

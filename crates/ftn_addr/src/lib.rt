@@ -1,7 +1,7 @@
 //! The base of every crate: FidoNet addresses, the keys of files, and the list of bytes that they are
 //! made of.
 //!
-//! An address is read by [`read_addr`] and written by [`write_addr`] (FTS-5005, section 2.1; FTS-5000).
+//! An address is read by [`read_addr`] and written by [`write_addr`] (FTS-5005, FTS-5000).
 //! [`Bytes`] is the list of bytes that every other crate stores and hands on; contracts see it as a list
 //! with a spare. [`NoMemory`] and [`Failed`] are the two refusals that have no cause inside the program.
 //! The definitions in `specs/` that several crates share stand here too: how a binkp frame is spelled,
