@@ -10,7 +10,6 @@ use Rattle.node_model.specs.Node.{Hold, Session, Node, session_at, with_session}
 use Rattle.node_model.specs.Rows.{FileAnswer, Have, Refuse, Elsewhere, Go, Whole, From, Late, Answered, unheld, released, DataWhole, LeaveRow}
 use Rattle.node_model.specs.Calls.{Call, Answer, Fault, Event, Knock_call, Open_call, File_call, Data_call, Leave_call, Let_in, Begun, Settled, Filed, More, Whole_now, Refused, Disk, Read, Full, No_memory, Made, Passes, Before_it, After_it, NotMade, NodeStep, KnownStep, Knows, Tells, Counts_alone, DeskState, Calls, Chain}
 use Rattle.node_model.specs.Receipts.{OnceEach, HasOnce, TellsOnce}
-use Rattle.node_model.specs.Refusals.{HandsNone}
 use Rattle.node_model.proofs.SameFiles.{is_same-refl, is_same_from, is_same_key}
 use Rattle.node_model.proofs.SeatSessions.{session_at-with_session}
 
@@ -122,22 +121,21 @@ leave_new : (seat : ℕ) (old new : Node) → LeaveRow seat old new → HoldsNew
 leave_new seat old new (inl m) fresh = put_new seat None old new (ap (λ (n : Node). n.seats) m.after) tt
 leave_new seat old new (inr m) fresh = subst (HoldsNew seat) (sym m.1) fresh
 
-whole_once : (seat : ℕ) (bytes : List ℕ) (old new : Node) → DataWhole seat bytes old new → HasOnce old.state → HoldsNew seat old ⊎ ⊥ → HasOnce new.state
-whole_once seat bytes old new m once (inl fresh) =
+whole_once : (seat : ℕ) (bytes : List ℕ) (old new : Node) → DataWhole seat bytes old new → HasOnce old.state → HoldsNew seat old → HasOnce new.state
+whole_once seat bytes old new m once fresh =
     more_once old.state new.state _ (ap (λ (n : Node). n.state) m.after) once (fresh m.session m.hold m.has m.holds)
-whole_once seat bytes old new m once (inr none) = absurd none
 
--- the receipts, where what is held is new or nothing is handed in
-pub made_once : (seat : ℕ) (old new : Node) (call : Call) (answer : Answer) → Made seat old call answer new → HasOnce old.state → HoldsNew seat old ⊎ HandsNone call → HasOnce new.state
-made_once seat old new (Knock_call role) Let_in m once may = same_once old.state new.state (ap (λ (n : Node). n.state) m.after) once
-made_once seat old new (Open_call role peers secure moment) (Begun number) m once may =
+-- the receipts, where what is held is new
+pub made_once : (seat : ℕ) (old new : Node) (call : Call) (answer : Answer) → Made seat old call answer new → HasOnce old.state → HoldsNew seat old → HasOnce new.state
+made_once seat old new (Knock_call role) Let_in m once fresh = same_once old.state new.state (ap (λ (n : Node). n.state) m.after) once
+made_once seat old new (Open_call role peers secure moment) (Begun number) m once fresh =
     same_once old.state new.state (ap (λ (n : Node). n.state) m.1.after) once
-made_once seat old new (File_call key offset) (Filed answer) m once may =
+made_once seat old new (File_call key offset) (Filed answer) m once fresh =
     answered_once seat (unheld m.session) key offset answer (released seat m.session old) new m.answered once
-made_once seat old new (Data_call bytes) More m once may = same_once old.state new.state (ap (λ (n : Node). n.state) m.after) once
-made_once seat old new (Data_call bytes) Whole_now m once may = whole_once seat bytes old new m once may
-made_once seat old new Leave_call Settled m once may = leave_once seat old new m once
-made_once seat old new call answer m once may = absurd m
+made_once seat old new (Data_call bytes) More m once fresh = same_once old.state new.state (ap (λ (n : Node). n.state) m.after) once
+made_once seat old new (Data_call bytes) Whole_now m once fresh = whole_once seat bytes old new m once fresh
+made_once seat old new Leave_call Settled m once fresh = leave_once seat old new m once
+made_once seat old new call answer m once fresh = absurd m
 
 -- what is held stays new
 pub made_new : (seat : ℕ) (old new : Node) (call : Call) (answer : Answer) → Made seat old call answer new → HoldsNew seat old → HoldsNew seat new
@@ -153,12 +151,6 @@ made_new seat old new (Data_call bytes) Whole_now m fresh =
 made_new seat old new Leave_call Settled m fresh = leave_new seat old new m fresh
 made_new seat old new call answer m fresh = absurd m
 
--- one of the durable states that a call passes
-pub passes_once : (seat : ℕ) (old : Node) (call : Call) (d : Durable) → Passes seat old call d → HasOnce old.state → HoldsNew seat old ⊎ HandsNone call → HasOnce d
-passes_once seat old call d (Before_it is) once may = same_once old.state d is once
-passes_once seat old call d (After_it answer new made is) once may =
-    same_once new.state d is (made_once seat old new call answer made once may)
-
 -- A step of the seat.
 
 -- no sender and key has two receipts, and while the node isn't broken, what the seat holds has none
@@ -166,12 +158,18 @@ pub record Sound (seat : ℕ) (n : Node) : Type 0 where
   pub once : HasOnce n.state
   pub fresh : n.broken ≡ None → HoldsNew seat n
 
+-- one of the durable states that a call passes
+pub passes_once : (seat : ℕ) (old : Node) (call : Call) (d : Durable) → Passes seat old call d → Sound seat old → HasOnce d
+passes_once seat old call d (Before_it is) s = same_once old.state d is s.once
+passes_once seat old call d (After_it unbroken answer new made is) s =
+    same_once new.state d is (made_once seat old new call answer made s.once (s.fresh unbroken))
+
 never_broken : {A : Type 0} (b : Option ℕ) (count : ℕ) → b ≡ Some count → b ≡ None → A
 never_broken b count some none = absurd (cc)
 
 refused_once : (seat : ℕ) (old : Node) (call : Call) (fault : Fault) (new : Node) → NotMade seat old call fault new → Sound seat old → HasOnce new.state
 refused_once seat old call (Disk count) new (inl same) s = subst (λ (n : Node). HasOnce n.state) (sym same.1) s.once
-refused_once seat old call (Disk count) new (inr b) s = passes_once seat old call new.state b.passes s.once (inl (s.fresh b.unbroken))
+refused_once seat old call (Disk count) new (inr b) s = passes_once seat old call new.state b.passes s
 refused_once seat old call (Read count) new r s = absurd r
 refused_once seat old (File_call key offset) Full new r s = same_once old.state new.state (ap (λ (n : Node). n.state) r.1.after) s.once
 refused_once seat old call Full new r s = same_once old.state new.state (ap (λ (n : Node). n.state) r.1) s.once
@@ -189,7 +187,7 @@ refused_sound seat old call No_memory new r s none = subst (HoldsNew seat) (sym 
 
 pub step_sound : (seat : ℕ) (old : Node) (call : Call) (answer : Answer) (new : Node) → NodeStep seat old call answer new → Sound seat old → Sound seat new
 step_sound seat old call (Refused fault) new r s = record { once = refused_once seat old call fault new r s; fresh = refused_sound seat old call fault new r s }
-step_sound seat old call answer new m s = record { once = made_once seat old new call answer m.1 s.once (inl (s.fresh m.0)); fresh = λ none. made_new seat old new call answer m.1 (s.fresh m.0) }
+step_sound seat old call answer new m s = record { once = made_once seat old new call answer m.1 s.once (s.fresh m.0); fresh = λ none. made_new seat old new call answer m.1 (s.fresh m.0) }
 
 -- A chain of calls.
 

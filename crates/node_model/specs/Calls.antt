@@ -79,10 +79,10 @@ Made seat old (Data_call bytes) Whole_now new = DataWhole seat bytes old new
 Made seat old Leave_call Settled new = LeaveRow seat old new
 Made _ _ _ _ _ = ⊥
 
--- the durable states that a call passes: the one before it, and the one after all that it changes
+-- the durable states that a call passes: the one before it, and, of an unbroken node, the one after all that it changes
 pub data Passes (seat : ℕ) (old : Node) (call : Call) (d : Durable) : Type 0 where
   Before_it : d ≡ old.state → Passes seat old call d
-  After_it : (answer : Answer) (new : Node) → Made seat old call answer new → d ≡ new.state → Passes seat old call d
+  After_it : old.broken ≡ None → (answer : Answer) (new : Node) → Made seat old call answer new → d ≡ new.state → Passes seat old call d
 
 -- a seat's session without its hold
 abbrev pub unheld_in : Option Session → Option Session
@@ -97,6 +97,7 @@ pub record Breaks (seat : ℕ) (old : Node) (call : Call) (count : ℕ) (new : N
   pub passes : Passes seat old call new.state
   pub broken : new.broken ≡ Some count
   pub faults : new.faults ≡ count
+  pub fulls : new.fulls ≡ old.fulls
   pub others : (k : ℕ) → k ≢ seat → seat_in new.seats k ≡ seat_in old.seats k
   pub own : unheld_in (session_at new seat) ≡ unheld_in (session_at old seat)
   pub settings : new.settings ≡ old.settings

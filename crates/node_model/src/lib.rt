@@ -8,6 +8,7 @@
 //! Left out: the desk that makes a node's steps over a store, sessions over bytes, and stores on a disk.
 #![tactic(auto)]
 
+mod laws;
 mod list_store;
 mod open_part;
 mod received;
@@ -15,6 +16,7 @@ mod store;
 mod words;
 
 pub use ftn_addr::{Action, Failed, NoMemory};
+pub use laws::{calls_join, one_receipt_after_a_stop, one_receipt_along_calls};
 pub use list_store::ListStore;
 pub use received::Received;
 pub use store::{PartAt, Store, StoreFault};
