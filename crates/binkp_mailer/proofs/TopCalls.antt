@@ -7,14 +7,14 @@ use Rattle.node_model.specs.Node.{Node}
 use Rattle.node_model.specs.Receipts.{HasOnce, TellsOnce}
 use Rattle.node_model.specs.Stores.{Stored, StoreState}
 use Rattle.node_model.proofs.OneReceipt.{chain_once}
-use Rattle.binkp_mailer.specs.declared.ending.End.{End}
-use Rattle.binkp_mailer.specs.declared.ending.End.TheVariants as E
+use Rattle.session_core.specs.declared.ending.End.{End}
+use Rattle.session_core.specs.declared.ending.End.TheVariants as E
 use Rattle.binkp_mailer.specs.declared.status.Status.{Status}
-use Rattle.binkp_mailer.specs.Lines.{LineState}
-use Rattle.binkp_mailer.specs.Machine.{Phase, Closed}
-use Rattle.binkp_mailer.specs.Sessions.{Setting}
-use Rattle.binkp_mailer.specs.Laws.{IsSession, Facts, EndCount, EndCountAt, LineCause, LineCauseAt, DeskCause, DeskCauseAt}
-use Rattle.binkp_mailer.specs.Seats.{Sitting, node_of, told}
+use Rattle.binkp_link.specs.Lines.{LineState}
+use Rattle.session_run.specs.Machine.{Phase, Closed}
+use Rattle.session_core.specs.Sessions.{Setting}
+use Rattle.session_run.specs.Laws.{IsSession, Facts, EndCount, EndCountAt, LineCause, LineCauseAt, DeskCause, DeskCauseAt}
+use Rattle.hub_core.specs.Seats.{Sitting, node_of, told}
 use Rattle.binkp_mailer.specs.Statuses.{status_after}
 use Rattle.binkp_mailer.specs.declared.status.Status.TheVariants as S
 use Rattle.binkp_mailer.specs.TopCall.{HeldSession, HasOnceTold, StatusCause, Answers_line, Turned_away, Held_one, one_seat, lent}

@@ -5,13 +5,13 @@ use Rattle.ftn_addr.specs.Counts.{Rose, risen}
 use Rattle.node_model.specs.Calls.{Counts, DeskState, Tells}
 use Rattle.node_model.specs.Receipts.{HasOnce}
 use Rattle.node_model.specs.Stores.{Stored, StoreState, IfTold}
-use Rattle.binkp_mailer.specs.declared.ending.End.{End}
+use Rattle.session_core.specs.declared.ending.End.{End}
 use Rattle.binkp_mailer.specs.declared.status.Status.{Status}
 use Rattle.binkp_mailer.specs.declared.status.Status.TheVariants as S
-use Rattle.binkp_mailer.specs.Lines.{LineState}
-use Rattle.binkp_mailer.specs.Sessions.{Setting}
-use Rattle.binkp_mailer.specs.Laws.{IsSession}
-use Rattle.binkp_mailer.specs.Seats.{Sitting, node_of}
+use Rattle.binkp_link.specs.Lines.{LineState}
+use Rattle.session_core.specs.Sessions.{Setting}
+use Rattle.session_run.specs.Laws.{IsSession}
+use Rattle.hub_core.specs.Seats.{Sitting, node_of}
 use Rattle.binkp_mailer.specs.Statuses.{status_after}
 use Rattle.binkp_mailer.specs.Words.{AreWords}
 

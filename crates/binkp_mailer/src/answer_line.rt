@@ -1,17 +1,18 @@
 //! The program's call.
 ghost use Rattle.std.specs.Prelude.{◌≡◌, ℕ, None};
 ghost use Rattle.ftn_addr.specs.Address.{Address};
-ghost use Rattle.binkp_mailer.specs.Seats.{IsMarkFree, IsSettled, told};
+ghost use Rattle.hub_core.specs.Seats.{IsMarkFree, IsSettled, told};
 ghost use Rattle.binkp_mailer.specs.TopCall.{Answers_line, HasOnceTold, StatusCause};
 ghost use Rattle.binkp_mailer.specs.Words.{AreWords, texts};
 ghost use Rattle.binkp_mailer.specs.declared.status.Status.TheVariants.{Usage};
 
-use crate::run::run_session;
-use crate::seat::Seat;
-use crate::terms::Setting;
-use crate::{Line, Sink, Status, WordsFault, read_words, status_of};
+use crate::{Status, WordsFault, read_words, status_of};
+use binkp_link::{Line, Sink};
 use ftn_addr::Bytes;
+use hub_core::Seat;
 use node_model::Store;
+use session_core::Setting;
+use session_run::run_session;
 use std::alloc::Global;
 
 /// The most bytes that a session takes and writes, together: 16 TiB.

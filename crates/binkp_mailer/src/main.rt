@@ -1,55 +1,23 @@
 //! `binkp_mailer` answers one caller over standard input and output, as under inetd.
 //!
-//! From the bottom: [`Line`] and [`Sink`] are what a session talks over (`MemLine`, `MemSink` in memory,
-//! `StdLine` over standard input and output); [`Desk`] is what it asks of its node, and [`Seat`] is a desk
-//! over a store; [`Session`] takes a frame and makes an own turn; [`Run`] is a session over a line, turn by
-//! turn; [`run_line`] is the program's call, whose contract says what all of it does.
+//! [`run_line`] is the program's call: it reads the words, holds one session over a line and a store, and
+//! answers the program's status. Its contract says what all of it does. `main` gives it standard input and
+//! output, the words behind the program's name, and a store in memory.
 #![tactic(auto)]
 
-mod acts;
 mod answer_line;
-mod counting;
-mod desk;
-mod ending;
-mod hearing;
-mod holding;
-mod link;
-mod logged;
-mod login;
-mod mem_line;
-mod mem_sink;
-mod read_script;
-mod receiver;
-mod run;
-mod saying;
-mod seat;
-mod seat_open;
-mod session;
-mod stage;
 mod status;
-mod std_line;
-mod terms;
 mod words;
-mod write_script;
 
-pub use acts::{ReadAct, WriteAct};
 pub use answer_line::{SESSION_LIMIT, run_line};
-pub use desk::{DataIn, Desk, DeskFault, FileIn, Knock};
-pub use ending::{Cause, End, Gave, Took};
+use binkp_link::{MemSink, StdLine};
 use ftn_addr::{Bytes, NoMemory};
-pub use link::{Line, ReadAnswer, Sink, WriteAnswer};
-pub use mem_line::MemLine;
-pub use mem_sink::MemSink;
 use node_model::ListStore;
-pub use run::Run;
-pub use seat::Seat;
-pub use session::Session;
 pub use status::{Status, status_of};
 use std::process::ExitCode;
 use std::rt::{Clock, Env};
 use std::time::{SystemTime, UNIX_EPOCH};
 use std::{env, io};
-pub use std_line::StdLine;
 pub use words::{WordsFault, read_words};
 
 /// The words behind the program's name.

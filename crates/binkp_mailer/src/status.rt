@@ -2,7 +2,7 @@
 ghost use Rattle.std.specs.Prelude.{◌≡◌};
 ghost use Rattle.binkp_mailer.specs.Statuses.{number_of_status, status_after};
 
-use crate::{Cause, End};
+use session_core::{Cause, End};
 
 /// What came of a command. Its number is the program's exit status.
 #[derive(Clone, Copy, Debug, PartialEq, Eq)]

@@ -1,12 +1,14 @@
 ghost use Rattle.std.specs.Prelude.{◌≡◌, ◌<◌, None, map, IfOk, IfSome};
 ghost use Rattle.node_model.specs.ListStates.{stand_of};
-ghost use Rattle.binkp_mailer.specs.MemLines.{mem_state};
-ghost use Rattle.binkp_mailer.specs.Scripts.{AllGiveSome, act_of};
-ghost use Rattle.binkp_mailer.specs.Seats.{IsMarkFree};
+ghost use Rattle.binkp_link.specs.MemLines.{mem_state};
+ghost use Rattle.binkp_link.specs.Scripts.{AllGiveSome, act_of};
+ghost use Rattle.hub_core.specs.Seats.{IsMarkFree};
 
-use crate::{Cause, MemLine, MemSink, ReadAct, Status, run_line};
+use crate::{Status, run_line};
+use binkp_link::{MemLine, MemSink, ReadAct};
 use ftn_addr::{Bytes, NoMemory};
 use node_model::{ListStore, Store};
+use session_core::Cause;
 use std::alloc::Global;
 use std::test::Fail;
 

@@ -1,6 +1,6 @@
 use Rattle.std.proofs.Common.{option_map}
 use Rattle.ftn_addr.specs.Address.{address}
-use Rattle.binkp_mailer.specs.Seats.{sitting}
+use Rattle.hub_core.specs.Seats.{sitting}
 use Rattle.binkp_mailer.specs.TopCall.{Held_one}
 use Rattle.binkp_mailer.proofs.TopCalls.{answers_once, from_node}
 use Rattle.binkp_mailer.proofs.answer_line.run_line.Goals as goal

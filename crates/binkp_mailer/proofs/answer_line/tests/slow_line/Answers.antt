@@ -1,6 +1,6 @@
 use Rattle.std.proofs.Common.{rules, refl, sym, ap, subst, ◌≡◌, map}
-use Rattle.binkp_mailer.specs.Scripts.{AllGiveSome, act_of}
-use Rattle.binkp_mailer.proofs.Pushes.{some_push}
+use Rattle.binkp_link.specs.Scripts.{AllGiveSome, act_of}
+use Rattle.binkp_link.proofs.Pushes.{some_push}
 use Rattle.binkp_mailer.proofs.answer_line.tests.slow_line.Goals as goal
 
 pub loop-byte-preserved : goal.loop-byte-preserved

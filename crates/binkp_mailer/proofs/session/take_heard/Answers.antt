@@ -1,5 +1,0 @@
-use Rattle.binkp_mailer.proofs.Dids.{did_row}
-use Rattle.binkp_mailer.proofs.session.take_heard.Goals as goal
-
-pub returns-in-AwaitsAddress-clause-row : goal.returns-in-AwaitsAddress-clause-row
-returns-in-AwaitsAddress-clause-row g c = rw c.in-AwaitsAddress.is (did_row _ _ _ _ _ _ _ c.take_before_address.ensures.row)

@@ -1,0 +1,5 @@
+pub mod Rans
+pub mod Writings
+pub mod Dids
+pub mod Heard
+pub mod Gives

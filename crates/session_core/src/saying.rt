@@ -1,0 +1,146 @@
+//! What a session says: one command, one frame.
+ghost use Rattle.std.specs.Prelude.{◌≡◌, ◌<◌, ◌≤◌, ◌++◌, ◌∷◌, [], length, OnOk, OnErr};
+ghost use Rattle.ftn_addr.specs.Key.{key_of};
+ghost use Rattle.binkp_args.specs.Command.{Accept, Eob, Error, Got, Adr};
+ghost use Rattle.ftn_addr.specs.Address.{address};
+ghost use Rattle.ftn_addr.specs.Limits.{IsAddress, IsKey};
+ghost use Rattle.session_core.specs.Replies.{Writes, cause_bytes};
+ghost use Rattle.hub_core.specs.Desks.{fault_of};
+ghost use Rattle.session_core.specs.Sessions.{command_bytes, disk_fault, fault_bytes, fault_end, ledger_full, greeting, version, welcome};
+ghost use Rattle.session_core.specs.declared.ending.Took.TheVariants as T;
+ghost use Rattle.session_core.specs.declared.ending.End.TheVariants as E;
+
+use crate::{Cause, End, Took};
+use binkp_args::{Command, fits_a_frame, write_command};
+use ftn_addr::{Addr, Bytes, FileKey, NoMemory};
+use hub_core::DeskFault;
+use std::alloc::Global;
+
+/// M_OK `non-secure`.
+#[tactic(auto, unfolding(crate::specs::Sessions::welcome))]
+pub fn say_welcome(alloc: Global, out: &mut Bytes) -> Result<(), NoMemory>
+    ensures ok { OnOk result (out.new.list ≡ out.old.list ++ welcome) }
+    ensures err { OnErr result (out.new.list ≡ out.old.list) }
+{
+    let text = Bytes::from_slice(alloc, b"non-secure")?;
+    write_command(alloc, &Command::Accept(text), out)
+}
+
+/// M_EOB.
+pub fn say_end(alloc: Global, out: &mut Bytes) -> Result<(), NoMemory>
+    ensures ok { OnOk result (out.new.list ≡ out.old.list ++ command_bytes Eob) }
+    ensures err { OnErr result (out.new.list ≡ out.old.list) }
+{
+    write_command(alloc, &Command::Eob, out)
+}
+
+/// M_GOT.
+pub fn say_got(alloc: Global, key: FileKey, out: &mut Bytes) -> Result<(), NoMemory>
+    requires { IsKey (key_of key) }
+    ensures ok { OnOk result (out.new.list ≡ out.old.list ++ command_bytes (Got (key_of key))) }
+    ensures err { OnErr result (out.new.list ≡ out.old.list) }
+{
+    fits_a_frame();
+    write_command(alloc, &Command::Got(key), out)
+}
+
+fn say_error(alloc: Global, text: &[u8], out: &mut Bytes) -> Result<(), NoMemory>
+    requires { length text.now < 32767 }
+    ensures ok { OnOk result (out.new.list ≡ out.old.list ++ command_bytes (Error text.now)) }
+    ensures err { OnErr result (out.new.list ≡ out.old.list) }
+{
+    let text = Bytes::from_slice(alloc, text)?;
+    write_command(alloc, &Command::Err(text), out)
+}
+
+#[tactic(auto, unfolding(crate::specs::Sessions::disk_fault))]
+fn say_disk_fault(alloc: Global, out: &mut Bytes) -> Result<(), NoMemory>
+    ensures ok { OnOk result (out.new.list ≡ out.old.list ++ disk_fault) }
+    ensures err { OnErr result (out.new.list ≡ out.old.list) }
+{
+    say_error(alloc, b"disk fault", out)
+}
+
+#[tactic(auto, unfolding(crate::specs::Sessions::ledger_full))]
+fn say_ledger_full(alloc: Global, out: &mut Bytes) -> Result<(), NoMemory>
+    ensures ok { OnOk result (out.new.list ≡ out.old.list ++ ledger_full) }
+    ensures err { OnErr result (out.new.list ≡ out.old.list) }
+{
+    say_error(alloc, b"ledger full", out)
+}
+
+/// The M_ERR that a cause owes.
+#[tactic(auto, unfolding(crate::specs::Sessions::broken_frame, crate::specs::Sessions::offset_again))]
+fn say_cause(alloc: Global, cause: Cause, out: &mut Bytes) -> Result<(), NoMemory>
+    ensures ok { OnOk result (out.new.list ≡ out.old.list ++ cause_bytes cause) }
+    ensures err { OnErr result (out.new.list ≡ out.old.list) }
+{
+    match cause {
+        Cause::Late => say_error(alloc, b"offset again", out),
+        Cause::Arg(_) => say_error(alloc, b"broken frame", out),
+        Cause::OutOfTurn => say_error(alloc, b"broken frame", out),
+        Cause::TooMuch => say_error(alloc, b"broken frame", out),
+    }
+}
+
+#[tactic(auto, unfolding(crate::specs::Sessions::version))]
+fn say_version(alloc: Global, out: &mut Bytes) -> Result<(), NoMemory>
+    ensures ok { OnOk result (out.new.list ≡ out.old.list ++ version) }
+    ensures err { OnErr result (out.new.list ≡ out.old.list) }
+{
+    let text = Bytes::from_slice(alloc, b"VER binkp_mailer/1.0 binkp/1.0")?;
+    write_command(alloc, &Command::Nul(text), out)
+}
+
+fn say_address(alloc: Global, home: &Addr, out: &mut Bytes) -> Result<(), NoMemory>
+    requires { IsAddress (address home.now) }
+    ensures ok { OnOk result (out.new.list ≡ out.old.list ++ command_bytes (Adr (address home.now ∷ []))) }
+    ensures err { OnErr result (out.new.list ≡ out.old.list) }
+{
+    let mut addresses = Vec::new(alloc);
+    addresses.push(home.copy(alloc)?)?;
+    fits_a_frame();
+    write_command(alloc, &Command::Adr(addresses), out)
+}
+
+/// The greeting: VER, and the own address.
+pub fn say_greeting(alloc: Global, home: &Addr, out: &mut Bytes) -> Took
+    requires { IsAddress (address home.now) }
+    ensures { Writes out.old.list out.new.list (greeting (address home.now)) T.More result }
+{
+    match say_version(alloc, out) {
+        Ok(()) => {}
+        Err(_) => return Took::Ended(End::NoMemory),
+    }
+    match say_address(alloc, home, out) {
+        Ok(()) => Took::More,
+        Err(_) => Took::Ended(End::NoMemory),
+    }
+}
+
+/// Ends a session that a desk refused, with the M_ERR that this owes.
+pub fn refuse(alloc: Global, fault: DeskFault, out: &mut Bytes) -> Took
+    ensures { Writes out.old.list out.new.list (fault_bytes (fault_of fault)) (T.Ended (fault_end (fault_of fault))) result }
+{
+    match fault {
+        DeskFault::Disk(count) => match say_disk_fault(alloc, out) {
+            Ok(()) => Took::Ended(End::DiskFault(count)),
+            Err(_) => Took::Ended(End::NoMemory),
+        },
+        DeskFault::Full => match say_ledger_full(alloc, out) {
+            Ok(()) => Took::Ended(End::LedgerFull),
+            Err(_) => Took::Ended(End::NoMemory),
+        },
+        DeskFault::NoMemory => Took::Ended(End::NoMemory),
+    }
+}
+
+/// Ends a session that the peer broke at its frame with that number.
+pub fn break_off(alloc: Global, cause: Cause, number: u64, out: &mut Bytes) -> Took
+    ensures { Writes out.old.list out.new.list (cause_bytes cause) (T.Ended (E.Broke cause number)) result }
+{
+    match say_cause(alloc, cause, out) {
+        Ok(()) => Took::Ended(End::Broke(cause, number)),
+        Err(_) => Took::Ended(End::NoMemory),
+    }
+}

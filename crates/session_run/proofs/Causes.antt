@@ -1,0 +1,303 @@
+-- The ends that rows give, and their causes.
+use Rattle.std.proofs.Common.{◌≡◌, ◌⊎◌, ◌∙◌, ℕ, ◌+◌, ◌-◌, ◌^◌, ◌≤◌, min, Bool, true, false, List, [], ◌∷◌, Option, Some, None, Result, Ok, Err, refl, sym, ap, subst, inl, inr, arith}
+use Rattle.std.specs.Prelude.{MatchBool}
+use Rattle.ftn_addr.specs.Address.{Address, same_address}
+use Rattle.ftn_addr.specs.Frames.{FrameText, Command, Data}
+use Rattle.ftn_addr.specs.Key.{Key}
+use Rattle.ftn_addr.specs.Counts.{Rose}
+use Rattle.binkp_args.specs.declared.fault.ArgFault.{ArgFault}
+use Rattle.binkp_args.specs.declared.fault.ArgFault.TheVariants.{NoAddress}
+use Rattle.binkp_args.specs.Command.{CommandText, command_of}
+use Rattle.node_model.specs.Lists.{without}
+use Rattle.node_model.specs.Rows.{Have, Refuse, Elsewhere, Go, Whole, From, Late}
+use Rattle.node_model.specs.Calls.{Call, Fault, Disk, Read, Full, No_memory, Answer, Queued, Let_in, Busy, Begun, Offered, Nothing, Came, Settled, Filed, More, Whole_now, Acted, Given, Held, Refused, Event, one, Counts, counts_of, Caused, DeskState, Calls, Chain}
+use Rattle.node_model.specs.Talk.{Message, File, Data as DataMessage, Got, Get, Skip, End as EndMessage, Talk, Part, RowEnd, Finished, Out_of_turn, Too_late, Too_much, Refused_by, Outcome, Goes_on, Waits, Ends, Verdict, TakeRow, TurnRow, AfterFile, AfterData, FileTaken, Asks, Not_yet, DataTaken, Nothing_held, Drops, Exceeds, Fits, Finishes, Rests, Says_end, Waits_for_end}
+use Rattle.session_core.specs.declared.ending.End.{End}
+use Rattle.session_core.specs.declared.ending.End.TheVariants as E
+use Rattle.session_core.specs.declared.ending.Took.{Took}
+use Rattle.session_core.specs.declared.ending.Took.TheVariants as T
+use Rattle.session_core.specs.declared.ending.Gave.{Gave}
+use Rattle.session_core.specs.declared.ending.Gave.TheVariants as G
+use Rattle.session_core.specs.Sessions.{Setting, Stage, Awaits_address, Awaits_password, Talks, Reply, Row, ReadRow, HeardRow, PasswordRow, LoggedRow, LoginRow, TalkRow, DataRow, AfterBegin, AfterKnock, Plain, Heard, Passed, Addresses, Password, Offers, Ends_batch, Unbuilt, heard_of, before_address, named, unreadable, ends, is_none, is_unbuilt, end_of, fault_end, outcome_took, outcome_gave, Said, Turn, TalkTurn, GiveRow}
+use Rattle.session_run.specs.Laws.{Since, Stays_or_rose, DeskCause}
+
+-- the ends that need no other object
+abbrev pub Plain_end : End → Type 0
+Plain_end E.Finished = Unit {0}
+Plain_end (E.Broke cause n) = Unit {0}
+Plain_end E.NoMemory = Unit {0}
+Plain_end _ = ⊥
+
+-- a refusal of the desk gives that end
+abbrev pub Refused_end : End → List Event → Type 0
+Refused_end end es = (call : Call) × (fault : Fault) × (es ≡ one call (Refused fault)) × (end ≡ fault_end fault)
+
+abbrev pub RowCause : Took → List Event → Type 0
+RowCause T.More es = Unit {0}
+RowCause (T.Ended end) es = Plain_end end ⊎ Refused_end end es
+
+abbrev pub Plain_took : Took → Type 0
+Plain_took T.More = Unit {0}
+Plain_took (T.Ended end) = Plain_end end
+
+from_plain : (took : Took) (es : List Event) → Plain_took took → RowCause took es
+from_plain T.More es p = tt
+from_plain (T.Ended end) es p = inl p
+
+plain_cause : (reply r : Reply) (es : List Event) → Plain_took reply.took → Plain reply es r → RowCause r.took es
+plain_cause reply r es p plain = subst (λ (x : Reply). RowCause x.took es) (sym plain.1) (from_plain reply.took es p)
+
+reply_cause : (reply r : Reply) (es : List Event) → RowCause reply.took es → r ≡ reply → RowCause r.took es
+reply_cause reply r es p e = subst (λ (x : Reply). RowCause x.took es) (sym e) p
+
+either : (b : Bool) (P Q R : Type 0) → (P → R) → (Q → R) → MatchBool b P Q → R
+either true P Q R p q m = p m
+either false P Q R p q m = q m
+
+named_plain : (n : ℕ) (addresses : List Address) → Plain_took (named n addresses).took
+named_plain n [] = tt
+named_plain n (first ∷ others) = tt
+
+before_plain : (home : Address) (n : ℕ) (heard : Heard) → Plain_took (before_address home n heard).took
+before_plain home n Passed = tt
+before_plain home n (Addresses addresses) = named_plain n (without (same_address home) addresses)
+before_plain home n (Password text) = tt
+before_plain home n (Offers key offset) = tt
+before_plain home n Ends_batch = tt
+before_plain home n Unbuilt = tt
+
+begin_cause : (peers : List Address) (call : Call) (answer : Answer) (es : List Event) (r : Reply) → es ≡ one call answer → AfterBegin peers answer r → RowCause r.took es
+begin_cause peers call (Begun number) es r e a = reply_cause _ r es tt a
+begin_cause peers call (Refused fault) es r e a = reply_cause _ r es (inr (call, fault, e, refl)) a
+begin_cause peers call (Queued slots) es r e a = absurd a
+begin_cause peers call Let_in es r e a = absurd a
+begin_cause peers call Busy es r e a = absurd a
+begin_cause peers call (Offered number key) es r e a = absurd a
+begin_cause peers call Nothing es r e a = absurd a
+begin_cause peers call (Came bytes) es r e a = absurd a
+begin_cause peers call Settled es r e a = absurd a
+begin_cause peers call (Filed answer) es r e a = absurd a
+begin_cause peers call More es r e a = absurd a
+begin_cause peers call Whole_now es r e a = absurd a
+begin_cause peers call (Acted number) es r e a = absurd a
+begin_cause peers call (Given number) es r e a = absurd a
+begin_cause peers call (Held number) es r e a = absurd a
+
+-- the outcome of a row over a message
+abbrev pub OutcomeCause : ℕ → Outcome → List Event → Type 0
+OutcomeCause n outcome es = RowCause (outcome_took n outcome) es
+
+verdict_cause : (n : ℕ) (v w : Verdict) (es : List Event) → OutcomeCause n w.outcome es → v ≡ w → OutcomeCause n v.outcome es
+verdict_cause n v w es p e = subst (λ (x : Verdict). OutcomeCause n x.outcome es) (sym e) p
+
+file_cause : (n : ℕ) (t : Talk) (key : Key) (call : Call) (answer : Answer) (es : List Event) (v : Verdict) → es ≡ one call answer → AfterFile t key answer v → OutcomeCause n v.outcome es
+file_cause n t key call (Filed Have) es v e a = verdict_cause n v _ es tt a
+file_cause n t key call (Filed Refuse) es v e a = verdict_cause n v _ es tt a
+file_cause n t key call (Filed Whole) es v e a = verdict_cause n v _ es tt a
+file_cause n t key call (Filed Elsewhere) es v e a = verdict_cause n v _ es tt a
+file_cause n t key call (Filed (From place)) es v e a = verdict_cause n v _ es tt a
+file_cause n t key call (Filed Go) es v e a = verdict_cause n v _ es tt a
+file_cause n t key call (Filed Late) es v e a = verdict_cause n v _ es (inl tt) a
+file_cause n t key call (Refused fault) es v e a = verdict_cause n v _ es (inr (call, fault, e, refl)) a
+file_cause n t key call (Queued slots) es v e a = absurd a
+file_cause n t key call Let_in es v e a = absurd a
+file_cause n t key call Busy es v e a = absurd a
+file_cause n t key call (Begun number) es v e a = absurd a
+file_cause n t key call (Offered number k) es v e a = absurd a
+file_cause n t key call Nothing es v e a = absurd a
+file_cause n t key call (Came bytes) es v e a = absurd a
+file_cause n t key call Settled es v e a = absurd a
+file_cause n t key call More es v e a = absurd a
+file_cause n t key call Whole_now es v e a = absurd a
+file_cause n t key call (Acted number) es v e a = absurd a
+file_cause n t key call (Given number) es v e a = absurd a
+file_cause n t key call (Held number) es v e a = absurd a
+
+data_cause : (n : ℕ) (t : Talk) (key : Key) (call : Call) (answer : Answer) (es : List Event) (v : Verdict) → es ≡ one call answer → AfterData t key answer v → OutcomeCause n v.outcome es
+data_cause n t key call More es v e a = verdict_cause n v _ es tt a
+data_cause n t key call Whole_now es v e a = verdict_cause n v _ es tt a
+data_cause n t key call (Refused fault) es v e a = verdict_cause n v _ es (inr (call, fault, e, refl)) a
+data_cause n t key call (Filed answer) es v e a = absurd a
+data_cause n t key call (Queued slots) es v e a = absurd a
+data_cause n t key call Let_in es v e a = absurd a
+data_cause n t key call Busy es v e a = absurd a
+data_cause n t key call (Begun number) es v e a = absurd a
+data_cause n t key call (Offered number k) es v e a = absurd a
+data_cause n t key call Nothing es v e a = absurd a
+data_cause n t key call (Came bytes) es v e a = absurd a
+data_cause n t key call Settled es v e a = absurd a
+data_cause n t key call (Acted number) es v e a = absurd a
+data_cause n t key call (Given number) es v e a = absurd a
+data_cause n t key call (Held number) es v e a = absurd a
+
+take_cause : (n : ℕ) (held : Option Part) (t : Talk) (message : Message) (es : List Event) (v : Verdict) → TakeRow held t message es v → OutcomeCause n v.outcome es
+take_cause n held t (File key offset) es v (Asks zero answer e a) = file_cause n t key _ answer es v e a
+take_cause n held t (File key offset) es v (Not_yet some e a) = verdict_cause n v _ es (inl tt) a
+take_cause n held t (DataMessage bytes) es v (Nothing_held none e a) = verdict_cause n v _ es tt a
+take_cause n held t (DataMessage bytes) es v (Drops p is taking e a) = verdict_cause n v _ es tt a
+take_cause n held t (DataMessage bytes) es v (Exceeds p is taking over e a) = verdict_cause n v _ es (inl tt) a
+take_cause n held t (DataMessage bytes) es v (Fits p is taking fits answer e a) = data_cause n t p.key _ answer es v e a
+take_cause n held t EndMessage es v a = verdict_cause n v _ es tt a.1
+take_cause n held t (Got key) es v a = absurd a
+take_cause n held t (Get key offset) es v a = absurd a
+take_cause n held t (Skip key) es v a = absurd a
+
+talk_cause : (n : ℕ) (t : Talk) (held : Option Part) (message : Message) (es : List Event) (r : Reply) → TalkRow n t held message es r → RowCause r.took es
+talk_cause n t held message es r row = reply_cause _ r es (take_cause n held t message es row.verdict row.row) row.is
+
+password_cause : (s : Setting) (n : ℕ) (peers : List Address) (heard : Heard) (es : List Event) (r : Reply) → PasswordRow s n peers heard es r → RowCause r.took es
+password_cause s n peers Passed es r row = plain_cause _ r es tt row
+password_cause s n peers (Addresses addresses) es r row = plain_cause _ r es tt row
+password_cause s n peers (Password text) es r row = either (is_none text) _ _ _ (λ (l : LoginRow s peers es r). begin_cause peers _ l.answer es r l.asks l.follows) (λ p. plain_cause _ r es tt p) row
+password_cause s n peers (Offers key offset) es r row = plain_cause _ r es tt row
+password_cause s n peers Ends_batch es r row = plain_cause _ r es tt row
+password_cause s n peers Unbuilt es r row = plain_cause _ r es tt row
+
+logged_cause : (n : ℕ) (t : Talk) (held : Option Part) (heard : Heard) (es : List Event) (r : Reply) → LoggedRow n t held heard es r → RowCause r.took es
+logged_cause n t held Passed es r row = plain_cause _ r es tt row
+logged_cause n t held (Addresses addresses) es r row = plain_cause _ r es tt row
+logged_cause n t held (Password text) es r row = either (is_none text) _ _ _ (λ p. plain_cause _ r es tt p) (λ p. plain_cause _ r es tt p) row
+logged_cause n t held (Offers key offset) es r row = talk_cause n t held _ es r row
+logged_cause n t held Ends_batch es r row = talk_cause n t held _ es r row
+logged_cause n t held Unbuilt es r row = plain_cause _ r es tt row
+
+heard_cause : (s : Setting) (n : ℕ) (stage : Stage) (heard : Heard) (es : List Event) (r : Reply) → HeardRow s n stage heard es r → RowCause r.took es
+heard_cause s n Awaits_address heard es r row = plain_cause _ r es (before_plain s.home n heard) row
+heard_cause s n (Awaits_password peers) heard es r row = password_cause s n peers heard es r row
+heard_cause s n (Talks t held) heard es r row = logged_cause n t held heard es r row
+
+read_cause : (s : Setting) (n : ℕ) (stage : Stage) (read : Result CommandText ArgFault) (es : List Event) (r : Reply) → ReadRow s n stage read es r → RowCause r.took es
+read_cause s n stage (Ok command) es r row = heard_cause s n stage (heard_of command) es r row
+read_cause s n stage (Err fault) es r row = plain_cause _ r es tt row
+
+data_row_cause : (n : ℕ) (stage : Stage) (bytes : List ℕ) (es : List Event) (r : Reply) → DataRow n stage bytes es r → RowCause r.took es
+data_row_cause n Awaits_address bytes es r row = plain_cause _ r es tt row
+data_row_cause n (Awaits_password peers) bytes es r row = plain_cause _ r es tt row
+data_row_cause n (Talks t held) bytes es r row = talk_cause n t held _ es r row
+
+pub row_cause : (s : Setting) (n : ℕ) (stage : Stage) (frame : FrameText) (es : List Event) (r : Reply) → Row s n stage frame es r → RowCause r.took es
+row_cause s n stage (Command number args) es r row = either (is_unbuilt number) _ _ _ (λ p. plain_cause _ r es tt p) (λ q. read_cause s n stage (command_of s.home number args) es r q) row
+row_cause s n stage (Data bytes) es r row = data_row_cause n stage bytes es r row
+
+pub said_cause : (output : List ℕ) (goal : Took) (written : List ℕ) (took : Took) (es : List Event) → RowCause goal es → Said output goal written took → RowCause took es
+said_cause output goal written took es c (inl s) = subst (λ (x : Took). RowCause x es) (sym s.0) c
+said_cause output goal written took es c (inr s) = subst (λ (x : Took). RowCause x es) (sym s.0) (inl tt)
+
+pub knock_cause : (s : Setting) (call : Call) (answer : Answer) (r : Reply) → AfterKnock s answer r → RowCause r.took (one call answer)
+knock_cause s call Let_in r a = reply_cause _ r _ tt a
+knock_cause s call (Refused fault) r a = reply_cause _ r _ (inr (call, fault, refl, refl)) a
+knock_cause s call (Queued slots) r a = absurd a
+knock_cause s call Busy r a = absurd a
+knock_cause s call (Begun number) r a = absurd a
+knock_cause s call (Offered number k) r a = absurd a
+knock_cause s call Nothing r a = absurd a
+knock_cause s call (Came bytes) r a = absurd a
+knock_cause s call Settled r a = absurd a
+knock_cause s call (Filed answer) r a = absurd a
+knock_cause s call More r a = absurd a
+knock_cause s call Whole_now r a = absurd a
+knock_cause s call (Acted number) r a = absurd a
+knock_cause s call (Given number) r a = absurd a
+knock_cause s call (Held number) r a = absurd a
+
+-- the own turn ends a session at Finished alone
+abbrev pub Finished_alone : Gave → Type 0
+Finished_alone (G.Ended end) = end ≡ E.Finished
+Finished_alone gave = Unit {0}
+
+outcome_finishes : (held : Option Part) (t : Talk) (v : Verdict) → TurnRow held t [] v → Finished_alone (outcome_gave v.outcome)
+outcome_finishes held t v (Finishes is e a) = subst (λ (x : Verdict). Finished_alone (outcome_gave x.outcome)) (sym a) refl
+outcome_finishes held t v (Rests is own e a) = subst (λ (x : Verdict). Finished_alone (outcome_gave x.outcome)) (sym a) tt
+outcome_finishes held t v (Says_end own is e a) = subst (λ (x : Verdict). Finished_alone (outcome_gave x.outcome)) (sym a) tt
+outcome_finishes held t v (Waits_for_end own is e a) = subst (λ (x : Verdict). Finished_alone (outcome_gave x.outcome)) (sym a) tt
+
+pub turn_finishes : (stage : Stage) (t : Turn) → GiveRow stage t → Finished_alone t.gave
+turn_finishes (Talks talk held) t row = subst (λ (x : Turn). Finished_alone x.gave) (sym row.is) (outcome_finishes held talk row.verdict row.row)
+turn_finishes Awaits_address t row = subst (λ (x : Turn). Finished_alone x.gave) (sym row) tt
+turn_finishes (Awaits_password peers) t row = subst (λ (x : Turn). Finished_alone x.gave) (sym row) tt
+
+-- Counts.
+
+pub rose_on : (a b c : ℕ) → Rose a b → Stays_or_rose b c → Rose a c
+rose_on a b c r (inl e) = omega (arith, r, e)
+rose_on a b c r (inr s) = omega (arith, r, s)
+
+stays_on : (a b c : ℕ) → Stays_or_rose a b → Stays_or_rose b c → Stays_or_rose a c
+stays_on a b c (inl e) (inl f) = inl (f ∙ e)
+stays_on a b c (inl e) (inr f) = inr (subst (λ x. Rose x c) e f)
+stays_on a b c (inr e) next = inr (rose_on a b c e next)
+
+broke_on : (a b : Counts) (now : ℕ) (count : ℕ) → Stays_or_rose b.faults now → (a.broken ≡ Some count) ⊎ Rose a.faults b.faults → (a.broken ≡ Some count) ⊎ Rose a.faults now
+broke_on a b now count later (inl e) = inl e
+broke_on a b now count later (inr r) = inr (rose_on a.faults b.faults now r later)
+
+-- from counts that came from those before
+pub rose_from : (a b c : ℕ) → Stays_or_rose a b → Rose b c → Rose a c
+rose_from a b c (inl e) r = subst (λ x. Rose x c) e r
+rose_from a b c (inr s) r = rose_on a b c s (inr r)
+
+pub since_same : (a : Counts) → Since a a
+since_same a = record { faults = inl refl; fulls = inl refl; broke = λ count e. inl e }
+
+since_is : (a b c : Counts) → Since a b → c ≡ b → Since a c
+since_is a b c s e = subst (λ x. Since a x) (sym e) s
+
+pub since_on : (a b c : Counts) (answer : Answer) → Since a b → Caused b answer c → Since a c
+since_on a b c (Refused (Disk count)) s (inl same) = since_is a b c s same.1
+since_on a b c (Refused (Disk count)) s (inr broke) = subst (λ x. Since a x) (sym broke.2)
+    (record { faults = inr (rose_from a.faults b.faults count s.faults broke.1); fulls = s.fulls; broke = λ n e. inr (rose_from a.faults b.faults count s.faults broke.1) })
+since_on a b c (Refused (Read count)) s read = subst (λ x. Since a x) (sym read.1)
+    (record { faults = inr (rose_from a.faults b.faults count s.faults read.0); fulls = s.fulls; broke = λ n e. broke_on a b count n (inr read.0) (s.broke n e) })
+since_on a b c (Refused Full) s full = subst (λ x. Since a x) (sym full.1)
+    (record { faults = s.faults; fulls = inr (rose_from a.fulls b.fulls c.fulls s.fulls full.0); broke = s.broke })
+since_on a b c (Refused No_memory) s e = since_is a b c s e
+since_on a b c (Queued slots) s e = since_is a b c s e
+since_on a b c Let_in s e = since_is a b c s e
+since_on a b c Busy s e = since_is a b c s e
+since_on a b c (Begun number) s e = since_is a b c s e
+since_on a b c (Offered number key) s e = since_is a b c s e
+since_on a b c Nothing s e = since_is a b c s e
+since_on a b c (Came bytes) s e = since_is a b c s e
+since_on a b c Settled s e = since_is a b c s e
+since_on a b c (Filed answer) s e = since_is a b c s e
+since_on a b c More s e = since_is a b c s e
+since_on a b c Whole_now s e = since_is a b c s e
+since_on a b c (Acted number) s e = since_is a b c s e
+since_on a b c (Given number) s e = since_is a b c s e
+since_on a b c (Held number) s e = since_is a b c s e
+
+-- a call of a desk that is alone
+pub caused_alone : (a b : DeskState) (call : Call) (answer : Answer) → Calls true a call answer b → Caused (counts_of a.knows) answer (counts_of b.knows)
+caused_alone a b call answer c = subst (λ k. Caused (counts_of k) answer (counts_of b.knows)) c.drift c.caused
+
+pub since_chain : (before : Counts) (a b : DeskState) (es : List Event) → Since before (counts_of a.knows) → Chain true a es b → Since before (counts_of b.knows)
+since_chain before a b [] s c = subst (λ (x : DeskState). Since before (counts_of x.knows)) (sym c) s
+since_chain before a b (e ∷ es) s (mid, made, rest) = since_chain before mid b es (since_on before (counts_of a.knows) (counts_of mid.knows) e.answer s (caused_alone a mid e.call e.answer made)) rest
+
+-- a refusal, by its count
+pub fault_cause : (a b c : Counts) (fault : Fault) → Since a b → Caused b (Refused fault) c → DeskCause (fault_end fault) a c
+fault_cause a b c (Disk count) s (inl same) = broke_on a b c.faults count (inl (ap (λ (x : Counts). x.faults) same.1)) (s.broke count same.0)
+fault_cause a b c (Disk count) s (inr broke) = inr (rose_from a.faults b.faults c.faults s.faults (subst (λ x. Rose b.faults x) (sym (ap (λ (x : Counts). x.faults) broke.2)) broke.1))
+fault_cause a b c (Read count) s read = inr (rose_from a.faults b.faults c.faults s.faults (subst (λ x. Rose b.faults x) (sym (ap (λ (x : Counts). x.faults) read.1)) read.0))
+fault_cause a b c Full s full = rose_from a.fulls b.fulls c.fulls s.fulls full.0
+fault_cause a b c No_memory s e = tt
+
+plain_desk : (end : End) (a c : Counts) → Plain_end end → DeskCause end a c
+plain_desk E.Finished a c p = tt
+plain_desk (E.Broke cause n) a c p = tt
+plain_desk E.NoMemory a c p = tt
+plain_desk E.Dropped a c p = absurd p
+plain_desk E.LineFault a c p = absurd p
+plain_desk (E.DiskFault count) a c p = absurd p
+plain_desk E.LedgerFull a c p = absurd p
+plain_desk E.Quiet a c p = absurd p
+plain_desk E.Endless a c p = absurd p
+
+one_caused : (a b : DeskState) (es : List Event) (call : Call) (answer : Answer) → es ≡ one call answer → Chain true a es b → Caused (counts_of a.knows) answer (counts_of b.knows)
+one_caused a b es call answer e c =
+    let x = subst (λ (l : List Event). Chain true a l b) e c in
+    subst (λ (d : DeskState). Caused (counts_of a.knows) answer (counts_of d.knows)) (sym x.2) (caused_alone a x.0 call answer x.1)
+
+pub row_desk : (before : Counts) (a b : DeskState) (es : List Event) (end : End) → Since before (counts_of a.knows) → Chain true a es b → RowCause (T.Ended end) es → DeskCause end before (counts_of b.knows)
+row_desk before a b es end s c (inl p) = plain_desk end before (counts_of b.knows) p
+row_desk before a b es end s c (inr r) = subst (λ x. DeskCause x before (counts_of b.knows)) (sym r.3) (fault_cause before (counts_of a.knows) (counts_of b.knows) r.1 s (one_caused a b es r.0 (Refused r.1) r.2 c))

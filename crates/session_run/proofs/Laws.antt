@@ -1,0 +1,275 @@
+-- What holds of every session, step by step.
+use Rattle.std.proofs.Common.{◌≡◌, ◌⊎◌, ◌∙◌, ℕ, ◌+◌, ◌-◌, ◌^◌, ◌≤◌, min, max, Bool, true, false, List, [], ◌∷◌, ◌++◌, length, Option, Some, None, refl, sym, ap, subst, inl, inr, arith, append_assoc}
+use Rattle.std.proofs.lemmas.List.{append-nil}
+use Rattle.node_model.specs.Calls.{Event, one, Counts, counts_of, DeskState, Calls, Chain, Knock_call, Leave_call}
+use Rattle.node_model.specs.declared.words.Role.TheVariants.{Answers}
+use Rattle.session_core.specs.declared.ending.End.{End}
+use Rattle.session_core.specs.declared.ending.End.TheVariants as E
+use Rattle.session_core.specs.declared.ending.Took.{Took}
+use Rattle.session_core.specs.declared.ending.Took.TheVariants as T
+use Rattle.session_core.specs.declared.ending.Gave.{Gave}
+use Rattle.session_core.specs.declared.ending.Gave.TheVariants as G
+use Rattle.binkp_link.specs.declared.link.ReadAnswer.{ReadAnswer}
+use Rattle.binkp_link.specs.declared.link.ReadAnswer.TheVariants as R
+use Rattle.binkp_link.specs.declared.link.WriteAnswer.{WriteAnswer}
+use Rattle.binkp_link.specs.declared.link.WriteAnswer.TheVariants as W
+use Rattle.std.specs.Prelude.{nat_le, if◌then◌else◌}
+use Rattle.binkp_link.specs.Lines.{LineState, Moves, came, went}
+use Rattle.session_core.specs.Sessions.{Setting, frame_number}
+use Rattle.session_run.specs.Machine.{World, Phase, Starting, Taking, Writing, Reading, Over, Draining, Closed, MayGiveUp, Step, greets, takes_frame, makes_turn, writes, passes_write, reads, gives_up, leaves, drains, closes, Reach, here, next, opening, after_took, after_gave, after_leave, after_read, after_write, after_drain}
+use Rattle.session_run.specs.Laws.{Facts, joined, EndCount, EndCountAt, LineCause, LineCauseAt, WholeAt, DeskCause, DeskCauseAt, Since}
+use Rattle.node_model.proofs.RisingCounts.{chain_joins}
+use Rattle.session_run.proofs.Causes.{RowCause, row_cause, said_cause, knock_cause, Finished_alone, turn_finishes, since_on, since_same, since_chain, caused_alone, row_desk}
+use Rattle.session_run.proofs.LineLaws.{joined-last, moves_on, moves_not, took_ends, took_line, read_ends, read_faults, read_line, write_ends, write_faults, write_line, leave_ends, leave_line, leave_desk, drain_ends, drain_line, drain_whole, close_whole, rest_of, sent_on}
+
+took_desk : (alone : Bool) (before : Counts) (a b : DeskState) (es : List Event) (took : Took) → (alone ≡ true → Since before (counts_of a.knows)) → Chain alone a es b → RowCause took es → alone ≡ true → DeskCauseAt (after_took took) before (counts_of b.knows)
+took_desk alone before a b es T.More s chain cause is = tt
+took_desk alone before a b es (T.Ended end) s chain cause is = row_desk before a b es end (s is) (subst (λ x. Chain x a es b) is chain) cause
+
+turn_ends : (gave : Gave) (before now : ℕ) → Finished_alone gave → now ≡ before → EndCountAt (after_gave gave) before now
+turn_ends G.Sent before now f e = e
+turn_ends G.Waits before now f e = e
+turn_ends (G.Ended end) before now f e = subst (λ x. EndCount x before now) (sym f) e
+
+turn_line : (gave : Gave) (before now calm : ℕ) → Finished_alone gave → LineCauseAt (after_gave gave) before now calm
+turn_line G.Sent before now calm f = tt
+turn_line G.Waits before now calm f = tt
+turn_line (G.Ended end) before now calm f = subst (λ x. LineCause x before now calm) (sym f) tt
+
+turn_desk : (gave : Gave) (before now : Counts) → Finished_alone gave → DeskCauseAt (after_gave gave) before now
+turn_desk G.Sent before now f = tt
+turn_desk G.Waits before now f = tt
+turn_desk (G.Ended end) before now f = subst (λ x. DeskCause x before now) (sym f) tt
+
+took_whole : (took : Took) (before : ℕ) (line : LineState) (output sent : List ℕ) → WholeAt (after_took took) before line output sent
+took_whole T.More before line output sent = tt
+took_whole (T.Ended end) before line output sent = tt
+
+gave_whole : (gave : Gave) (before : ℕ) (line : LineState) (output sent : List ℕ) → WholeAt (after_gave gave) before line output sent
+gave_whole G.Sent before line output sent = tt
+gave_whole G.Waits before line output sent = tt
+gave_whole (G.Ended end) before line output sent = tt
+
+early : (p : Phase) → MayGiveUp p → (before now : ℕ) → EndCountAt p before now → now ≡ before
+early Starting m before now e = e
+early Taking m before now e = e
+early (Reading waits) m before now e = e
+early (Writing waits) m before now e = absurd m
+early (Over end) m before now e = absurd m
+early (Draining end) m before now e = absurd m
+early (Closed end) m before now e = absurd m
+
+-- phases that a read and a write lead to
+abbrev pub Is_on : Phase → Type 0
+Is_on (Closed end) = ⊥
+Is_on (Draining end) = ⊥
+Is_on (Over E.LedgerFull) = ⊥
+Is_on (Over (E.DiskFault count)) = ⊥
+Is_on phase = Unit {0}
+
+cond_on : (b : Bool) (p q : Phase) → Is_on p → Is_on q → Is_on (if b then p else q)
+cond_on true p q x y = x
+cond_on false p q x y = y
+
+read_on : (answer : ReadAnswer) (limit bytes calm : ℕ) → Is_on (after_read answer limit bytes calm)
+read_on (R.Came n) limit bytes calm = cond_on (nat_le limit bytes) (Over E.Endless) Taking tt tt
+read_on R.End limit bytes calm = tt
+read_on R.NotYet limit bytes calm = tt
+read_on R.Quiet limit bytes calm = cond_on (nat_le 60 calm) (Over E.Quiet) Taking tt tt
+read_on R.Failed limit bytes calm = tt
+
+write_on : (answer : WriteAnswer) (limit bytes calm : ℕ) (waits : Bool) → Is_on (after_write answer limit bytes calm (Reading waits))
+write_on (W.Wrote n) limit bytes calm waits = cond_on (nat_le limit bytes) (Over E.Endless) (Reading waits) tt tt
+write_on W.Quiet limit bytes calm waits = cond_on (nat_le 60 calm) (Over E.Quiet) (Reading waits) tt tt
+write_on W.Failed limit bytes calm waits = tt
+
+on_whole : (p : Phase) (before : ℕ) (line : LineState) (output sent : List ℕ) → Is_on p → WholeAt p before line output sent
+on_whole Starting before line output sent i = tt
+on_whole Taking before line output sent i = tt
+on_whole (Writing waits) before line output sent i = tt
+on_whole (Reading waits) before line output sent i = tt
+on_whole (Over end) before line output sent i = tt
+on_whole (Draining end) before line output sent i = tt
+on_whole (Closed end) before line output sent i = absurd i
+
+on_desk : (p : Phase) (before now : Counts) → Is_on p → DeskCauseAt p before now
+on_desk Starting before now i = tt
+on_desk Taking before now i = tt
+on_desk (Writing waits) before now i = tt
+on_desk (Reading waits) before now i = tt
+on_desk (Over E.Finished) before now i = tt
+on_desk (Over (E.Broke cause n)) before now i = tt
+on_desk (Over E.Dropped) before now i = tt
+on_desk (Over E.LineFault) before now i = tt
+on_desk (Over (E.DiskFault count)) before now i = absurd i
+on_desk (Over E.LedgerFull) before now i = absurd i
+on_desk (Over E.Quiet) before now i = tt
+on_desk (Over E.Endless) before now i = tt
+on_desk (Over E.NoMemory) before now i = tt
+on_desk (Draining end) before now i = absurd i
+on_desk (Closed end) before now i = absurd i
+
+drain_desk : (answer : WriteAnswer) (end : End) (calm : ℕ) (before now : Counts) → DeskCause end before now → DeskCauseAt (after_drain answer calm end) before now
+drain_desk (W.Wrote n) end calm before now d = d
+drain_desk W.Quiet end calm before now d = go (nat_le 60 calm)
+  where
+    go : (b : Bool) → DeskCauseAt (if b then Closed end else Draining end) before now
+    go true = d
+    go false = d
+drain_desk W.Failed end calm before now d = d
+
+chain_is : (alone : Bool) (a b : DeskState) (es : List Event) → alone ≡ true → Chain alone a es b → Chain true a es b
+chain_is alone a b es is c = subst (λ x. Chain x a es b) is c
+
+since_after : (alone : Bool) (before : Counts) (a b : DeskState) (es : List Event) → (alone ≡ true → Since before (counts_of a.knows)) → Chain alone a es b → alone ≡ true → Since before (counts_of b.knows)
+since_after alone before a b es s chain is = since_chain before a b es (s is) (chain_is alone a b es is chain)
+
+pub keeps : (alone : Bool) (line : LineState) (desk : DeskState) (w v : World) → Facts alone line desk w → Step alone w v → Facts alone line desk v
+keeps alone line desk w v f (greets s) =
+    let chain : Chain alone w.desk (one (Knock_call Answers) s.answer) s.desk = (s.desk, s.call, refl) in
+    let cause = said_cause s.reply.output s.reply.took s.output s.took _ (knock_cause w.setting (Knock_call Answers) s.answer s.reply s.follows) s.said in
+    subst (Facts alone line desk) (sym s.is) (record {
+      pieces = f.pieces;
+      moves = f.moves;
+      chain = chain_joins alone desk w.events w.desk _ s.desk f.chain chain;
+      left = f.left ++ s.output;
+      front = ap (λ x. x ++ s.output) f.front ∙ append_assoc w.sent f.left s.output;
+      whole = took_whole s.took _ _ _ _;
+      faults = f.faults;
+      ends = took_ends s.took _ line.ends w.line.ends cause (subst (λ p. EndCountAt p line.ends w.line.ends) s.phase f.ends);
+      line_cause = took_line s.took _ _ _ _ cause;
+      counts = since_after alone _ w.desk s.desk (one (Knock_call Answers) s.answer) f.counts chain;
+      desk_cause = took_desk alone _ w.desk s.desk (one (Knock_call Answers) s.answer) s.took f.counts chain cause;
+    })
+keeps alone line desk w v f (takes_frame s) =
+    let cause = said_cause s.reply.output s.reply.took s.output s.took s.events (row_cause w.setting _ w.stage s.frame s.events s.reply s.row) s.said in
+    subst (Facts alone line desk) (sym s.is) (record {
+      pieces = f.pieces;
+      moves = f.moves;
+      chain = chain_joins alone desk w.events w.desk s.events s.desk f.chain s.chain;
+      left = f.left ++ s.output;
+      front = ap (λ x. x ++ s.output) f.front ∙ append_assoc w.sent f.left s.output;
+      whole = took_whole s.took _ _ _ _;
+      faults = f.faults;
+      ends = took_ends s.took s.events line.ends w.line.ends cause (subst (λ p. EndCountAt p line.ends w.line.ends) s.phase f.ends);
+      line_cause = took_line s.took s.events _ _ _ cause;
+      counts = since_after alone _ w.desk s.desk s.events f.counts s.chain;
+      desk_cause = took_desk alone _ w.desk s.desk s.events s.took f.counts s.chain cause;
+    })
+keeps alone line desk w v f (makes_turn s) =
+    let alone_is = turn_finishes w.stage s.turn s.row in
+    subst (Facts alone line desk) (sym s.is) (record {
+      pieces = f.pieces;
+      moves = f.moves;
+      chain = f.chain;
+      left = f.left ++ s.turn.output;
+      front = ap (λ x. x ++ s.turn.output) f.front ∙ append_assoc w.sent f.left s.turn.output;
+      whole = gave_whole s.turn.gave _ _ _ _;
+      faults = f.faults;
+      ends = turn_ends s.turn.gave line.ends w.line.ends alone_is (subst (λ p. EndCountAt p line.ends w.line.ends) s.phase f.ends);
+      line_cause = turn_line s.turn.gave _ _ _ alone_is;
+      counts = f.counts;
+      desk_cause = λ is. turn_desk s.turn.gave _ _ alone_is;
+    })
+keeps alone line desk w v f (writes s) = subst (Facts alone line desk) (sym s.is) (record {
+  pieces = f.pieces;
+  moves = subst (λ x. Moves x (w.sent ++ went s.answer s.left) line.bytes s.line.bytes) (append-nil w.taken) (moves_on w.taken [] w.sent (went s.answer s.left) line.bytes w.line.bytes s.line.bytes f.moves s.step.moves);
+  chain = f.chain;
+  left = rest_of s.answer s.left;
+  front = sent_on w.output w.sent s.left s.answer s.unsent;
+  whole = on_whole _ _ _ _ _ (write_on s.answer w.setting.limit _ s.line.calm s.waits);
+  faults = write_faults w.line s.line s.answer s.left line.faults s.step f.faults;
+  ends = write_ends w.line s.line s.answer s.left w.setting.limit _ line.ends s.waits s.step (subst (λ p. EndCountAt p line.ends w.line.ends) s.phase f.ends);
+  line_cause = write_line w.line s.line s.answer s.left w.setting.limit _ line.faults s.waits s.step f.faults;
+  counts = f.counts;
+  desk_cause = λ is. on_desk _ _ _ (write_on s.answer w.setting.limit _ s.line.calm s.waits);
+})
+keeps alone line desk w v f (passes_write s) = subst (Facts alone line desk) (sym s.is) (record {
+  pieces = f.pieces;
+  moves = f.moves;
+  chain = f.chain;
+  left = f.left;
+  front = f.front;
+  whole = tt;
+  faults = f.faults;
+  ends = subst (λ p. EndCountAt p line.ends w.line.ends) s.phase f.ends;
+  line_cause = tt;
+  counts = f.counts;
+  desk_cause = λ is. tt;
+})
+keeps alone line desk w v f (reads s) = subst (Facts alone line desk) (sym s.is) (record {
+  pieces = joined-last w.pieces (came s.answer s.buffer) ∙ ap (λ x. x ++ came s.answer s.buffer) f.pieces;
+  moves = subst (λ x. Moves (w.taken ++ came s.answer s.buffer) x line.bytes s.line.bytes) (append-nil w.sent) (moves_on w.taken (came s.answer s.buffer) w.sent [] line.bytes w.line.bytes s.line.bytes f.moves s.step.moves);
+  chain = f.chain;
+  left = f.left;
+  front = f.front;
+  whole = on_whole _ _ _ _ _ (read_on s.answer w.setting.limit _ s.line.calm);
+  faults = read_faults _ w.line s.line s.answer s.buffer line.faults s.step f.faults;
+  ends = read_ends _ w.line s.line s.answer s.buffer w.setting.limit _ line.ends s.step (subst (λ p. EndCountAt p line.ends w.line.ends) s.phase f.ends);
+  line_cause = read_line _ w.line s.line s.answer s.buffer w.setting.limit _ line.faults s.step f.faults;
+  counts = f.counts;
+  desk_cause = λ is. on_desk _ _ _ (read_on s.answer w.setting.limit _ s.line.calm);
+})
+keeps alone line desk w v f (gives_up s) = subst (Facts alone line desk) (sym s.is) (record {
+  pieces = f.pieces;
+  moves = f.moves;
+  chain = f.chain;
+  left = f.left;
+  front = f.front;
+  whole = tt;
+  faults = f.faults;
+  ends = early w.phase s.phase line.ends w.line.ends f.ends;
+  line_cause = tt;
+  counts = f.counts;
+  desk_cause = λ is. tt;
+})
+keeps alone line desk w v f (leaves s) =
+    let chain : Chain alone w.desk (one Leave_call s.answer) s.desk = (s.desk, s.call, refl) in
+    subst (Facts alone line desk) (sym s.is) (record {
+      pieces = f.pieces;
+      moves = f.moves;
+      chain = chain_joins alone desk w.events w.desk _ s.desk f.chain chain;
+      left = f.left;
+      front = f.front;
+      whole = tt;
+      faults = f.faults;
+      ends = leave_ends s.end s.answer line.ends w.line.ends (subst (λ p. EndCountAt p line.ends w.line.ends) s.phase f.ends);
+      line_cause = leave_line s.end s.answer line.faults w.line.faults w.line.calm (subst (λ p. LineCauseAt p line.faults w.line.faults w.line.calm) s.phase f.line_cause);
+      counts = since_after alone _ w.desk s.desk (one Leave_call s.answer) f.counts chain;
+      desk_cause = λ is. leave_desk s.end s.answer (counts_of desk.knows) (counts_of w.desk.knows) (counts_of s.desk.knows) (f.counts is) (caused_alone w.desk s.desk Leave_call s.answer (subst (λ x. Calls x w.desk Leave_call s.answer s.desk) is s.call))
+          (subst (λ p. DeskCauseAt p (counts_of desk.knows) (counts_of w.desk.knows)) s.phase (f.desk_cause is));
+    })
+keeps alone line desk w v f (drains s) = subst (Facts alone line desk) (sym s.is) (record {
+  pieces = f.pieces;
+  moves = subst (λ x. Moves x (w.sent ++ went s.answer s.left) line.bytes s.line.bytes) (append-nil w.taken) (moves_on w.taken [] w.sent (went s.answer s.left) line.bytes w.line.bytes s.line.bytes f.moves s.step.moves);
+  chain = f.chain;
+  left = rest_of s.answer s.left;
+  front = sent_on w.output w.sent s.left s.answer s.unsent;
+  whole = drain_whole w.line s.line s.answer s.left s.end line.faults _ _ s.step f.faults;
+  faults = write_faults w.line s.line s.answer s.left line.faults s.step f.faults;
+  ends = drain_ends w.line s.line s.answer s.left s.end line.ends s.step (subst (λ p. EndCountAt p line.ends w.line.ends) s.phase f.ends);
+  line_cause = drain_line s.answer s.end _ _ _ s.speaks;
+  counts = f.counts;
+  desk_cause = λ is. drain_desk s.answer s.end s.line.calm _ _ (subst (λ p. DeskCauseAt p (counts_of desk.knows) (counts_of w.desk.knows)) s.phase (f.desk_cause is));
+})
+keeps alone line desk w v f (closes s) = subst (Facts alone line desk) (sym s.is) (record {
+  pieces = f.pieces;
+  moves = f.moves;
+  chain = f.chain;
+  left = f.left;
+  front = f.front;
+  whole = close_whole s.end line.faults w.line w.output w.sent (subst (λ p. LineCauseAt p line.faults w.line.faults w.line.calm) s.phase f.line_cause) s.done;
+  faults = f.faults;
+  ends = subst (λ p. EndCountAt p line.ends w.line.ends) s.phase f.ends;
+  line_cause = subst (λ p. LineCauseAt p line.faults w.line.faults w.line.calm) s.phase f.line_cause;
+  counts = f.counts;
+  desk_cause = λ is. subst (λ p. DeskCauseAt p (counts_of desk.knows) (counts_of w.desk.knows)) s.phase (f.desk_cause is);
+})
+
+pub facts_on : (alone : Bool) (line : LineState) (desk : DeskState) (w v : World) → Facts alone line desk w → Reach alone w v → Facts alone line desk v
+facts_on alone line desk w v f here = f
+facts_on alone line desk w v f (next {u} r s) = keeps alone line desk u v (facts_on alone line desk w u f r) s
+
+pub facts_open : (alone : Bool) (s : Setting) (line : LineState) (desk : DeskState) → Facts alone line desk (opening s line desk)
+facts_open alone s line desk =
+    record { pieces = refl; moves = moves_not line.bytes; chain = refl; left = []; front = refl; whole = tt; faults = omega arith; ends = refl; line_cause = tt; counts = λ is. since_same (counts_of desk.knows); desk_cause = λ is. tt }

@@ -1,0 +1,6 @@
+pub mod Runs
+pub mod Room
+pub mod Left
+pub mod Causes
+pub mod LineLaws
+pub mod Laws

@@ -1,0 +1,281 @@
+-- What reads, writes and the close leave of the causes of an end.
+use Rattle.std.proofs.Common.{◌≡◌, ◌⊎◌, ◌∙◌, ℕ, ◌+◌, ◌-◌, ◌^◌, ◌<◌, ◌≤◌, max, min, Bool, true, false, List, [], ◌∷◌, ◌++◌, length, Option, Some, None, refl, sym, ap, subst, inl, inr, arith, append_assoc, drop}
+use Rattle.std.specs.Prelude.{nat_le, if◌then◌else◌}
+use Rattle.std.proofs.lemmas.List.{append-nil, take-append-drop}
+use Rattle.std.proofs.lemmas.Bool.{leb-true}
+use Rattle.ftn_addr.specs.Counts.{Rose, risen}
+use Rattle.node_model.specs.Calls.{Event, Fault, Disk, Read, Full, No_memory, Answer, Queued, Let_in, Busy, Begun, Offered, Nothing, Came, Settled, Filed, More, Whole_now, Acted, Given, Held, Refused, Counts, Caused}
+use Rattle.binkp_link.specs.declared.link.ReadAnswer.{ReadAnswer}
+use Rattle.binkp_link.specs.declared.link.ReadAnswer.TheVariants as R
+use Rattle.binkp_link.specs.declared.link.WriteAnswer.{WriteAnswer}
+use Rattle.binkp_link.specs.declared.link.WriteAnswer.TheVariants as W
+use Rattle.session_core.specs.declared.ending.End.{End}
+use Rattle.session_core.specs.declared.ending.End.TheVariants as E
+use Rattle.session_core.specs.declared.ending.Took.{Took}
+use Rattle.session_core.specs.declared.ending.Took.TheVariants as T
+use Rattle.binkp_link.specs.Lines.{LineBytes, LineState, Moves, IsRead, IsWrite, came, went}
+use Rattle.session_core.specs.Sessions.{fault_end}
+use Rattle.session_run.specs.Machine.{Phase, Starting, Taking, Writing, Reading, Over, Draining, Closed, after_took, after_read, after_write, after_drain, after_leave, is_mute}
+use Rattle.session_run.specs.Laws.{joined, EndCount, EndCountAt, LineCause, LineCauseAt, WholeAt, DeskCause, Since, Stays_or_rose}
+use Rattle.session_run.proofs.Causes.{Plain_end, Refused_end, RowCause, since_on, since_same, fault_cause, rose_on, rose_from}
+
+pub joined-last : (pieces : List (List ℕ)) (piece : List ℕ) → joined (pieces ++ piece ∷ []) ≡ joined pieces ++ piece
+joined-last [] piece = append-nil piece
+joined-last (p ∷ pieces) piece = ap (λ x. p ++ x) (joined-last pieces piece) ∙ sym (append_assoc p (joined pieces) piece)
+
+pub moves_on : (t t' s s' : List ℕ) (a b c : Option LineBytes) → Moves t s a b → Moves t' s' b c → Moves (t ++ t') (s ++ s') a c
+moves_on t t' s s' None None None m n = tt
+moves_on t t' s s' (Some a) (Some b) (Some c) m n = (
+  m.0 ∙ ap (λ x. t ++ x) n.0 ∙ sym (append_assoc t t' c.coming),
+  n.1 ∙ ap (λ x. x ++ t') m.1 ∙ append_assoc a.taken t t',
+  n.2 ∙ ap (λ x. x ++ s') m.2 ∙ append_assoc a.sent s s',
+)
+moves_on t t' s s' None (Some b) c m n = absurd m
+moves_on t t' s s' (Some a) None c m n = absurd m
+moves_on t t' s s' None None (Some c) m n = absurd n
+moves_on t t' s s' (Some a) (Some b) None m n = absurd n
+
+pub moves_not : (a : Option LineBytes) → Moves [] [] a a
+moves_not None = tt
+moves_not (Some a) = (refl, sym (append-nil a.taken), sym (append-nil a.sent))
+
+-- an end that a row gives comes from no count of the line
+row_ends : (end : End) (es : List Event) (before now : ℕ) → Plain_end end ⊎ Refused_end end es → now ≡ before → EndCount end before now
+row_ends end es before now (inr r) e = subst (λ x. EndCount x before now) (sym r.3) (by_fault r.1)
+  where
+    by_fault : (fault : Fault) → EndCount (fault_end fault) before now
+    by_fault (Disk count) = inl e
+    by_fault (Read count) = inl e
+    by_fault Full = e
+    by_fault No_memory = e
+row_ends E.Finished es before now (inl p) e = e
+row_ends (E.Broke cause n) es before now (inl p) e = e
+row_ends E.NoMemory es before now (inl p) e = e
+row_ends E.Dropped es before now (inl p) e = absurd p
+row_ends E.LineFault es before now (inl p) e = absurd p
+row_ends (E.DiskFault count) es before now (inl p) e = absurd p
+row_ends E.LedgerFull es before now (inl p) e = absurd p
+row_ends E.Quiet es before now (inl p) e = absurd p
+row_ends E.Endless es before now (inl p) e = absurd p
+
+pub took_ends : (took : Took) (es : List Event) (before now : ℕ) → RowCause took es → now ≡ before → EndCountAt (after_took took) before now
+took_ends T.More es before now c e = e
+took_ends (T.Ended end) es before now c e = row_ends end es before now c e
+
+row_line : (end : End) (es : List Event) (before now calm : ℕ) → Plain_end end ⊎ Refused_end end es → LineCause end before now calm
+row_line end es before now calm (inr r) = subst (λ x. LineCause x before now calm) (sym r.3) (by_fault r.1)
+  where
+    by_fault : (fault : Fault) → LineCause (fault_end fault) before now calm
+    by_fault (Disk count) = tt
+    by_fault (Read count) = tt
+    by_fault Full = tt
+    by_fault No_memory = tt
+row_line E.Finished es before now calm (inl p) = tt
+row_line (E.Broke cause n) es before now calm (inl p) = tt
+row_line E.NoMemory es before now calm (inl p) = tt
+row_line E.Dropped es before now calm (inl p) = tt
+row_line E.LineFault es before now calm (inl p) = absurd p
+row_line (E.DiskFault count) es before now calm (inl p) = tt
+row_line E.LedgerFull es before now calm (inl p) = tt
+row_line E.Quiet es before now calm (inl p) = absurd p
+row_line E.Endless es before now calm (inl p) = tt
+
+pub took_line : (took : Took) (es : List Event) (before now calm : ℕ) → RowCause took es → LineCauseAt (after_took took) before now calm
+took_line T.More es before now calm c = tt
+took_line (T.Ended end) es before now calm c = row_line end es before now calm c
+
+cond_ends : (b : Bool) (end : End) (goal : Phase) (before now : ℕ) → EndCountAt (Over end) before now → EndCountAt goal before now → EndCountAt (if b then Over end else goal) before now
+cond_ends true end goal before now x y = x
+cond_ends false end goal before now x y = y
+
+pub read_ends : (wait : Bool) (old new : LineState) (answer : ReadAnswer) (buffer : List ℕ) (limit bytes before : ℕ) → IsRead wait old answer buffer new → old.ends ≡ before → EndCountAt (after_read answer limit bytes new.calm) before new.ends
+read_ends wait old new (R.Came n) buffer limit bytes before is e = cond_ends (nat_le limit bytes) E.Endless Taking before new.ends (is.ends ∙ e) (is.ends ∙ e)
+read_ends wait old new R.End buffer limit bytes before is e = is.ends ∙ ap risen e
+read_ends wait old new R.NotYet buffer limit bytes before is e = is.ends ∙ e
+read_ends wait old new R.Quiet buffer limit bytes before is e = cond_ends (nat_le 60 new.calm) E.Quiet Taking before new.ends (is.ends ∙ e) (is.ends ∙ e)
+read_ends wait old new R.Failed buffer limit bytes before is e = is.ends ∙ e
+
+pub read_faults : (wait : Bool) (old new : LineState) (answer : ReadAnswer) (buffer : List ℕ) (before : ℕ) → IsRead wait old answer buffer new → before ≤ old.faults → before ≤ new.faults
+read_faults wait old new (R.Came n) buffer before is le = omega (arith, is.faults)
+read_faults wait old new R.End buffer before is le = omega (arith, is.faults)
+read_faults wait old new R.NotYet buffer before is le = omega (arith, is.faults)
+read_faults wait old new R.Quiet buffer before is le = omega (arith, is.faults)
+read_faults wait old new R.Failed buffer before is le = omega (arith, is.faults)
+
+pub write_faults : (old new : LineState) (answer : WriteAnswer) (bytes : List ℕ) (before : ℕ) → IsWrite old answer bytes new → before ≤ old.faults → before ≤ new.faults
+write_faults old new (W.Wrote n) bytes before is le = omega (arith, is.faults)
+write_faults old new W.Quiet bytes before is le = omega (arith, is.faults)
+write_faults old new W.Failed bytes before is le = omega (arith, is.faults)
+
+cond_line : (b : Bool) (end : End) (goal : Phase) (before now calm : ℕ) → (b ≡ true → LineCause end before now calm) → LineCauseAt goal before now calm → LineCauseAt (if b then Over end else goal) before now calm
+cond_line true end goal before now calm x y = x refl
+cond_line false end goal before now calm x y = y
+
+pub read_line : (wait : Bool) (old new : LineState) (answer : ReadAnswer) (buffer : List ℕ) (limit bytes before : ℕ) → IsRead wait old answer buffer new → before ≤ old.faults → LineCauseAt (after_read answer limit bytes new.calm) before new.faults new.calm
+read_line wait old new (R.Came n) buffer limit bytes before is le = cond_line (nat_le limit bytes) E.Endless Taking before new.faults new.calm (λ _. tt) tt
+read_line wait old new R.End buffer limit bytes before is le = tt
+read_line wait old new R.NotYet buffer limit bytes before is le = tt
+read_line wait old new R.Quiet buffer limit bytes before is le = cond_line (nat_le 60 new.calm) E.Quiet Taking before new.faults new.calm (λ t. leb-true 60 new.calm t) tt
+read_line wait old new R.Failed buffer limit bytes before is le = omega (arith, is.faults)
+
+pub write_ends : (old new : LineState) (answer : WriteAnswer) (left : List ℕ) (limit bytes before : ℕ) (waits : Bool) → IsWrite old answer left new → old.ends ≡ before → EndCountAt (after_write answer limit bytes new.calm (Reading waits)) before new.ends
+write_ends old new (W.Wrote n) left limit bytes before waits is e = cond_ends (nat_le limit bytes) E.Endless (Reading waits) before new.ends (is.ends ∙ e) (is.ends ∙ e)
+write_ends old new W.Quiet left limit bytes before waits is e = cond_ends (nat_le 60 new.calm) E.Quiet (Reading waits) before new.ends (is.ends ∙ e) (is.ends ∙ e)
+write_ends old new W.Failed left limit bytes before waits is e = is.ends ∙ e
+
+pub write_line : (old new : LineState) (answer : WriteAnswer) (left : List ℕ) (limit bytes before : ℕ) (waits : Bool) → IsWrite old answer left new → before ≤ old.faults → LineCauseAt (after_write answer limit bytes new.calm (Reading waits)) before new.faults new.calm
+write_line old new (W.Wrote n) left limit bytes before waits is le = cond_line (nat_le limit bytes) E.Endless (Reading waits) before new.faults new.calm (λ _. tt) tt
+write_line old new W.Quiet left limit bytes before waits is le = cond_line (nat_le 60 new.calm) E.Quiet (Reading waits) before new.faults new.calm (λ t. leb-true 60 new.calm t) tt
+write_line old new W.Failed left limit bytes before waits is le = omega (arith, is.faults)
+
+-- The desk is left.
+
+pub leave_ends : (end : End) (answer : Answer) (before now : ℕ) → EndCount end before now → EndCount (after_leave end answer) before now
+leave_ends end (Refused (Disk count)) before now e = turned end before now e
+  where
+    turned : (end : End) (before now : ℕ) → EndCount end before now → (now ≡ before) ⊎ (now ≡ risen before)
+    turned E.Dropped before now e = inr e
+    turned (E.DiskFault count) before now e = e
+    turned E.Finished before now e = inl e
+    turned (E.Broke cause n) before now e = inl e
+    turned E.LineFault before now e = inl e
+    turned E.LedgerFull before now e = inl e
+    turned E.Quiet before now e = inl e
+    turned E.Endless before now e = inl e
+    turned E.NoMemory before now e = inl e
+leave_ends end (Refused (Read count)) before now e = e
+leave_ends end (Refused Full) before now e = e
+leave_ends end (Refused No_memory) before now e = e
+leave_ends end (Queued slots) before now e = e
+leave_ends end Let_in before now e = e
+leave_ends end Busy before now e = e
+leave_ends end (Begun number) before now e = e
+leave_ends end (Offered number key) before now e = e
+leave_ends end Nothing before now e = e
+leave_ends end (Came bytes) before now e = e
+leave_ends end Settled before now e = e
+leave_ends end (Filed answer) before now e = e
+leave_ends end More before now e = e
+leave_ends end Whole_now before now e = e
+leave_ends end (Acted number) before now e = e
+leave_ends end (Given number) before now e = e
+leave_ends end (Held number) before now e = e
+
+pub leave_line : (end : End) (answer : Answer) (before now calm : ℕ) → LineCause end before now calm → LineCause (after_leave end answer) before now calm
+leave_line end (Refused (Disk count)) before now calm m = tt
+leave_line end (Refused (Read count)) before now calm m = m
+leave_line end (Refused Full) before now calm m = m
+leave_line end (Refused No_memory) before now calm m = m
+leave_line end (Queued slots) before now calm m = m
+leave_line end Let_in before now calm m = m
+leave_line end Busy before now calm m = m
+leave_line end (Begun number) before now calm m = m
+leave_line end (Offered number key) before now calm m = m
+leave_line end Nothing before now calm m = m
+leave_line end (Came bytes) before now calm m = m
+leave_line end Settled before now calm m = m
+leave_line end (Filed answer) before now calm m = m
+leave_line end More before now calm m = m
+leave_line end Whole_now before now calm m = m
+leave_line end (Acted number) before now calm m = m
+leave_line end (Given number) before now calm m = m
+leave_line end (Held number) before now calm m = m
+
+later_desk : (end : End) (a b c : Counts) → DeskCause end a b → Since b c → DeskCause end a c
+later_desk (E.DiskFault count) a b c (inl e) s = inl e
+later_desk (E.DiskFault count) a b c (inr r) s = inr (rose_on a.faults b.faults c.faults r s.faults)
+later_desk E.LedgerFull a b c r s = rose_on a.fulls b.fulls c.fulls r s.fulls
+later_desk E.Finished a b c d s = tt
+later_desk (E.Broke cause n) a b c d s = tt
+later_desk E.Dropped a b c d s = tt
+later_desk E.LineFault a b c d s = tt
+later_desk E.Quiet a b c d s = tt
+later_desk E.Endless a b c d s = tt
+later_desk E.NoMemory a b c d s = tt
+
+pub leave_desk : (end : End) (answer : Answer) (a b c : Counts) → Since a b → Caused b answer c → DeskCause end a b → DeskCause (after_leave end answer) a c
+leave_desk end (Refused (Disk count)) a b c s caused d = fault_cause a b c (Disk count) s caused
+leave_desk end (Refused (Read count)) a b c s caused d = later_desk end a b c d (since_on b b c (Refused (Read count)) (since_same b) caused)
+leave_desk end (Refused Full) a b c s caused d = later_desk end a b c d (since_on b b c (Refused Full) (since_same b) caused)
+leave_desk end (Refused No_memory) a b c s caused d = later_desk end a b c d (since_on b b c (Refused No_memory) (since_same b) caused)
+leave_desk end (Queued slots) a b c s caused d = later_desk end a b c d (since_on b b c (Queued slots) (since_same b) caused)
+leave_desk end Let_in a b c s caused d = later_desk end a b c d (since_on b b c Let_in (since_same b) caused)
+leave_desk end Busy a b c s caused d = later_desk end a b c d (since_on b b c Busy (since_same b) caused)
+leave_desk end (Begun number) a b c s caused d = later_desk end a b c d (since_on b b c (Begun number) (since_same b) caused)
+leave_desk end (Offered number key) a b c s caused d = later_desk end a b c d (since_on b b c (Offered number key) (since_same b) caused)
+leave_desk end Nothing a b c s caused d = later_desk end a b c d (since_on b b c Nothing (since_same b) caused)
+leave_desk end (Came bytes) a b c s caused d = later_desk end a b c d (since_on b b c (Came bytes) (since_same b) caused)
+leave_desk end Settled a b c s caused d = later_desk end a b c d (since_on b b c Settled (since_same b) caused)
+leave_desk end (Filed answer) a b c s caused d = later_desk end a b c d (since_on b b c (Filed answer) (since_same b) caused)
+leave_desk end More a b c s caused d = later_desk end a b c d (since_on b b c More (since_same b) caused)
+leave_desk end Whole_now a b c s caused d = later_desk end a b c d (since_on b b c Whole_now (since_same b) caused)
+leave_desk end (Acted number) a b c s caused d = later_desk end a b c d (since_on b b c (Acted number) (since_same b) caused)
+leave_desk end (Given number) a b c s caused d = later_desk end a b c d (since_on b b c (Given number) (since_same b) caused)
+leave_desk end (Held number) a b c s caused d = later_desk end a b c d (since_on b b c (Held number) (since_same b) caused)
+
+-- What is left is written.
+
+pub drain_ends : (old new : LineState) (answer : WriteAnswer) (left : List ℕ) (end : End) (before : ℕ) → IsWrite old answer left new → EndCount end before old.ends → EndCountAt (after_drain answer new.calm end) before new.ends
+drain_ends old new (W.Wrote n) left end before is e = subst (λ x. EndCount end before x) (sym is.ends) e
+drain_ends old new W.Quiet left end before is e = either_phase (nat_le 60 new.calm) (subst (λ x. EndCount end before x) (sym is.ends) e)
+  where
+    either_phase : (b : Bool) → EndCount end before new.ends → EndCountAt (if b then Closed end else Draining end) before new.ends
+    either_phase true e = e
+    either_phase false e = e
+drain_ends old new W.Failed left end before is e = subst (λ x. EndCount end before x) (sym is.ends) e
+
+speaking : (end : End) (before now calm : ℕ) → is_mute end ≡ false → LineCause end before now calm
+speaking E.LineFault before now calm e = absurd (let clash : true ≡ false = e in cc)
+speaking E.Quiet before now calm e = absurd (let clash : true ≡ false = e in cc)
+speaking E.Finished before now calm e = tt
+speaking (E.Broke cause n) before now calm e = tt
+speaking E.Dropped before now calm e = tt
+speaking (E.DiskFault count) before now calm e = tt
+speaking E.LedgerFull before now calm e = tt
+speaking E.Endless before now calm e = tt
+speaking E.NoMemory before now calm e = tt
+
+pub drain_line : (answer : WriteAnswer) (end : End) (before now calm : ℕ) → is_mute end ≡ false → LineCauseAt (after_drain answer calm end) before now calm
+drain_line (W.Wrote n) end before now calm speaks = speaking end before now calm speaks
+drain_line W.Quiet end before now calm speaks = either_phase (nat_le 60 calm)
+  where
+    either_phase : (b : Bool) → LineCauseAt (if b then Closed end else Draining end) before now calm
+    either_phase true = speaking end before now calm speaks
+    either_phase false = speaking end before now calm speaks
+drain_line W.Failed end before now calm speaks = speaking end before now calm speaks
+
+pub drain_whole : (old new : LineState) (answer : WriteAnswer) (left : List ℕ) (end : End) (before : ℕ) (output sent : List ℕ) → IsWrite old answer left new → before ≤ old.faults → WholeAt (after_drain answer new.calm end) before new output sent
+drain_whole old new (W.Wrote n) left end before output sent is le = tt
+drain_whole old new W.Quiet left end before output sent is le = either_phase (nat_le 60 new.calm) refl
+  where
+    either_phase : (b : Bool) → nat_le 60 new.calm ≡ b → WholeAt (if b then Closed end else Draining end) before new output sent
+    either_phase true t = inr (inr (leb-true 60 new.calm t))
+    either_phase false t = tt
+drain_whole old new W.Failed left end before output sent is le = inr (inl (omega (arith, is.faults)))
+
+pub close_whole : (end : End) (before : ℕ) (line : LineState) (output sent : List ℕ) → LineCause end before line.faults line.calm → (is_mute end ≡ true) ⊎ (output ≡ sent) → (output ≡ sent) ⊎ (Rose before line.faults ⊎ (60 ≤ line.calm))
+close_whole end before line output sent m (inr all) = inl all
+close_whole E.LineFault before line output sent m (inl mute) = inr (inl m)
+close_whole E.Quiet before line output sent m (inl mute) = inr (inr m)
+close_whole E.Finished before line output sent m (inl mute) = absurd (let clash : false ≡ true = mute in cc)
+close_whole (E.Broke cause n) before line output sent m (inl mute) = absurd (let clash : false ≡ true = mute in cc)
+close_whole E.Dropped before line output sent m (inl mute) = absurd (let clash : false ≡ true = mute in cc)
+close_whole (E.DiskFault count) before line output sent m (inl mute) = absurd (let clash : false ≡ true = mute in cc)
+close_whole E.LedgerFull before line output sent m (inl mute) = absurd (let clash : false ≡ true = mute in cc)
+close_whole E.Endless before line output sent m (inl mute) = absurd (let clash : false ≡ true = mute in cc)
+close_whole E.NoMemory before line output sent m (inl mute) = absurd (let clash : false ≡ true = mute in cc)
+
+-- what a write didn't take is still left
+unfoldable pub rest_of : WriteAnswer → List ℕ → List ℕ
+rest_of (W.Wrote n) left = drop n left
+rest_of W.Quiet left = left
+rest_of W.Failed left = left
+
+parts_of : (answer : WriteAnswer) (left : List ℕ) → left ≡ went answer left ++ rest_of answer left
+unfolding rest_of
+parts_of (W.Wrote n) left = sym (take-append-drop n left)
+parts_of W.Quiet left = refl
+parts_of W.Failed left = refl
+
+pub sent_on : (output sent left : List ℕ) (answer : WriteAnswer) → output ≡ sent ++ left → output ≡ (sent ++ went answer left) ++ rest_of answer left
+sent_on output sent left answer e = e ∙ ap (λ x. sent ++ x) (parts_of answer left) ∙ sym (append_assoc sent (went answer left) (rest_of answer left))

@@ -1,0 +1,236 @@
+-- A session over bytes: what has happened so far, and what may happen next (own, after FTS-1026).
+use Rattle.std.specs.Prelude.{◌≡◌, ◌⊎◌, ℕ, ◌+◌, ◌<◌, Bool, true, false, ◌&&◌, nat_le, ◌==◌, if◌then◌else◌, List, [], ◌∷◌, ◌++◌, length}
+use Rattle.ftn_addr.specs.Frames.{FrameText}
+use Rattle.binkp_frame.specs.Stream.{Begins, Splits}
+use Rattle.node_model.specs.declared.words.Role.TheVariants.{Answers}
+use Rattle.node_model.specs.Calls.{Knock_call, Leave_call, Disk, Answer, Refused, Event, one, DeskState, Calls, Chain}
+use Rattle.binkp_link.specs.declared.link.ReadAnswer.{ReadAnswer}
+use Rattle.binkp_link.specs.declared.link.ReadAnswer.TheVariants as R
+use Rattle.binkp_link.specs.declared.link.WriteAnswer.{WriteAnswer}
+use Rattle.binkp_link.specs.declared.link.WriteAnswer.TheVariants as W
+use Rattle.session_core.specs.declared.ending.End.{End}
+use Rattle.session_core.specs.declared.ending.End.TheVariants as E
+use Rattle.session_core.specs.declared.ending.Took.{Took}
+use Rattle.session_core.specs.declared.ending.Took.TheVariants as T
+use Rattle.session_core.specs.declared.ending.Gave.{Gave}
+use Rattle.session_core.specs.declared.ending.Gave.TheVariants as G
+use Rattle.binkp_link.specs.Lines.{LineState, IsRead, IsWrite, came, went}
+use Rattle.session_core.specs.Sessions.{Setting, Stage, Awaits_address, Reply, Row, AfterKnock, Turn, GiveRow, Said, frame_number}
+
+-- where a session is: before its first turn; taking the frames that are whole, and then making the own turn; writing,
+-- where the own turn waits or not; reading; over; writing what is left; closed
+pub data Phase : Type 0 where
+  Starting : Phase
+  Taking : Phase
+  Writing : (waits : Bool) → Phase
+  Reading : (waits : Bool) → Phase
+  Over : (end : End) → Phase
+  Draining : (end : End) → Phase
+  Closed : (end : End) → Phase
+
+-- what has happened: where line, desk and session stand now, the pieces read and the bytes that they make, the frames
+-- taken, all that was to be written and what of it was sent, and the calls of the desk
+pub record World : Type 0 where
+  pub setting : Setting
+  pub line : LineState
+  pub desk : DeskState
+  pub stage : Stage
+  pub phase : Phase
+  pub pieces : List (List ℕ)
+  pub taken : List ℕ
+  pub frames : List FrameText
+  pub output : List ℕ
+  pub sent : List ℕ
+  pub events : List Event
+
+abbrev pub after_took : Took → Phase
+after_took T.More = Taking
+after_took (T.Ended end) = Over end
+
+abbrev pub after_gave : Gave → Phase
+after_gave G.Sent = Writing false
+after_gave G.Waits = Writing true
+after_gave (G.Ended end) = Over end
+
+-- bytes moved: the session ends where they reach the limit
+abbrev pub moved : ℕ → ℕ → Phase → Phase
+moved limit bytes goal = if nat_le limit bytes then Over E.Endless else goal
+
+-- a Quiet: the sixtieth on end ends the session
+abbrev pub quieted : ℕ → Phase → Phase
+quieted calm goal = if nat_le 60 calm then Over E.Quiet else goal
+
+abbrev pub after_write : WriteAnswer → ℕ → ℕ → ℕ → Phase → Phase
+after_write (W.Wrote n) limit bytes calm goal = moved limit bytes goal
+after_write W.Quiet limit bytes calm goal = quieted calm goal
+after_write W.Failed limit bytes calm goal = Over E.LineFault
+
+abbrev pub after_read : ReadAnswer → ℕ → ℕ → ℕ → Phase
+after_read (R.Came n) limit bytes calm = moved limit bytes Taking
+after_read R.End limit bytes calm = Over E.Dropped
+after_read R.NotYet limit bytes calm = Taking
+after_read R.Quiet limit bytes calm = quieted calm Taking
+after_read R.Failed limit bytes calm = Over E.LineFault
+
+-- a `leave` that answers Disk turns any end
+abbrev pub after_leave : End → Answer → End
+after_leave end (Refused (Disk count)) = E.DiskFault count
+after_leave end _ = end
+
+-- the caller knocks, and is greeted or refused
+pub record Greets (alone : Bool) (w v : World) : Type 0 where
+  pub phase : w.phase ≡ Starting
+  pub answer : Answer
+  pub desk : DeskState
+  pub call : Calls alone w.desk (Knock_call Answers) answer desk
+  pub reply : Reply
+  pub follows : AfterKnock w.setting answer reply
+  pub output : List ℕ
+  pub took : Took
+  pub said : Said reply.output reply.took output took
+  pub is : v ≡ record w { desk = desk; stage = reply.stage; phase = after_took took; output = w.output ++ output; events = w.events ++ one (Knock_call Answers) answer }
+
+-- the next frame of the bytes taken is taken
+pub record TakesFrame (alone : Bool) (w v : World) : Type 0 where
+  pub phase : w.phase ≡ Taking
+  pub frame : FrameText
+  pub rest : List ℕ
+  pub next : Begins w.taken (w.frames ++ frame ∷ []) rest
+  pub events : List Event
+  pub reply : Reply
+  pub row : Row w.setting (frame_number (w.frames ++ frame ∷ [])) w.stage frame events reply
+  pub desk : DeskState
+  pub chain : Chain alone w.desk events desk
+  pub output : List ℕ
+  pub took : Took
+  pub said : Said reply.output reply.took output took
+  pub is : v ≡ record w { desk = desk; stage = reply.stage; phase = after_took took; frames = w.frames ++ frame ∷ []; output = w.output ++ output; events = w.events ++ events }
+
+-- no further frame is whole, and the own turn is made
+pub record MakesTurn (w v : World) : Type 0 where
+  pub phase : w.phase ≡ Taking
+  pub rest : List ℕ
+  pub none : Splits w.taken w.frames rest
+  pub turn : Turn
+  pub row : GiveRow w.stage turn
+  pub is : v ≡ record w { stage = turn.stage; phase = after_gave turn.gave; output = w.output ++ turn.output }
+
+-- a write of all that is left
+pub record Writes (w v : World) : Type 0 where
+  pub waits : Bool
+  pub phase : w.phase ≡ Writing waits
+  pub left : List ℕ
+  pub unsent : w.output ≡ w.sent ++ left
+  pub some : 0 < length left
+  pub answer : WriteAnswer
+  pub line : LineState
+  pub step : IsWrite w.line answer left line
+  pub is : v ≡ record w { line = line; sent = w.sent ++ went answer left; phase = after_write answer w.setting.limit (length w.taken + length (w.sent ++ went answer left)) line.calm (Reading waits) }
+
+-- nothing is left to write
+pub record PassesWrite (w v : World) : Type 0 where
+  pub waits : Bool
+  pub phase : w.phase ≡ Writing waits
+  pub unsent : w.output ≡ w.sent
+  pub is : v ≡ record w { phase = Reading waits }
+
+-- a read of at most 4096 bytes, which waits exactly where nothing is left to write and the own turn waits
+pub record Reads (w v : World) : Type 0 where
+  pub waits : Bool
+  pub phase : w.phase ≡ Reading waits
+  pub left : List ℕ
+  pub unsent : w.output ≡ w.sent ++ left
+  pub answer : ReadAnswer
+  pub buffer : List ℕ
+  pub room : length buffer ≡ 4096
+  pub line : LineState
+  pub step : IsRead (waits && (length left == 0)) w.line answer buffer line
+  pub is : v ≡ record w { line = line; pieces = w.pieces ++ came answer buffer ∷ []; taken = w.taken ++ came answer buffer; phase = after_read answer w.setting.limit (length (w.taken ++ came answer buffer) + length w.sent) line.calm }
+
+-- the desk is left
+pub record Leaves (alone : Bool) (w v : World) : Type 0 where
+  pub end : End
+  pub phase : w.phase ≡ Over end
+  pub answer : Answer
+  pub desk : DeskState
+  pub call : Calls alone w.desk Leave_call answer desk
+  pub is : v ≡ record w { desk = desk; events = w.events ++ one Leave_call answer; phase = Draining (after_leave end answer) }
+
+abbrev pub MayGiveUp : Phase → Type 0
+MayGiveUp Starting = Unit {0}
+MayGiveUp Taking = Unit {0}
+MayGiveUp (Reading waits) = Unit {0}
+MayGiveUp _ = ⊥
+
+-- want of memory ends a session between two rows
+pub record GivesUp (w v : World) : Type 0 where
+  pub phase : MayGiveUp w.phase
+  pub is : v ≡ record w { phase = Over E.NoMemory }
+
+-- after these ends nothing more is written
+abbrev pub is_mute : End → Bool
+is_mute E.LineFault = true
+is_mute E.Quiet = true
+is_mute _ = false
+
+abbrev pub after_drain : WriteAnswer → ℕ → End → Phase
+after_drain (W.Wrote n) calm end = Draining end
+after_drain W.Quiet calm end = if nat_le 60 calm then Closed end else Draining end
+after_drain W.Failed calm end = Closed end
+
+-- once the session is over, what is left is written
+pub record Drains (w v : World) : Type 0 where
+  pub end : End
+  pub phase : w.phase ≡ Draining end
+  pub speaks : is_mute end ≡ false
+  pub left : List ℕ
+  pub unsent : w.output ≡ w.sent ++ left
+  pub some : 0 < length left
+  pub answer : WriteAnswer
+  pub line : LineState
+  pub step : IsWrite w.line answer left line
+  pub is : v ≡ record w { line = line; sent = w.sent ++ went answer left; phase = after_drain answer line.calm end }
+
+pub record Closes (w v : World) : Type 0 where
+  pub end : End
+  pub phase : w.phase ≡ Draining end
+  pub done : (is_mute end ≡ true) ⊎ (w.output ≡ w.sent)
+  pub is : v ≡ record w { phase = Closed end }
+
+-- what may happen next
+pub data Step (alone : Bool) (w v : World) : Type 0 where
+  greets : Greets alone w v → Step alone w v
+  takes_frame : TakesFrame alone w v → Step alone w v
+  makes_turn : MakesTurn w v → Step alone w v
+  writes : Writes w v → Step alone w v
+  passes_write : PassesWrite w v → Step alone w v
+  reads : Reads w v → Step alone w v
+  gives_up : GivesUp w v → Step alone w v
+  leaves : Leaves alone w v → Step alone w v
+  drains : Drains w v → Step alone w v
+  closes : Closes w v → Step alone w v
+
+-- a run from w to v, step by step
+pub data Reach (alone : Bool) (w : World) : World → Type 0 where
+  here : Reach alone w w
+  next : {u v : World} → Reach alone w u → Step alone u v → Reach alone w v
+
+-- nothing has happened yet
+abbrev pub opening : Setting → LineState → DeskState → World
+opening setting line desk =
+    record { setting = setting; line = line; desk = desk; stage = Awaits_address; phase = Starting; pieces = []; taken = []; frames = []; output = []; sent = []; events = [] }
+
+-- the session is over, and this is left to write
+pub record IsLeft (line : LineState) (left : List ℕ) (end : End) (w : World) : Type 0 where
+  pub line_is : w.line ≡ line
+  pub unsent : w.output ≡ w.sent ++ left
+  pub phase : w.phase ≡ Draining end
+
+-- what was left was written, as far as that goes
+pub record IsClosed (alone : Bool) (w : World) (line : LineState) (end : End) : Type 0 where
+  pub last : World
+  pub reached : Reach alone w last
+  pub line_is : last.line ≡ line
+  pub desk_is : last.desk ≡ w.desk
+  pub taken_is : last.taken ≡ w.taken
+  pub phase : last.phase ≡ Closed end

@@ -1,0 +1,103 @@
+-- Where the code of a session stands in the run of its machine.
+use Rattle.std.specs.Prelude.{◌≡◌, ℕ, ◌+◌, ◌-◌, ◌*◌, ◌<◌, ◌≤◌, Bool, List, [], ◌++◌, length, Option, Some, None}
+use Rattle.ftn_addr.specs.Frames.{FrameText}
+use Rattle.binkp_frame.specs.Stream.{Splits}
+use Rattle.node_model.specs.Calls.{DeskState}
+use Rattle.session_core.specs.declared.ending.End.{End}
+use Rattle.session_run.specs.declared.run.Run.{Run}
+use Rattle.binkp_link.specs.Lines.{LineState}
+use Rattle.session_core.specs.Sessions.{Setting, Awaits_address, frame_number}
+use Rattle.session_core.specs.Replies.{stage_of}
+use Rattle.session_run.specs.Machine.{World, Phase, Starting, Taking, Writing, Reading, Over, Draining, Closed, Reach}
+
+-- the code's run, where its line and its desk stand, the frames that were read and not yet taken, and the phase
+pub record Spot : Type 0 where
+  pub run : Run
+  pub line : LineState
+  pub desk : DeskState
+  pub pending : List FrameText
+  pub phase : Phase
+
+abbrev pub spot : Run → LineState → DeskState → List FrameText → Phase → Spot
+spot run line desk pending phase = record { run = run; line = line; desk = desk; pending = pending; phase = phase }
+
+-- what was taken, the frames and the stage, as the code has them
+pub record Stream (run : Run) (pending : List FrameText) (w : World) : Type 0 where
+  pub stage_is : w.stage ≡ stage_of run.session.stage
+  pub number_is : run.session.frames ≡ frame_number w.frames
+  pub fed : List ℕ
+  pub whole : w.taken ≡ fed ++ run.piece.list
+  pub splits : Splits fed (w.frames ++ pending) run.decoder
+
+-- these matter as long as the session goes on
+abbrev pub Follows : Phase → Run → List FrameText → World → Type 0
+Follows (Over end) run pending w = Unit {0}
+Follows (Draining end) run pending w = Unit {0}
+Follows (Closed end) run pending w = Unit {0}
+Follows phase run pending w = Stream run pending w
+
+pub record At (setting : Setting) (s : Spot) (w : World) : Type 0 where
+  pub setting_is : w.setting ≡ setting
+  pub line_is : w.line ≡ s.line
+  pub desk_is : w.desk ≡ s.desk
+  pub phase_is : w.phase ≡ s.phase
+  pub unsent : w.output ≡ w.sent ++ s.run.out.list
+  pub taken : length w.taken ≡ s.run.taken
+  pub wrote : length w.sent ≡ s.run.wrote
+  pub follows : Follows s.phase s.run s.pending w
+
+-- wherever the code stands in its machine's run, the machine goes on to where the code comes
+pub record Goes (alone : Bool) (setting : Setting) (a b : Spot) : Type 0 where
+  pub goes : (w : World) → At setting a w → (v : World) × Reach alone w v × At setting b v
+
+-- nothing has happened yet
+pub record IsNew (run : Run) : Type 0 where
+  pub stage : stage_of run.session.stage ≡ Awaits_address
+  pub frames : run.session.frames ≡ 0
+  pub decoder : run.decoder ≡ []
+  pub piece : run.piece.list ≡ []
+  pub out : run.out.list ≡ []
+  pub taken : run.taken ≡ 0
+  pub wrote : run.wrote ≡ 0
+
+-- what a write leaves of a run
+pub record Wrote (run run' : Run) (gone : List ℕ) : Type 0 where
+  pub session : run'.session ≡ run.session
+  pub decoder : run'.decoder ≡ run.decoder
+  pub piece : run'.piece.list ≡ run.piece.list
+  pub taken : run'.taken ≡ run.taken
+  pub out : run.out.list ≡ gone ++ run'.out.list
+  pub wrote : run'.wrote ≡ run.wrote + length gone
+
+-- what a read leaves of a run
+pub record Came (run run' : Run) (piece : List ℕ) : Type 0 where
+  pub session : run'.session ≡ run.session
+  pub decoder : run'.decoder ≡ run.decoder
+  pub piece_is : run'.piece.list ≡ run.piece.list ++ piece
+  pub out : run'.out.list ≡ run.out.list
+  pub wrote : run'.wrote ≡ run.wrote
+  pub taken : run'.taken ≡ run.taken + length piece
+
+pub record SameCounts (run run' : Run) : Type 0 where
+  pub taken : run'.taken ≡ run.taken
+  pub wrote : run'.wrote ≡ run.wrote
+
+-- the session is over, or goes on there
+abbrev pub over_or : Option End → Phase → Phase
+over_or None goal = goal
+over_or (Some end) goal = Over end
+
+-- how much may still come: each turn moves a byte or is one Quiet more
+abbrev pub room : ℕ → Run → ℕ → ℕ
+room limit run calm = 64 * (limit - (run.taken + run.wrote)) + (63 - calm)
+
+-- the run may go on
+pub record InLimit (limit : ℕ) (run : Run) (calm : ℕ) : Type 0 where
+  pub below : run.taken + run.wrote < limit
+  pub quiet : calm < 60
+
+-- the run may go on, and there is less room, at least where strict holds
+pub record Advances (limit : ℕ) (run run' : Run) (calm calm' : ℕ) (strict : Type 0) : Type 0 where
+  pub within : InLimit limit run' calm'
+  pub no_more : room limit run' calm' ≤ room limit run calm
+  pub less : strict → room limit run' calm' < room limit run calm

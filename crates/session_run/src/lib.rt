@@ -1,0 +1,11 @@
+//! One session over a line, from the opening to the close.
+//!
+//! [`run_session`] is the whole session: it greets, reads pieces, takes their frames, makes own turns and
+//! writes, until the session's end or the line's. [`Run`] is a session that goes on.
+//!
+//! Left out: the words of the program and its statuses.
+#![tactic(auto)]
+
+mod run;
+
+pub use run::{Run, run_session};

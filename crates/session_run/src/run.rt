@@ -1,0 +1,389 @@
+//! A session over a line, turn by turn.
+ghost use Rattle.std.specs.Prelude.{◌≡◌, ◌+◌, ◌^◌, ◌<◌, ◌≤◌, ◌&&◌, Bool, true, false, None, length, [], IfNone, IfOk, OnErr, Option};
+ghost use Rattle.ftn_addr.specs.Address.{address};
+ghost use Rattle.ftn_addr.specs.Limits.{IsAddress};
+ghost use Rattle.binkp_frame.specs.Views.{frame_texts};
+ghost use Rattle.node_model.specs.Calls.{DeskState};
+ghost use Rattle.hub_core.specs.Desks.{leave_answer};
+ghost use Rattle.binkp_link.specs.Lines.{LineState, LineBytes, MayRead, MayWrite, came, went};
+ghost use Rattle.session_core.specs.Replies.{Sits, SitsStill, setting_of, stage_of};
+ghost use Rattle.session_core.specs.Sessions.{Setting as Lent, IsSound, desk_part};
+ghost use Rattle.session_run.specs.Runs.{over_or};
+ghost use Rattle.session_run.specs.Laws.{IsSession};
+ghost use Rattle.session_run.specs.Machine.{World, Phase, Starting, Taking, Writing, Reading, Over, IsLeft, IsClosed, is_mute, after_gave, after_leave, after_read, after_took, after_write, moved, quieted};
+ghost use Rattle.session_core.specs.declared.ending.End.TheVariants as E;
+ghost use Rattle.session_core.specs.declared.ending.Took.TheVariants as T;
+ghost use Rattle.session_core.specs.declared.ending.Gave.TheVariants as G;
+
+use binkp_frame::{Decoder, Frame, pieces_add_up};
+use binkp_link::{Line, ReadAnswer, WriteAnswer};
+use ftn_addr::{Bytes, NoMemory};
+use hub_core::{Desk, DeskFault, Knock};
+use node_model::Role;
+use session_core::{End, Gave, Session, Setting, Took, refuse, say_greeting};
+use std::alloc::Global;
+
+/// A session that goes on: what it knows, the bytes of a frame that isn't whole, the piece that was read and
+/// not yet taken, what is left to write, and how many bytes were taken and written.
+#[derive(Drop)]
+pub struct Run {
+    pub session: Session,
+    pub decoder: Decoder,
+    pub piece: Bytes,
+    pub out: Bytes,
+    pub taken: u64,
+    pub wrote: u64,
+}
+
+impl Run {
+    ghost use Rattle.session_run.specs.Runs.{Goes, IsNew, Wrote, Came, SameCounts, Advances, InLimit, room, spot};
+
+    /// Before the first turn. This takes no memory.
+    pub fn new(alloc: Global) -> Run
+        ensures { IsNew result }
+    {
+        Run {
+            session: Session::new(),
+            decoder: Decoder::new(alloc),
+            piece: Bytes::new(alloc),
+            out: Bytes::new(alloc),
+            taken: 0,
+            wrote: 0,
+        }
+    }
+
+    /// The frames that the piece makes whole.
+    fn feed(&mut self, alloc: Global) -> Result<Vec<Frame>, NoMemory>
+        ensures ok { IfOk result (λ frames. (alone : Bool) (s : Lent) (line : LineState) (desk : DeskState) →
+            Goes alone s (spot self.old line desk [] Taking) (spot self.new line desk (frame_texts frames.items) Taking)) }
+        ensures err { OnErr result ((alone : Bool) (s : Lent) (line : LineState) (desk : DeskState) →
+            Goes alone s (spot self.old line desk [] Taking) (spot self.new line desk [] (Over E.NoMemory))) }
+        ensures stage { self.new.session ≡ self.old.session }
+        ensures piece { IfOk result (λ frames. self.new.piece.list ≡ []) }
+        ensures counts { SameCounts self.old self.new }
+    {
+        pieces_add_up();
+        let mut frames = Vec::new(alloc);
+        match self.decoder.feed(alloc, self.piece.as_slice(), &mut frames) {
+            Ok(()) => {
+                self.piece.clear();
+                Ok(frames)
+            }
+            Err(error) => Err(error),
+        }
+    }
+
+    /// Takes frames in order, up to one that ends the session.
+    fn take_each<K: Desk>(
+        &mut self,
+        alloc: Global,
+        frames: &[Frame],
+        setting: &Setting,
+        desk: &mut K,
+    ) -> Took
+        requires home { IsAddress (address setting.now.home) }
+        requires sits { Sits (K.ready desk.old) (K.part desk.old) (stage_of self.old.session.stage) }
+        requires piece { self.old.piece.list ≡ [] }
+        ensures went { (line : LineState) → Goes K.alone (setting_of setting.now) (spot self.old line (K.stand desk.old).state (frame_texts frames.now) Taking) (spot self.new line (K.stand desk.new).state [] (after_took result)) }
+        ensures sits { SitsStill (K.ready desk.new) (K.part desk.new) (stage_of self.new.session.stage) result }
+        ensures piece { self.new.piece.list ≡ [] }
+        ensures counts { SameCounts self.old self.new }
+    {
+        for frame in frames {
+            match self
+                .session
+                .take(alloc, frame, setting, desk, &mut self.out)
+            {
+                Took::More => {}
+                Took::Ended(end) => return Took::Ended(end),
+            }
+        }
+        Took::More
+    }
+
+    /// Takes each frame that is whole, up to one that ends the session.
+    fn take_all<K: Desk>(&mut self, alloc: Global, setting: &Setting, desk: &mut K) -> Took
+        requires home { IsAddress (address setting.now.home) }
+        requires sits { Sits (K.ready desk.old) (K.part desk.old) (stage_of self.old.session.stage) }
+        ensures went { (line : LineState) → Goes K.alone (setting_of setting.now) (spot self.old line (K.stand desk.old).state [] Taking) (spot self.new line (K.stand desk.new).state [] (after_took result)) }
+        ensures sits { SitsStill (K.ready desk.new) (K.part desk.new) (stage_of self.new.session.stage) result }
+        ensures piece { result ≡ T.More → self.new.piece.list ≡ [] }
+        ensures counts { SameCounts self.old self.new }
+    {
+        match self.feed(alloc) {
+            Ok(frames) => self.take_each(alloc, frames.as_slice(), setting, desk),
+            Err(_) => Took::Ended(End::NoMemory),
+        }
+    }
+
+    /// The own turn.
+    fn give(&mut self, alloc: Global) -> Gave
+        requires piece { self.old.piece.list ≡ [] }
+        ensures went { (alone : Bool) (s : Lent) (line : LineState) (desk : DeskState) →
+            Goes alone s (spot self.old line desk [] Taking) (spot self.new line desk [] (after_gave result)) }
+        ensures part { desk_part (stage_of self.new.session.stage) ≡ desk_part (stage_of self.old.session.stage) }
+        ensures sound { IsSound (stage_of self.old.session.stage) → IsSound (stage_of self.new.session.stage) }
+        ensures sent { result ≡ G.Sent → 0 < length self.new.out.list }
+        ensures piece { self.new.piece.list ≡ self.old.piece.list }
+        ensures counts { SameCounts self.old self.new }
+    {
+        self.session.give(alloc, &mut self.out)
+    }
+
+    /// What an answer to a write leaves.
+    fn wrote(&mut self, answer: WriteAnswer, calm: u64, limit: u64) -> Option<End>
+        requires may { MayWrite answer self.old.out.list }
+        requires below { self.old.taken + self.old.wrote < limit }
+        requires limit { limit ≤ 2 ^ 62 }
+        ensures did { Wrote self.old self.new (went answer self.old.out.list) }
+        ensures to { (goal : Phase) → over_or result goal ≡ after_write answer limit (self.old.taken + self.new.wrote) calm goal }
+    {
+        match answer {
+            WriteAnswer::Wrote(n) => {
+                let left = self.out.as_slice().len();
+                prove!(n <= left);
+                self.out.drop_front(n);
+                self.wrote += n as u64;
+                endless(self.taken, self.wrote, limit)
+            }
+            WriteAnswer::Quiet => quiet(calm),
+            WriteAnswer::Failed => Some(End::LineFault),
+        }
+    }
+
+    /// One write of all that is left, where something is.
+    fn write_once<L: Line>(&mut self, line: &mut L, waits: bool, limit: u64) -> Option<End>
+        requires within { InLimit limit self.old (L.state line.old).calm }
+        requires limit { limit ≤ 2 ^ 62 }
+        ensures went { (alone : Bool) (s : Lent) (desk : DeskState) → s.limit ≡ limit →
+            Goes alone s (spot self.old (L.state line.old) desk [] (Writing waits)) (spot self.new (L.state line.new) desk [] (over_or result (Reading waits))) }
+        ensures session { self.new.session ≡ self.old.session }
+        ensures piece { self.new.piece.list ≡ self.old.piece.list }
+        ensures idle { self.old.out.list ≡ [] → self.new.out.list ≡ [] }
+        ensures advances { IfNone result (Advances limit self.old self.new (L.state line.old).calm (L.state line.new).calm (0 < length self.old.out.list)) }
+    {
+        if self.out.is_empty() {
+            return None;
+        }
+        let answer = line.write(self.out.as_slice());
+        self.wrote(answer, line.calm(), limit)
+    }
+
+    /// What an answer to a read leaves.
+    fn came(&mut self, answer: ReadAnswer, buffer: &[u8], calm: u64, limit: u64) -> Option<End>
+        requires may { (wait : Bool) × (bytes : Option LineBytes) × MayRead wait answer buffer.now bytes }
+        requires room { length buffer.now ≤ self.old.piece.spare }
+        requires below { self.old.taken + self.old.wrote < limit }
+        requires limit { limit ≤ 2 ^ 62 }
+        requires size { length buffer.now ≤ 4096 }
+        ensures did { Came self.old self.new (came answer buffer.now) }
+        ensures to { over_or result Taking ≡ after_read answer limit (self.new.taken + self.old.wrote) calm }
+    {
+        match answer {
+            ReadAnswer::Came(n) => match self.piece.push_slice(&buffer[..n]) {
+                Ok(()) => {
+                    self.taken += n as u64;
+                    endless(self.taken, self.wrote, limit)
+                }
+                Err(_) => unreachable!(),
+            },
+            ReadAnswer::End => Some(End::Dropped),
+            ReadAnswer::NotYet => None,
+            ReadAnswer::Quiet => quiet(calm),
+            ReadAnswer::Failed => Some(End::LineFault),
+        }
+    }
+
+    /// One read, which waits exactly where nothing is left to write and the own turn waits.
+    fn read_once<L: Line>(&mut self, line: &mut L, waits: bool, limit: u64) -> Option<End>
+        requires within { InLimit limit self.old (L.state line.old).calm }
+        requires limit { limit ≤ 2 ^ 62 }
+        ensures went { (alone : Bool) (s : Lent) (desk : DeskState) → s.limit ≡ limit →
+            Goes alone s (spot self.old (L.state line.old) desk [] (Reading waits)) (spot self.new (L.state line.new) desk [] (over_or result Taking)) }
+        ensures session { self.new.session ≡ self.old.session }
+        ensures advances { IfNone result (Advances limit self.old self.new (L.state line.old).calm (L.state line.new).calm ((waits ≡ true) × (self.old.out.list ≡ []))) }
+    {
+        if self.piece.reserve(4096).is_err() {
+            return Some(End::NoMemory);
+        }
+        let mut buffer = [0u8; 4096];
+        let wait = both(waits, self.out.is_empty());
+        let answer = line.read(&mut buffer, wait);
+        self.came(answer, &buffer, line.calm(), limit)
+    }
+
+    /// A turn: the frames that are whole, the own turn, one write and one read.
+    pub fn turn<L: Line, K: Desk>(
+        &mut self,
+        alloc: Global,
+        line: &mut L,
+        desk: &mut K,
+        setting: &Setting,
+    ) -> Option<End>
+        requires home { IsAddress (address setting.now.home) }
+        requires sits { Sits (K.ready desk.old) (K.part desk.old) (stage_of self.old.session.stage) }
+        requires within { InLimit setting.now.limit self.old (L.state line.old).calm }
+        requires limit { setting.now.limit ≤ 2 ^ 62 }
+        ensures went { Goes K.alone (setting_of setting.now) (spot self.old (L.state line.old) (K.stand desk.old).state [] Taking) (spot self.new (L.state line.new) (K.stand desk.new).state [] (over_or result Taking)) }
+        ensures ready { K.ready desk.new }
+        ensures sits { IfNone result (Sits (K.ready desk.new) (K.part desk.new) (stage_of self.new.session.stage)) }
+        ensures goes_on { IfNone result (InLimit setting.now.limit self.new (L.state line.new).calm) }
+        ensures progress { IfNone result (room setting.now.limit self.new (L.state line.new).calm < room setting.now.limit self.old (L.state line.old).calm) }
+    {
+        match self.take_all(alloc, setting, desk) {
+            Took::More => {}
+            Took::Ended(end) => return Some(end),
+        }
+        let waits = match self.give(alloc) {
+            Gave::Sent => false,
+            Gave::Waits => true,
+            Gave::Ended(end) => return Some(end),
+        };
+        match self.write_once(line, waits, setting.limit) {
+            None => {}
+            Some(end) => return Some(end),
+        }
+        self.read_once(line, waits, setting.limit)
+    }
+
+    /// The first turn: the caller knocks, and is greeted or refused.
+    fn greet<K: Desk>(&mut self, alloc: Global, setting: &Setting, desk: &mut K) -> Took
+        requires new { IsNew self.old }
+        requires home { IsAddress (address setting.now.home) }
+        requires ready { K.ready desk.old }
+        requires part { K.part desk.old ≡ record { open_now = false; held = None } }
+        ensures went { (line : LineState) → Goes K.alone (setting_of setting.now) (spot self.old line (K.stand desk.old).state [] Starting) (spot self.new line (K.stand desk.new).state [] (after_took result)) }
+        ensures sits { SitsStill (K.ready desk.new) (K.part desk.new) (stage_of self.new.session.stage) result }
+        ensures counts { SameCounts self.old self.new }
+    {
+        match desk.knock(Role::Answers) {
+            Ok(Knock::Come) => say_greeting(alloc, &setting.home, &mut self.out),
+            Err(fault) => refuse(alloc, fault, &mut self.out),
+        }
+    }
+
+    /// The session from its first turn to its end.
+    fn talk<L: Line, K: Desk>(
+        &mut self,
+        alloc: Global,
+        line: &mut L,
+        desk: &mut K,
+        setting: &Setting,
+    ) -> End
+        requires new { IsNew self.old }
+        requires home { IsAddress (address setting.now.home) }
+        requires ready { K.ready desk.old }
+        requires part { K.part desk.old ≡ record { open_now = false; held = None } }
+        requires some { 0 < setting.now.limit }
+        requires limit { setting.now.limit ≤ 2 ^ 62 }
+        requires calm { (L.state line.old).calm ≡ 0 }
+        ensures went { Goes K.alone (setting_of setting.now) (spot self.old (L.state line.old) (K.stand desk.old).state [] Starting) (spot self.new (L.state line.new) (K.stand desk.new).state [] (Over result)) }
+        ensures ready { K.ready desk.new }
+    {
+        match self.greet(alloc, setting, desk) {
+            Took::More => {}
+            Took::Ended(end) => return end,
+        }
+        loop {
+            match self.turn(alloc, line, desk, setting) {
+                None => {}
+                Some(end) => return end,
+            }
+        }
+    }
+}
+
+fn both(a: bool, b: bool) -> bool
+    ensures { result ≡ (a && b) }
+{
+    a && b
+}
+
+/// The bytes moved reach the limit.
+fn endless(taken: u64, wrote: u64, limit: u64) -> Option<End>
+    ensures { (goal : Phase) → over_or result goal ≡ moved limit (taken + wrote) goal }
+{
+    if limit <= taken.saturating_add(wrote) {
+        Some(End::Endless)
+    } else {
+        None
+    }
+}
+
+/// The sixtieth Quiet on end.
+fn quiet(calm: u64) -> Option<End>
+    ensures { (goal : Phase) → over_or result goal ≡ quieted calm goal }
+{
+    if calm >= 60 { Some(End::Quiet) } else { None }
+}
+
+/// A `leave` that answers Disk turns any end.
+fn turned(end: End, answer: Result<(), DeskFault>) -> End
+    ensures { result ≡ after_leave end (leave_answer answer) }
+{
+    match answer {
+        Err(DeskFault::Disk(count)) => End::DiskFault(count),
+        Err(DeskFault::Full) => end,
+        Err(DeskFault::NoMemory) => end,
+        Ok(()) => end,
+    }
+}
+
+fn is_mute(end: End) -> bool
+    ensures { result ≡ is_mute end }
+{
+    matches!(end, End::LineFault | End::Quiet)
+}
+
+/// Writes what is left once the session is over, as far as that goes.
+fn drain<L: Line>(out: &mut Bytes, line: &mut L, end: End)
+    ensures { (alone : Bool) (w : World) → IsLeft (L.state line.old) out.old.list end w → IsClosed alone w (L.state line.new) end }
+{
+    if is_mute(end) {
+        return;
+    }
+    while !out.is_empty() {
+        match line.write(out.as_slice()) {
+            WriteAnswer::Wrote(n) => out.drop_front(n),
+            WriteAnswer::Quiet => {
+                if line.calm() >= 60 {
+                    return;
+                }
+            }
+            WriteAnswer::Failed => return,
+        }
+    }
+}
+
+/// What is told of a session.
+#[derive(Clone, Copy, Debug, PartialEq, Eq)]
+pub struct Report {
+    pub end: End,
+    /// Bytes taken from the line.
+    pub taken: u64,
+}
+
+/// One whole answering session over a line.
+pub fn run_session<L: Line, K: Desk>(
+    alloc: Global,
+    line: &mut L,
+    desk: &mut K,
+    setting: &Setting,
+) -> Report
+    requires home { IsAddress (address setting.now.home) }
+    requires ready { K.ready desk.old }
+    requires part { K.part desk.old ≡ record { open_now = false; held = None } }
+    requires some { 0 < setting.now.limit }
+    requires limit { setting.now.limit ≤ 2 ^ 62 }
+    requires calm { (L.state line.old).calm ≡ 0 }
+    ensures session { IsSession K.alone (setting_of setting.now) (L.state line.old) (K.stand desk.old).state result.end result.taken (L.state line.new) (K.stand desk.new).state }
+    ensures ready { K.ready desk.new }
+{
+    let mut run = Run::new(alloc);
+    let end = run.talk(alloc, line, desk, setting);
+    let end = turned(end, desk.leave());
+    let taken = run.taken;
+    drain(&mut run.out, line, end);
+    line.close();
+    Report { end, taken }
+}
