@@ -21,71 +21,70 @@ use Rattle.session_core.specs.declared.ending.Gave.TheVariants as G
 use Rattle.session_core.specs.Sessions.{Setting, Stage, Awaits_address, Awaits_password, Talks, Reply, Row, ReadRow, HeardRow, PasswordRow, LoggedRow, LoginRow, TalkRow, DataRow, AfterBegin, AfterKnock, Plain, Heard, Passed, Addresses, Password, Offers, Ends_batch, Unbuilt, heard_of, before_address, named, unreadable, ends, is_none, is_unbuilt, end_of, fault_end, outcome_took, outcome_gave, Said, Turn, TalkTurn, GiveRow}
 use Rattle.session_run.specs.Laws.{Since, Stays_or_rose, DeskCause}
 
--- the ends that need no other object
-abbrev pub Plain_end : End → Type 0
-Plain_end E.Finished = Unit {0}
-Plain_end (E.Broke cause n) = Unit {0}
-Plain_end E.NoMemory = Unit {0}
-Plain_end _ = ⊥
+-- the ends that a row of the frame with that number gives without another object
+abbrev pub Plain_end : ℕ → End → Type 0
+Plain_end m (E.Broke cause n) = n ≡ m
+Plain_end m E.NoMemory = Unit {0}
+Plain_end m _ = ⊥
 
 -- a refusal of the desk gives that end
 abbrev pub Refused_end : End → List Event → Type 0
 Refused_end end es = (call : Call) × (fault : Fault) × (es ≡ one call (Refused fault)) × (end ≡ fault_end fault)
 
-abbrev pub RowCause : Took → List Event → Type 0
-RowCause T.More es = Unit {0}
-RowCause (T.Ended end) es = Plain_end end ⊎ Refused_end end es
+abbrev pub RowCause : ℕ → Took → List Event → Type 0
+RowCause m T.More es = Unit {0}
+RowCause m (T.Ended end) es = Plain_end m end ⊎ Refused_end end es
 
-abbrev pub Plain_took : Took → Type 0
-Plain_took T.More = Unit {0}
-Plain_took (T.Ended end) = Plain_end end
+abbrev pub Plain_took : ℕ → Took → Type 0
+Plain_took m T.More = Unit {0}
+Plain_took m (T.Ended end) = Plain_end m end
 
-from_plain : (took : Took) (es : List Event) → Plain_took took → RowCause took es
-from_plain T.More es p = tt
-from_plain (T.Ended end) es p = inl p
+from_plain : (m : ℕ) (took : Took) (es : List Event) → Plain_took m took → RowCause m took es
+from_plain m T.More es p = tt
+from_plain m (T.Ended end) es p = inl p
 
-plain_cause : (reply r : Reply) (es : List Event) → Plain_took reply.took → Plain reply es r → RowCause r.took es
-plain_cause reply r es p plain = subst (λ (x : Reply). RowCause x.took es) (sym plain.1) (from_plain reply.took es p)
+plain_cause : (m : ℕ) (reply r : Reply) (es : List Event) → Plain_took m reply.took → Plain reply es r → RowCause m r.took es
+plain_cause m reply r es p plain = subst (λ (x : Reply). RowCause m x.took es) (sym plain.1) (from_plain m reply.took es p)
 
-reply_cause : (reply r : Reply) (es : List Event) → RowCause reply.took es → r ≡ reply → RowCause r.took es
-reply_cause reply r es p e = subst (λ (x : Reply). RowCause x.took es) (sym e) p
+reply_cause : (m : ℕ) (reply r : Reply) (es : List Event) → RowCause m reply.took es → r ≡ reply → RowCause m r.took es
+reply_cause m reply r es p e = subst (λ (x : Reply). RowCause m x.took es) (sym e) p
 
 either : (b : Bool) (P Q R : Type 0) → (P → R) → (Q → R) → MatchBool b P Q → R
 either true P Q R p q m = p m
 either false P Q R p q m = q m
 
-named_plain : (n : ℕ) (addresses : List Address) → Plain_took (named n addresses).took
-named_plain n [] = tt
+named_plain : (n : ℕ) (addresses : List Address) → Plain_took n (named n addresses).took
+named_plain n [] = refl
 named_plain n (first ∷ others) = tt
 
-before_plain : (home : Address) (n : ℕ) (heard : Heard) → Plain_took (before_address home n heard).took
+before_plain : (home : Address) (n : ℕ) (heard : Heard) → Plain_took n (before_address home n heard).took
 before_plain home n Passed = tt
 before_plain home n (Addresses addresses) = named_plain n (without (same_address home) addresses)
-before_plain home n (Password text) = tt
-before_plain home n (Offers key offset) = tt
-before_plain home n Ends_batch = tt
-before_plain home n Unbuilt = tt
+before_plain home n (Password text) = refl
+before_plain home n (Offers key offset) = refl
+before_plain home n Ends_batch = refl
+before_plain home n Unbuilt = refl
 
-begin_cause : (peers : List Address) (call : Call) (answer : Answer) (es : List Event) (r : Reply) → es ≡ one call answer → AfterBegin peers answer r → RowCause r.took es
-begin_cause peers call (Begun number) es r e a = reply_cause _ r es tt a
-begin_cause peers call (Refused fault) es r e a = reply_cause _ r es (inr (call, fault, e, refl)) a
-begin_cause peers call (Queued slots) es r e a = absurd a
-begin_cause peers call Let_in es r e a = absurd a
-begin_cause peers call Busy es r e a = absurd a
-begin_cause peers call (Offered number key) es r e a = absurd a
-begin_cause peers call Nothing es r e a = absurd a
-begin_cause peers call (Came bytes) es r e a = absurd a
-begin_cause peers call Settled es r e a = absurd a
-begin_cause peers call (Filed answer) es r e a = absurd a
-begin_cause peers call More es r e a = absurd a
-begin_cause peers call Whole_now es r e a = absurd a
-begin_cause peers call (Acted number) es r e a = absurd a
-begin_cause peers call (Given number) es r e a = absurd a
-begin_cause peers call (Held number) es r e a = absurd a
+begin_cause : (m : ℕ) (peers : List Address) (call : Call) (answer : Answer) (es : List Event) (r : Reply) → es ≡ one call answer → AfterBegin peers answer r → RowCause m r.took es
+begin_cause m peers call (Begun number) es r e a = reply_cause m _ r es tt a
+begin_cause m peers call (Refused fault) es r e a = reply_cause m _ r es (inr (call, fault, e, refl)) a
+begin_cause m peers call (Queued slots) es r e a = absurd a
+begin_cause m peers call Let_in es r e a = absurd a
+begin_cause m peers call Busy es r e a = absurd a
+begin_cause m peers call (Offered number key) es r e a = absurd a
+begin_cause m peers call Nothing es r e a = absurd a
+begin_cause m peers call (Came bytes) es r e a = absurd a
+begin_cause m peers call Settled es r e a = absurd a
+begin_cause m peers call (Filed answer) es r e a = absurd a
+begin_cause m peers call More es r e a = absurd a
+begin_cause m peers call Whole_now es r e a = absurd a
+begin_cause m peers call (Acted number) es r e a = absurd a
+begin_cause m peers call (Given number) es r e a = absurd a
+begin_cause m peers call (Held number) es r e a = absurd a
 
 -- the outcome of a row over a message
 abbrev pub OutcomeCause : ℕ → Outcome → List Event → Type 0
-OutcomeCause n outcome es = RowCause (outcome_took n outcome) es
+OutcomeCause n outcome es = RowCause n (outcome_took n outcome) es
 
 verdict_cause : (n : ℕ) (v w : Verdict) (es : List Event) → OutcomeCause n w.outcome es → v ≡ w → OutcomeCause n v.outcome es
 verdict_cause n v w es p e = subst (λ (x : Verdict). OutcomeCause n x.outcome es) (sym e) p
@@ -97,7 +96,7 @@ file_cause n t key call (Filed Whole) es v e a = verdict_cause n v _ es tt a
 file_cause n t key call (Filed Elsewhere) es v e a = verdict_cause n v _ es tt a
 file_cause n t key call (Filed (From place)) es v e a = verdict_cause n v _ es tt a
 file_cause n t key call (Filed Go) es v e a = verdict_cause n v _ es tt a
-file_cause n t key call (Filed Late) es v e a = verdict_cause n v _ es (inl tt) a
+file_cause n t key call (Filed Late) es v e a = verdict_cause n v _ es (inl refl) a
 file_cause n t key call (Refused fault) es v e a = verdict_cause n v _ es (inr (call, fault, e, refl)) a
 file_cause n t key call (Queued slots) es v e a = absurd a
 file_cause n t key call Let_in es v e a = absurd a
@@ -132,73 +131,73 @@ data_cause n t key call (Held number) es v e a = absurd a
 
 take_cause : (n : ℕ) (held : Option Part) (t : Talk) (message : Message) (es : List Event) (v : Verdict) → TakeRow held t message es v → OutcomeCause n v.outcome es
 take_cause n held t (File key offset) es v (Asks zero answer e a) = file_cause n t key _ answer es v e a
-take_cause n held t (File key offset) es v (Not_yet some e a) = verdict_cause n v _ es (inl tt) a
+take_cause n held t (File key offset) es v (Not_yet some e a) = verdict_cause n v _ es (inl refl) a
 take_cause n held t (DataMessage bytes) es v (Nothing_held none e a) = verdict_cause n v _ es tt a
 take_cause n held t (DataMessage bytes) es v (Drops p is taking e a) = verdict_cause n v _ es tt a
-take_cause n held t (DataMessage bytes) es v (Exceeds p is taking over e a) = verdict_cause n v _ es (inl tt) a
+take_cause n held t (DataMessage bytes) es v (Exceeds p is taking over e a) = verdict_cause n v _ es (inl refl) a
 take_cause n held t (DataMessage bytes) es v (Fits p is taking fits answer e a) = data_cause n t p.key _ answer es v e a
 take_cause n held t EndMessage es v a = verdict_cause n v _ es tt a.1
 take_cause n held t (Got key) es v a = absurd a
 take_cause n held t (Get key offset) es v a = absurd a
 take_cause n held t (Skip key) es v a = absurd a
 
-talk_cause : (n : ℕ) (t : Talk) (held : Option Part) (message : Message) (es : List Event) (r : Reply) → TalkRow n t held message es r → RowCause r.took es
-talk_cause n t held message es r row = reply_cause _ r es (take_cause n held t message es row.verdict row.row) row.is
+talk_cause : (n : ℕ) (t : Talk) (held : Option Part) (message : Message) (es : List Event) (r : Reply) → TalkRow n t held message es r → RowCause n r.took es
+talk_cause n t held message es r row = reply_cause n _ r es (take_cause n held t message es row.verdict row.row) row.is
 
-password_cause : (s : Setting) (n : ℕ) (peers : List Address) (heard : Heard) (es : List Event) (r : Reply) → PasswordRow s n peers heard es r → RowCause r.took es
-password_cause s n peers Passed es r row = plain_cause _ r es tt row
-password_cause s n peers (Addresses addresses) es r row = plain_cause _ r es tt row
-password_cause s n peers (Password text) es r row = either (is_none text) _ _ _ (λ (l : LoginRow s peers es r). begin_cause peers _ l.answer es r l.asks l.follows) (λ p. plain_cause _ r es tt p) row
-password_cause s n peers (Offers key offset) es r row = plain_cause _ r es tt row
-password_cause s n peers Ends_batch es r row = plain_cause _ r es tt row
-password_cause s n peers Unbuilt es r row = plain_cause _ r es tt row
+password_cause : (s : Setting) (n : ℕ) (peers : List Address) (heard : Heard) (es : List Event) (r : Reply) → PasswordRow s n peers heard es r → RowCause n r.took es
+password_cause s n peers Passed es r row = plain_cause n _ r es tt row
+password_cause s n peers (Addresses addresses) es r row = plain_cause n _ r es tt row
+password_cause s n peers (Password text) es r row = either (is_none text) _ _ _ (λ (l : LoginRow s peers es r). begin_cause n peers _ l.answer es r l.asks l.follows) (λ p. plain_cause n _ r es refl p) row
+password_cause s n peers (Offers key offset) es r row = plain_cause n _ r es refl row
+password_cause s n peers Ends_batch es r row = plain_cause n _ r es refl row
+password_cause s n peers Unbuilt es r row = plain_cause n _ r es refl row
 
-logged_cause : (n : ℕ) (t : Talk) (held : Option Part) (heard : Heard) (es : List Event) (r : Reply) → LoggedRow n t held heard es r → RowCause r.took es
-logged_cause n t held Passed es r row = plain_cause _ r es tt row
-logged_cause n t held (Addresses addresses) es r row = plain_cause _ r es tt row
-logged_cause n t held (Password text) es r row = either (is_none text) _ _ _ (λ p. plain_cause _ r es tt p) (λ p. plain_cause _ r es tt p) row
+logged_cause : (n : ℕ) (t : Talk) (held : Option Part) (heard : Heard) (es : List Event) (r : Reply) → LoggedRow n t held heard es r → RowCause n r.took es
+logged_cause n t held Passed es r row = plain_cause n _ r es tt row
+logged_cause n t held (Addresses addresses) es r row = plain_cause n _ r es tt row
+logged_cause n t held (Password text) es r row = either (is_none text) _ _ _ (λ p. plain_cause n _ r es tt p) (λ p. plain_cause n _ r es refl p) row
 logged_cause n t held (Offers key offset) es r row = talk_cause n t held _ es r row
 logged_cause n t held Ends_batch es r row = talk_cause n t held _ es r row
-logged_cause n t held Unbuilt es r row = plain_cause _ r es tt row
+logged_cause n t held Unbuilt es r row = plain_cause n _ r es refl row
 
-heard_cause : (s : Setting) (n : ℕ) (stage : Stage) (heard : Heard) (es : List Event) (r : Reply) → HeardRow s n stage heard es r → RowCause r.took es
-heard_cause s n Awaits_address heard es r row = plain_cause _ r es (before_plain s.home n heard) row
+heard_cause : (s : Setting) (n : ℕ) (stage : Stage) (heard : Heard) (es : List Event) (r : Reply) → HeardRow s n stage heard es r → RowCause n r.took es
+heard_cause s n Awaits_address heard es r row = plain_cause n _ r es (before_plain s.home n heard) row
 heard_cause s n (Awaits_password peers) heard es r row = password_cause s n peers heard es r row
 heard_cause s n (Talks t held) heard es r row = logged_cause n t held heard es r row
 
-read_cause : (s : Setting) (n : ℕ) (stage : Stage) (read : Result CommandText ArgFault) (es : List Event) (r : Reply) → ReadRow s n stage read es r → RowCause r.took es
+read_cause : (s : Setting) (n : ℕ) (stage : Stage) (read : Result CommandText ArgFault) (es : List Event) (r : Reply) → ReadRow s n stage read es r → RowCause n r.took es
 read_cause s n stage (Ok command) es r row = heard_cause s n stage (heard_of command) es r row
-read_cause s n stage (Err fault) es r row = plain_cause _ r es tt row
+read_cause s n stage (Err fault) es r row = plain_cause n _ r es refl row
 
-data_row_cause : (n : ℕ) (stage : Stage) (bytes : List ℕ) (es : List Event) (r : Reply) → DataRow n stage bytes es r → RowCause r.took es
-data_row_cause n Awaits_address bytes es r row = plain_cause _ r es tt row
-data_row_cause n (Awaits_password peers) bytes es r row = plain_cause _ r es tt row
+data_row_cause : (n : ℕ) (stage : Stage) (bytes : List ℕ) (es : List Event) (r : Reply) → DataRow n stage bytes es r → RowCause n r.took es
+data_row_cause n Awaits_address bytes es r row = plain_cause n _ r es refl row
+data_row_cause n (Awaits_password peers) bytes es r row = plain_cause n _ r es refl row
 data_row_cause n (Talks t held) bytes es r row = talk_cause n t held _ es r row
 
-pub row_cause : (s : Setting) (n : ℕ) (stage : Stage) (frame : FrameText) (es : List Event) (r : Reply) → Row s n stage frame es r → RowCause r.took es
-row_cause s n stage (Command number args) es r row = either (is_unbuilt number) _ _ _ (λ p. plain_cause _ r es tt p) (λ q. read_cause s n stage (command_of s.home number args) es r q) row
+pub row_cause : (s : Setting) (n : ℕ) (stage : Stage) (frame : FrameText) (es : List Event) (r : Reply) → Row s n stage frame es r → RowCause n r.took es
+row_cause s n stage (Command number args) es r row = either (is_unbuilt number) _ _ _ (λ p. plain_cause n _ r es refl p) (λ q. read_cause s n stage (command_of s.home number args) es r q) row
 row_cause s n stage (Data bytes) es r row = data_row_cause n stage bytes es r row
 
-pub said_cause : (output : List ℕ) (goal : Took) (written : List ℕ) (took : Took) (es : List Event) → RowCause goal es → Said output goal written took → RowCause took es
-said_cause output goal written took es c (inl s) = subst (λ (x : Took). RowCause x es) (sym s.0) c
-said_cause output goal written took es c (inr s) = subst (λ (x : Took). RowCause x es) (sym s.0) (inl tt)
+pub said_cause : (m : ℕ) (output : List ℕ) (goal : Took) (written : List ℕ) (took : Took) (es : List Event) → RowCause m goal es → Said output goal written took → RowCause m took es
+said_cause m output goal written took es c (inl s) = subst (λ (x : Took). RowCause m x es) (sym s.0) c
+said_cause m output goal written took es c (inr s) = subst (λ (x : Took). RowCause m x es) (sym s.0) (inl tt)
 
-pub knock_cause : (s : Setting) (call : Call) (answer : Answer) (r : Reply) → AfterKnock s answer r → RowCause r.took (one call answer)
-knock_cause s call Let_in r a = reply_cause _ r _ tt a
-knock_cause s call (Refused fault) r a = reply_cause _ r _ (inr (call, fault, refl, refl)) a
-knock_cause s call (Queued slots) r a = absurd a
-knock_cause s call Busy r a = absurd a
-knock_cause s call (Begun number) r a = absurd a
-knock_cause s call (Offered number k) r a = absurd a
-knock_cause s call Nothing r a = absurd a
-knock_cause s call (Came bytes) r a = absurd a
-knock_cause s call Settled r a = absurd a
-knock_cause s call (Filed answer) r a = absurd a
-knock_cause s call More r a = absurd a
-knock_cause s call Whole_now r a = absurd a
-knock_cause s call (Acted number) r a = absurd a
-knock_cause s call (Given number) r a = absurd a
-knock_cause s call (Held number) r a = absurd a
+pub knock_cause : (m : ℕ) (s : Setting) (call : Call) (answer : Answer) (r : Reply) → AfterKnock s answer r → RowCause m r.took (one call answer)
+knock_cause m s call Let_in r a = reply_cause m _ r _ tt a
+knock_cause m s call (Refused fault) r a = reply_cause m _ r _ (inr (call, fault, refl, refl)) a
+knock_cause m s call (Queued slots) r a = absurd a
+knock_cause m s call Busy r a = absurd a
+knock_cause m s call (Begun number) r a = absurd a
+knock_cause m s call (Offered number k) r a = absurd a
+knock_cause m s call Nothing r a = absurd a
+knock_cause m s call (Came bytes) r a = absurd a
+knock_cause m s call Settled r a = absurd a
+knock_cause m s call (Filed answer) r a = absurd a
+knock_cause m s call More r a = absurd a
+knock_cause m s call Whole_now r a = absurd a
+knock_cause m s call (Acted number) r a = absurd a
+knock_cause m s call (Given number) r a = absurd a
+knock_cause m s call (Held number) r a = absurd a
 
 -- the own turn ends a session at Finished alone
 abbrev pub Finished_alone : Gave → Type 0
@@ -282,22 +281,22 @@ fault_cause a b c (Read count) s read = inr (rose_from a.faults b.faults c.fault
 fault_cause a b c Full s full = rose_from a.fulls b.fulls c.fulls s.fulls full.0
 fault_cause a b c No_memory s e = tt
 
-plain_desk : (end : End) (a c : Counts) → Plain_end end → DeskCause end a c
-plain_desk E.Finished a c p = tt
-plain_desk (E.Broke cause n) a c p = tt
-plain_desk E.NoMemory a c p = tt
-plain_desk E.Dropped a c p = absurd p
-plain_desk E.LineFault a c p = absurd p
-plain_desk (E.DiskFault count) a c p = absurd p
-plain_desk E.LedgerFull a c p = absurd p
-plain_desk E.Quiet a c p = absurd p
-plain_desk E.Endless a c p = absurd p
+plain_desk : (m : ℕ) (end : End) (a c : Counts) → Plain_end m end → DeskCause end a c
+plain_desk m E.Finished a c p = absurd p
+plain_desk m (E.Broke cause n) a c p = tt
+plain_desk m E.NoMemory a c p = tt
+plain_desk m E.Dropped a c p = absurd p
+plain_desk m E.LineFault a c p = absurd p
+plain_desk m (E.DiskFault count) a c p = absurd p
+plain_desk m E.LedgerFull a c p = absurd p
+plain_desk m E.Quiet a c p = absurd p
+plain_desk m E.Endless a c p = absurd p
 
 one_caused : (a b : DeskState) (es : List Event) (call : Call) (answer : Answer) → es ≡ one call answer → Chain true a es b → Caused (counts_of a.knows) answer (counts_of b.knows)
 one_caused a b es call answer e c =
     let x = subst (λ (l : List Event). Chain true a l b) e c in
     subst (λ (d : DeskState). Caused (counts_of a.knows) answer (counts_of d.knows)) (sym x.2) (caused_alone a x.0 call answer x.1)
 
-pub row_desk : (before : Counts) (a b : DeskState) (es : List Event) (end : End) → Since before (counts_of a.knows) → Chain true a es b → RowCause (T.Ended end) es → DeskCause end before (counts_of b.knows)
-row_desk before a b es end s c (inl p) = plain_desk end before (counts_of b.knows) p
-row_desk before a b es end s c (inr r) = subst (λ x. DeskCause x before (counts_of b.knows)) (sym r.3) (fault_cause before (counts_of a.knows) (counts_of b.knows) r.1 s (one_caused a b es r.0 (Refused r.1) r.2 c))
+pub row_desk : (m : ℕ) (before : Counts) (a b : DeskState) (es : List Event) (end : End) → Since before (counts_of a.knows) → Chain true a es b → RowCause m (T.Ended end) es → DeskCause end before (counts_of b.knows)
+row_desk m before a b es end s c (inl p) = plain_desk m end before (counts_of b.knows) p
+row_desk m before a b es end s c (inr r) = subst (λ x. DeskCause x before (counts_of b.knows)) (sym r.3) (fault_cause before (counts_of a.knows) (counts_of b.knows) r.1 s (one_caused a b es r.0 (Refused r.1) r.2 c))

@@ -17,14 +17,15 @@ use Rattle.std.specs.Prelude.{nat_le, if◌then◌else◌}
 use Rattle.binkp_link.specs.Lines.{LineState, Moves, came, went}
 use Rattle.session_core.specs.Sessions.{Setting, frame_number}
 use Rattle.session_run.specs.Machine.{World, Phase, Starting, Taking, Writing, Reading, Over, Draining, Closed, MayGiveUp, Step, greets, takes_frame, makes_turn, writes, passes_write, reads, gives_up, leaves, drains, closes, Reach, here, next, opening, after_took, after_gave, after_leave, after_read, after_write, after_drain}
-use Rattle.session_run.specs.Laws.{Facts, joined, EndCount, EndCountAt, LineCause, LineCauseAt, WholeAt, DeskCause, DeskCauseAt, Since}
+use Rattle.session_run.specs.Laws.{Facts, OwnCauseAt, joined, EndCount, EndCountAt, LineCause, LineCauseAt, WholeAt, DeskCause, DeskCauseAt, Since}
 use Rattle.node_model.proofs.RisingCounts.{chain_joins}
 use Rattle.session_run.proofs.Causes.{RowCause, row_cause, said_cause, knock_cause, Finished_alone, turn_finishes, since_on, since_same, since_chain, caused_alone, row_desk}
+use Rattle.session_run.proofs.OwnCauses.{no_broke, took_own, said_broke, gave_own, read_own, write_own, drain_own, leave_own}
 use Rattle.session_run.proofs.LineLaws.{joined-last, moves_on, moves_not, took_ends, took_line, read_ends, read_faults, read_line, write_ends, write_faults, write_line, leave_ends, leave_line, leave_desk, drain_ends, drain_line, drain_whole, close_whole, rest_of, sent_on}
 
-took_desk : (alone : Bool) (before : Counts) (a b : DeskState) (es : List Event) (took : Took) → (alone ≡ true → Since before (counts_of a.knows)) → Chain alone a es b → RowCause took es → alone ≡ true → DeskCauseAt (after_took took) before (counts_of b.knows)
-took_desk alone before a b es T.More s chain cause is = tt
-took_desk alone before a b es (T.Ended end) s chain cause is = row_desk before a b es end (s is) (subst (λ x. Chain x a es b) is chain) cause
+took_desk : (m : ℕ) (alone : Bool) (before : Counts) (a b : DeskState) (es : List Event) (took : Took) → (alone ≡ true → Since before (counts_of a.knows)) → Chain alone a es b → RowCause m took es → alone ≡ true → DeskCauseAt (after_took took) before (counts_of b.knows)
+took_desk m alone before a b es T.More s chain cause is = tt
+took_desk m alone before a b es (T.Ended end) s chain cause is = row_desk m before a b es end (s is) (subst (λ x. Chain x a es b) is chain) cause
 
 turn_ends : (gave : Gave) (before now : ℕ) → Finished_alone gave → now ≡ before → EndCountAt (after_gave gave) before now
 turn_ends G.Sent before now f e = e
@@ -127,7 +128,8 @@ since_after alone before a b es s chain is = since_chain before a b es (s is) (c
 pub keeps : (alone : Bool) (line : LineState) (desk : DeskState) (w v : World) → Facts alone line desk w → Step alone w v → Facts alone line desk v
 keeps alone line desk w v f (greets s) =
     let chain : Chain alone w.desk (one (Knock_call Answers) s.answer) s.desk = (s.desk, s.call, refl) in
-    let cause = said_cause s.reply.output s.reply.took s.output s.took _ (knock_cause w.setting (Knock_call Answers) s.answer s.reply s.follows) s.said in
+    let cause = said_cause 0 s.reply.output s.reply.took s.output s.took _ (knock_cause 0 w.setting (Knock_call Answers) s.answer s.reply s.follows) s.said in
+    let later = said_cause 1 s.reply.output s.reply.took s.output s.took _ (knock_cause 1 w.setting (Knock_call Answers) s.answer s.reply s.follows) s.said in
     subst (Facts alone line desk) (sym s.is) (record {
       pieces = f.pieces;
       moves = f.moves;
@@ -136,13 +138,15 @@ keeps alone line desk w v f (greets s) =
       front = ap (λ x. x ++ s.output) f.front ∙ append_assoc w.sent f.left s.output;
       whole = took_whole s.took _ _ _ _;
       faults = f.faults;
-      ends = took_ends s.took _ line.ends w.line.ends cause (subst (λ p. EndCountAt p line.ends w.line.ends) s.phase f.ends);
-      line_cause = took_line s.took _ _ _ _ cause;
+      ends = took_ends 0 s.took _ line.ends w.line.ends cause (subst (λ p. EndCountAt p line.ends w.line.ends) s.phase f.ends);
+      line_cause = took_line 0 s.took _ _ _ _ cause;
       counts = since_after alone _ w.desk s.desk (one (Knock_call Answers) s.answer) f.counts chain;
-      desk_cause = took_desk alone _ w.desk s.desk (one (Knock_call Answers) s.answer) s.took f.counts chain cause;
+      desk_cause = took_desk 0 alone _ w.desk s.desk (one (Knock_call Answers) s.answer) s.took f.counts chain cause;
+      own_cause = took_own 0 s.took (one (Knock_call Answers) s.answer) w.setting s.reply.stage w.frames w.taken w.sent cause (λ c e. absurd (no_broke c 0 (one (Knock_call Answers) s.answer) (subst (λ (t : Took). RowCause 1 t (one (Knock_call Answers) s.answer)) e later)));
     })
 keeps alone line desk w v f (takes_frame s) =
-    let cause = said_cause s.reply.output s.reply.took s.output s.took s.events (row_cause w.setting _ w.stage s.frame s.events s.reply s.row) s.said in
+    let n = frame_number (w.frames ++ s.frame ∷ []) in
+    let cause = said_cause n s.reply.output s.reply.took s.output s.took s.events (row_cause w.setting n w.stage s.frame s.events s.reply s.row) s.said in
     subst (Facts alone line desk) (sym s.is) (record {
       pieces = f.pieces;
       moves = f.moves;
@@ -151,10 +155,11 @@ keeps alone line desk w v f (takes_frame s) =
       front = ap (λ x. x ++ s.output) f.front ∙ append_assoc w.sent f.left s.output;
       whole = took_whole s.took _ _ _ _;
       faults = f.faults;
-      ends = took_ends s.took s.events line.ends w.line.ends cause (subst (λ p. EndCountAt p line.ends w.line.ends) s.phase f.ends);
-      line_cause = took_line s.took s.events _ _ _ cause;
+      ends = took_ends n s.took s.events line.ends w.line.ends cause (subst (λ p. EndCountAt p line.ends w.line.ends) s.phase f.ends);
+      line_cause = took_line n s.took s.events _ _ _ cause;
       counts = since_after alone _ w.desk s.desk s.events f.counts s.chain;
-      desk_cause = took_desk alone _ w.desk s.desk s.events s.took f.counts s.chain cause;
+      desk_cause = took_desk n alone _ w.desk s.desk s.events s.took f.counts s.chain cause;
+      own_cause = took_own n s.took s.events w.setting s.reply.stage (w.frames ++ s.frame ∷ []) w.taken w.sent cause (λ c e. record { rest = s.rest; begins = s.next; earlier = w.frames; frame = s.frame; last = refl; number = refl; stage = w.stage; events = s.events; reply = s.reply; row = s.row; took = said_broke s.reply.output s.reply.took s.output s.took c n s.said e });
     })
 keeps alone line desk w v f (makes_turn s) =
     let alone_is = turn_finishes w.stage s.turn s.row in
@@ -170,6 +175,7 @@ keeps alone line desk w v f (makes_turn s) =
       line_cause = turn_line s.turn.gave _ _ _ alone_is;
       counts = f.counts;
       desk_cause = λ is. turn_desk s.turn.gave _ _ alone_is;
+      own_cause = gave_own w.stage s.turn w.setting w.frames w.taken w.sent s.row;
     })
 keeps alone line desk w v f (writes s) = subst (Facts alone line desk) (sym s.is) (record {
   pieces = f.pieces;
@@ -183,6 +189,7 @@ keeps alone line desk w v f (writes s) = subst (Facts alone line desk) (sym s.is
   line_cause = write_line w.line s.line s.answer s.left w.setting.limit _ line.faults s.waits s.step f.faults;
   counts = f.counts;
   desk_cause = λ is. on_desk _ _ _ (write_on s.answer w.setting.limit _ s.line.calm s.waits);
+  own_cause = write_own s.answer s.line.calm s.waits w.setting w.stage w.frames w.taken (w.sent ++ went s.answer s.left);
 })
 keeps alone line desk w v f (passes_write s) = subst (Facts alone line desk) (sym s.is) (record {
   pieces = f.pieces;
@@ -196,6 +203,7 @@ keeps alone line desk w v f (passes_write s) = subst (Facts alone line desk) (sy
   line_cause = tt;
   counts = f.counts;
   desk_cause = λ is. tt;
+  own_cause = tt;
 })
 keeps alone line desk w v f (reads s) = subst (Facts alone line desk) (sym s.is) (record {
   pieces = joined-last w.pieces (came s.answer s.buffer) ∙ ap (λ x. x ++ came s.answer s.buffer) f.pieces;
@@ -209,6 +217,7 @@ keeps alone line desk w v f (reads s) = subst (Facts alone line desk) (sym s.is)
   line_cause = read_line _ w.line s.line s.answer s.buffer w.setting.limit _ line.faults s.step f.faults;
   counts = f.counts;
   desk_cause = λ is. on_desk _ _ _ (read_on s.answer w.setting.limit _ s.line.calm);
+  own_cause = read_own s.answer s.line.calm w.setting w.stage w.frames (w.taken ++ came s.answer s.buffer) w.sent;
 })
 keeps alone line desk w v f (gives_up s) = subst (Facts alone line desk) (sym s.is) (record {
   pieces = f.pieces;
@@ -222,6 +231,7 @@ keeps alone line desk w v f (gives_up s) = subst (Facts alone line desk) (sym s.
   line_cause = tt;
   counts = f.counts;
   desk_cause = λ is. tt;
+  own_cause = tt;
 })
 keeps alone line desk w v f (leaves s) =
     let chain : Chain alone w.desk (one Leave_call s.answer) s.desk = (s.desk, s.call, refl) in
@@ -238,6 +248,7 @@ keeps alone line desk w v f (leaves s) =
       counts = since_after alone _ w.desk s.desk (one Leave_call s.answer) f.counts chain;
       desk_cause = λ is. leave_desk s.end s.answer (counts_of desk.knows) (counts_of w.desk.knows) (counts_of s.desk.knows) (f.counts is) (caused_alone w.desk s.desk Leave_call s.answer (subst (λ x. Calls x w.desk Leave_call s.answer s.desk) is s.call))
           (subst (λ p. DeskCauseAt p (counts_of desk.knows) (counts_of w.desk.knows)) s.phase (f.desk_cause is));
+      own_cause = leave_own s.end s.answer w.setting w.stage w.frames w.taken w.sent (subst (λ (p : Phase). OwnCauseAt p w.setting w.stage w.frames w.taken w.sent) s.phase f.own_cause);
     })
 keeps alone line desk w v f (drains s) = subst (Facts alone line desk) (sym s.is) (record {
   pieces = f.pieces;
@@ -251,6 +262,7 @@ keeps alone line desk w v f (drains s) = subst (Facts alone line desk) (sym s.is
   line_cause = drain_line s.answer s.end _ _ _ s.speaks;
   counts = f.counts;
   desk_cause = λ is. drain_desk s.answer s.end s.line.calm _ _ (subst (λ p. DeskCauseAt p (counts_of desk.knows) (counts_of w.desk.knows)) s.phase (f.desk_cause is));
+  own_cause = drain_own s.answer s.line.calm s.end w.setting w.stage w.frames w.taken w.sent (went s.answer s.left) (subst (λ (p : Phase). OwnCauseAt p w.setting w.stage w.frames w.taken w.sent) s.phase f.own_cause);
 })
 keeps alone line desk w v f (closes s) = subst (Facts alone line desk) (sym s.is) (record {
   pieces = f.pieces;
@@ -264,6 +276,7 @@ keeps alone line desk w v f (closes s) = subst (Facts alone line desk) (sym s.is
   line_cause = subst (λ p. LineCauseAt p line.faults w.line.faults w.line.calm) s.phase f.line_cause;
   counts = f.counts;
   desk_cause = λ is. subst (λ p. DeskCauseAt p (counts_of desk.knows) (counts_of w.desk.knows)) s.phase (f.desk_cause is);
+  own_cause = subst (λ (p : Phase). OwnCauseAt p w.setting w.stage w.frames w.taken w.sent) s.phase f.own_cause;
 })
 
 pub facts_on : (alone : Bool) (line : LineState) (desk : DeskState) (w v : World) → Facts alone line desk w → Reach alone w v → Facts alone line desk v
@@ -272,4 +285,4 @@ facts_on alone line desk w v f (next {u} r s) = keeps alone line desk u v (facts
 
 pub facts_open : (alone : Bool) (s : Setting) (line : LineState) (desk : DeskState) → Facts alone line desk (opening s line desk)
 facts_open alone s line desk =
-    record { pieces = refl; moves = moves_not line.bytes; chain = refl; left = []; front = refl; whole = tt; faults = omega arith; ends = refl; line_cause = tt; counts = λ is. since_same (counts_of desk.knows); desk_cause = λ is. tt }
+    record { pieces = refl; moves = moves_not line.bytes; chain = refl; left = []; front = refl; whole = tt; faults = omega arith; ends = refl; line_cause = tt; counts = λ is. since_same (counts_of desk.knows); desk_cause = λ is. tt; own_cause = tt }

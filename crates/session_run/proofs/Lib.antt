@@ -4,3 +4,5 @@ pub mod Left
 pub mod Causes
 pub mod LineLaws
 pub mod Laws
+pub mod OwnCauses
+pub mod Settings

@@ -40,49 +40,49 @@ moves_not None = tt
 moves_not (Some a) = (refl, sym (append-nil a.taken), sym (append-nil a.sent))
 
 -- an end that a row gives comes from no count of the line
-row_ends : (end : End) (es : List Event) (before now : ℕ) → Plain_end end ⊎ Refused_end end es → now ≡ before → EndCount end before now
-row_ends end es before now (inr r) e = subst (λ x. EndCount x before now) (sym r.3) (by_fault r.1)
+row_ends : (m : ℕ) (end : End) (es : List Event) (before now : ℕ) → Plain_end m end ⊎ Refused_end end es → now ≡ before → EndCount end before now
+row_ends m end es before now (inr r) e = subst (λ x. EndCount x before now) (sym r.3) (by_fault r.1)
   where
     by_fault : (fault : Fault) → EndCount (fault_end fault) before now
     by_fault (Disk count) = inl e
     by_fault (Read count) = inl e
     by_fault Full = e
     by_fault No_memory = e
-row_ends E.Finished es before now (inl p) e = e
-row_ends (E.Broke cause n) es before now (inl p) e = e
-row_ends E.NoMemory es before now (inl p) e = e
-row_ends E.Dropped es before now (inl p) e = absurd p
-row_ends E.LineFault es before now (inl p) e = absurd p
-row_ends (E.DiskFault count) es before now (inl p) e = absurd p
-row_ends E.LedgerFull es before now (inl p) e = absurd p
-row_ends E.Quiet es before now (inl p) e = absurd p
-row_ends E.Endless es before now (inl p) e = absurd p
+row_ends m E.Finished es before now (inl p) e = absurd p
+row_ends m (E.Broke cause n) es before now (inl p) e = e
+row_ends m E.NoMemory es before now (inl p) e = e
+row_ends m E.Dropped es before now (inl p) e = absurd p
+row_ends m E.LineFault es before now (inl p) e = absurd p
+row_ends m (E.DiskFault count) es before now (inl p) e = absurd p
+row_ends m E.LedgerFull es before now (inl p) e = absurd p
+row_ends m E.Quiet es before now (inl p) e = absurd p
+row_ends m E.Endless es before now (inl p) e = absurd p
 
-pub took_ends : (took : Took) (es : List Event) (before now : ℕ) → RowCause took es → now ≡ before → EndCountAt (after_took took) before now
-took_ends T.More es before now c e = e
-took_ends (T.Ended end) es before now c e = row_ends end es before now c e
+pub took_ends : (m : ℕ) (took : Took) (es : List Event) (before now : ℕ) → RowCause m took es → now ≡ before → EndCountAt (after_took took) before now
+took_ends m T.More es before now c e = e
+took_ends m (T.Ended end) es before now c e = row_ends m end es before now c e
 
-row_line : (end : End) (es : List Event) (before now calm : ℕ) → Plain_end end ⊎ Refused_end end es → LineCause end before now calm
-row_line end es before now calm (inr r) = subst (λ x. LineCause x before now calm) (sym r.3) (by_fault r.1)
+row_line : (m : ℕ) (end : End) (es : List Event) (before now calm : ℕ) → Plain_end m end ⊎ Refused_end end es → LineCause end before now calm
+row_line m end es before now calm (inr r) = subst (λ x. LineCause x before now calm) (sym r.3) (by_fault r.1)
   where
     by_fault : (fault : Fault) → LineCause (fault_end fault) before now calm
     by_fault (Disk count) = tt
     by_fault (Read count) = tt
     by_fault Full = tt
     by_fault No_memory = tt
-row_line E.Finished es before now calm (inl p) = tt
-row_line (E.Broke cause n) es before now calm (inl p) = tt
-row_line E.NoMemory es before now calm (inl p) = tt
-row_line E.Dropped es before now calm (inl p) = tt
-row_line E.LineFault es before now calm (inl p) = absurd p
-row_line (E.DiskFault count) es before now calm (inl p) = tt
-row_line E.LedgerFull es before now calm (inl p) = tt
-row_line E.Quiet es before now calm (inl p) = absurd p
-row_line E.Endless es before now calm (inl p) = tt
+row_line m E.Finished es before now calm (inl p) = absurd p
+row_line m (E.Broke cause n) es before now calm (inl p) = tt
+row_line m E.NoMemory es before now calm (inl p) = tt
+row_line m E.Dropped es before now calm (inl p) = tt
+row_line m E.LineFault es before now calm (inl p) = absurd p
+row_line m (E.DiskFault count) es before now calm (inl p) = tt
+row_line m E.LedgerFull es before now calm (inl p) = tt
+row_line m E.Quiet es before now calm (inl p) = absurd p
+row_line m E.Endless es before now calm (inl p) = tt
 
-pub took_line : (took : Took) (es : List Event) (before now calm : ℕ) → RowCause took es → LineCauseAt (after_took took) before now calm
-took_line T.More es before now calm c = tt
-took_line (T.Ended end) es before now calm c = row_line end es before now calm c
+pub took_line : (m : ℕ) (took : Took) (es : List Event) (before now calm : ℕ) → RowCause m took es → LineCauseAt (after_took took) before now calm
+took_line m T.More es before now calm c = tt
+took_line m (T.Ended end) es before now calm c = row_line m end es before now calm c
 
 cond_ends : (b : Bool) (end : End) (goal : Phase) (before now : ℕ) → EndCountAt (Over end) before now → EndCountAt goal before now → EndCountAt (if b then Over end else goal) before now
 cond_ends true end goal before now x y = x

@@ -1,11 +1,16 @@
 -- What holds of every session, in the subject's own words (own, after FTS-1026).
-use Rattle.std.specs.Prelude.{◌≡◌, ◌⊎◌, ℕ, ◌≤◌, Bool, true, List, [], ◌∷◌, ◌++◌, length, Option, Some}
+use Rattle.std.specs.Prelude.{◌≡◌, ◌⊎◌, ℕ, ◌+◌, ◌≤◌, Bool, true, List, [], ◌∷◌, ◌++◌, length, Option, Some}
 use Rattle.ftn_addr.specs.Counts.{Rose, risen}
-use Rattle.node_model.specs.Calls.{Counts, counts_of, DeskState, Chain}
+use Rattle.ftn_addr.specs.Frames.{FrameText}
+use Rattle.binkp_frame.specs.Stream.{Begins}
+use Rattle.node_model.specs.Calls.{Counts, counts_of, DeskState, Chain, Event}
+use Rattle.node_model.specs.Talk.{is_finished}
+use Rattle.session_core.specs.declared.ending.Cause.{Cause}
 use Rattle.session_core.specs.declared.ending.End.{End}
 use Rattle.session_core.specs.declared.ending.End.TheVariants as E
+use Rattle.session_core.specs.declared.ending.Took.TheVariants as T
 use Rattle.binkp_link.specs.Lines.{LineState, Moves}
-use Rattle.session_core.specs.Sessions.{Setting}
+use Rattle.session_core.specs.Sessions.{Setting, Stage, Talks, Reply, Row, frame_number}
 use Rattle.session_run.specs.Machine.{World, Phase, Over, Draining, Closed, Reach, opening}
 
 abbrev pub joined : List (List ℕ) → List ℕ
@@ -48,6 +53,39 @@ DeskCauseAt (Draining end) before now = DeskCause end before now
 DeskCauseAt (Closed end) before now = DeskCause end before now
 DeskCauseAt _ before now = Unit {0}
 
+-- The frame with that number, the last that was taken of these bytes, was refused so.
+pub record Refuses (cause : Cause) (n : ℕ) (setting : Setting) (frames : List FrameText) (taken : List ℕ) : Type 0 where
+  pub rest : List ℕ
+  pub begins : Begins taken frames rest
+  pub earlier : List FrameText
+  pub frame : FrameText
+  pub last : frames ≡ earlier ++ frame ∷ []
+  pub number : n ≡ frame_number frames
+  pub stage : Stage
+  pub events : List Event
+  pub reply : Reply
+  pub row : Row setting n stage frame events reply
+  pub took : reply.took ≡ T.Ended (E.Broke cause n)
+
+-- both sides have said that they are done, and no file is held
+abbrev pub IsDone : Stage → Type 0
+IsDone (Talks talk held) = is_finished talk held ≡ true
+IsDone stage = ⊥
+
+-- Finished comes only once both sides are done, Broke only where that frame was refused so, Endless only where the bytes
+-- taken and sent reach the limit
+abbrev pub OwnCause : End → Setting → Stage → List FrameText → (taken sent : List ℕ) → Type 0
+OwnCause E.Finished setting stage frames taken sent = IsDone stage
+OwnCause (E.Broke cause n) setting stage frames taken sent = Refuses cause n setting frames taken
+OwnCause E.Endless setting stage frames taken sent = setting.limit ≤ length taken + length sent
+OwnCause _ setting stage frames taken sent = Unit {0}
+
+abbrev pub OwnCauseAt : Phase → Setting → Stage → List FrameText → (taken sent : List ℕ) → Type 0
+OwnCauseAt (Over end) setting stage frames taken sent = OwnCause end setting stage frames taken sent
+OwnCauseAt (Draining end) setting stage frames taken sent = OwnCause end setting stage frames taken sent
+OwnCauseAt (Closed end) setting stage frames taken sent = OwnCause end setting stage frames taken sent
+OwnCauseAt _ setting stage frames taken sent = Unit {0}
+
 -- once closed, all was sent, or the line failed, or it was quiet sixty times on end
 abbrev pub WholeAt : Phase → ℕ → LineState → (output sent : List ℕ) → Type 0
 WholeAt (Closed end) before line output sent = (output ≡ sent) ⊎ (Rose before line.faults ⊎ (60 ≤ line.calm))
@@ -80,6 +118,7 @@ pub record Facts (alone : Bool) (line : LineState) (desk : DeskState) (w : World
   pub line_cause : LineCauseAt w.phase line.faults w.line.faults w.line.calm
   pub counts : alone ≡ true → Since (counts_of desk.knows) (counts_of w.desk.knows)
   pub desk_cause : alone ≡ true → DeskCauseAt w.phase (counts_of desk.knows) (counts_of w.desk.knows)
+  pub own_cause : OwnCauseAt w.phase w.setting w.stage w.frames w.taken w.sent
 
 -- A session that ended so, over this line and this desk: a run from the opening to its close, and what holds of it.
 pub record IsSession (alone : Bool) (setting : Setting) (line : LineState) (desk : DeskState) (end : End) (taken : ℕ) (line' : LineState) (desk' : DeskState) : Type 0 where
