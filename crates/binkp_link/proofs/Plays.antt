@@ -1,14 +1,14 @@
 -- How a script of reads is played, act by act.
-use Rattle.std.proofs.Common.{◌≡◌, ◌≢◌, ℕ, ◌+◌, ◌-◌, ◌<◌, ◌≤◌, ◌⊎◌, inl, inr, Bool, true, false, List, [], ◌∷◌, ◌++◌, length, map, take, drop, Option, Some, None, IsSome, nat_lt, get_or, arith, rules, refl, sym, ◌∙◌, ap, subst}
-use Rattle.std.specs.Prelude.{flat_map, min}
+use Rattle.std.proofs.Common.{◌≡◌, ◌≢◌, ℕ, ◌+◌, ◌-◌, ◌<◌, ◌≤◌, Bool, true, false, List, [], ◌∷◌, ◌++◌, length, map, take, drop, Some, None, IsSome, nat_lt, get_or, arith, rules, refl, sym, ◌∙◌, ap, subst}
+use Rattle.std.specs.Prelude.{min}
 use Rattle.std.proofs.lemmas.List.{get_or-map, drop_more, take_more, length-drop, drop-drop, append_assoc, append-nil, take-append-drop, length-map}
 use Rattle.std.proofs.lemmas.Bool.{cond_below, cond_above, cond_both, ltb-false}
 use Rattle.std.proofs.lemmas.Grind.{flat_map-append}
 use Rattle.std.proofs.Math.Seq.{take-add, take-nil}
 use Rattle.std.proofs.Math.ListN.{drop_of_length-le}
 use Rattle.binkp_link.specs.declared.acts.ReadAct.{ReadAct}
-use Rattle.binkp_link.specs.Scripts.{Act, Bytes, Not_yet, Quiet, Failed, Script, act_of, act_bytes, script_bytes, AllGiveSome, GivesSome, first_act, first_bytes, without_front, past_not_yet, heeded, place_on, played, turn_at, read_turn, ReadTurn, PlaysRead}
-use Rattle.binkp_link.specs.Lines.{LineBytes, MayRead}
+use Rattle.binkp_link.specs.Scripts.{Act, Bytes, Not_yet, Quiet, Failed, Script, act_of, act_bytes, script_bytes, AllGiveSome, first_act, first_bytes, without_front, past_not_yet, heeded, place_on, played, turn_at, read_turn, PlaysRead}
+use Rattle.binkp_link.specs.Lines.{MayRead}
 use Rattle.binkp_link.specs.declared.link.ReadAnswer.{ReadAnswer}
 
 -- the act at a place is the first of those left

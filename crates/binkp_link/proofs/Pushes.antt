@@ -1,7 +1,7 @@
 -- An act that gives something, behind others that do.
-use Rattle.std.proofs.Common.{◌≡◌, ◌<◌, ℕ, List, [], ◌∷◌, ◌++◌, length, map, refl, sym, ap, subst}
+use Rattle.std.proofs.Common.{◌≡◌, List, [], ◌∷◌, ◌++◌, map, sym, subst}
 use Rattle.binkp_link.specs.declared.acts.ReadAct.{ReadAct}
-use Rattle.binkp_link.specs.Scripts.{Act, AllGiveSome, GivesSome, act_of}
+use Rattle.binkp_link.specs.Scripts.{AllGiveSome, GivesSome, act_of}
 
 some_after : (acts : List ReadAct) (act : ReadAct) → AllGiveSome (map act_of acts) → GivesSome (act_of act) → AllGiveSome (map act_of (acts ++ act ∷ []))
 some_after [] act all one = (one, tt)

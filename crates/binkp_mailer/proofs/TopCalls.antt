@@ -1,8 +1,7 @@
 -- What a held session tells of the call's status, and of receipts.
-use Rattle.std.proofs.Common.{◌≡◌, ◌⊎◌, ◌∙◌, ℕ, ◌≤◌, Bool, true, List, Option, Some, None, refl, sym, ap, subst, inl, inr}
+use Rattle.std.proofs.Common.{◌≡◌, ◌⊎◌, ◌∙◌, ℕ, ◌+◌, ◌-◌, ◌≤◌, arith, true, List, ◌++◌, length, Option, Some, None, refl, sym, ap, subst, inl, inr}
 use Rattle.ftn_addr.specs.Address.{Address}
-use Rattle.ftn_addr.specs.Counts.{Rose, risen}
-use Rattle.node_model.specs.Calls.{Counts, counts_of, DeskState, Chain, Knows, Tells, Counts_alone}
+use Rattle.node_model.specs.Calls.{Counts, counts_of, DeskState, Knows, Tells}
 use Rattle.node_model.specs.Node.{Node}
 use Rattle.node_model.specs.Receipts.{HasOnce, TellsOnce}
 use Rattle.node_model.specs.Stores.{Stored, StoreState}
@@ -10,26 +9,53 @@ use Rattle.node_model.proofs.OneReceipt.{chain_once}
 use Rattle.session_core.specs.declared.ending.End.{End}
 use Rattle.session_core.specs.declared.ending.End.TheVariants as E
 use Rattle.binkp_mailer.specs.declared.status.Status.{Status}
-use Rattle.binkp_link.specs.Lines.{LineState}
-use Rattle.session_run.specs.Machine.{Phase, Closed}
-use Rattle.session_core.specs.Sessions.{Setting}
-use Rattle.session_run.specs.Laws.{IsSession, Facts, EndCount, EndCountAt, LineCause, LineCauseAt, DeskCause, DeskCauseAt}
-use Rattle.hub_core.specs.Seats.{Sitting, node_of, told}
+use Rattle.std.proofs.lemmas.List.{length-append}
+use Rattle.ftn_addr.specs.Frames.{FrameText}
+use Rattle.binkp_link.specs.Lines.{LineBytes, LineState, Moves}
+use Rattle.session_run.proofs.Settings.{reach_setting}
+use Rattle.session_run.specs.Machine.{Phase, opening}
+use Rattle.session_core.specs.Sessions.{Setting, Stage}
+use Rattle.session_run.specs.Laws.{IsSession, Facts, OwnCause, OwnCauseAt, EndCount, EndCountAt, LineCause, LineCauseAt, DeskCause, DeskCauseAt}
+use Rattle.hub_core.specs.Seats.{node_of, told}
 use Rattle.binkp_mailer.specs.Statuses.{status_after}
 use Rattle.binkp_mailer.specs.declared.status.Status.TheVariants as S
-use Rattle.binkp_mailer.specs.TopCall.{HeldSession, HasOnceTold, StatusCause, Answers_line, Turned_away, Held_one, one_seat, lent}
+use Rattle.binkp_mailer.specs.TopCall.{Calls_in_turn, none_yet, one_more, ReachesLimit, HeldSession, HasOnceTold, StatusCause, Answers_line, Turned_away, Held_one, one_seat, lent}
 
-from_causes : (end : End) (line line' : LineState) (counts counts' : Counts) → counts.broken ≡ None → EndCount end line.ends line'.ends → LineCause end line.faults line'.faults line'.calm → DeskCause end counts counts' → StatusCause (status_after end) line line' counts counts'
-from_causes E.Finished line line' counts counts' whole e l d = e
-from_causes (E.Broke cause n) line line' counts counts' whole e l d = e
-from_causes E.Dropped line line' counts counts' whole e l d = e
-from_causes E.LineFault line line' counts counts' whole e l d = (l, e)
-from_causes (E.DiskFault count) line line' counts counts' whole e l (inl broke) = absurd (let clash : None ≡ Some count = sym whole ∙ broke in cc)
-from_causes (E.DiskFault count) line line' counts counts' whole e l (inr rose) = (rose, e)
-from_causes E.LedgerFull line line' counts counts' whole e l d = (d, e)
-from_causes E.Quiet line line' counts counts' whole e l d = (l, e)
-from_causes E.Endless line line' counts counts' whole e l d = e
-from_causes E.NoMemory line line' counts counts' whole e l d = e
+-- Endless comes only where the limit was reached
+abbrev pub LimitCause : End → Option LineBytes → Option LineBytes → Type 0
+LimitCause E.Endless old new = ReachesLimit old new
+LimitCause _ old new = Unit {0}
+
+grown : (old more : List ℕ) (new : List ℕ) → new ≡ old ++ more → length new - length old ≡ length more
+grown old more new is = omega (arith, ap (λ (x : List ℕ). length x) is, length-append old more)
+
+reaches : (taken sent : List ℕ) (old new : Option LineBytes) → Moves taken sent old new → 17592186044416 ≤ length taken + length sent → ReachesLimit old new
+reaches taken sent (Some old) (Some new) m most = omega (arith, most, grown old.taken taken new.taken m.1, grown old.sent sent new.sent m.2)
+reaches taken sent (Some old) None m most = tt
+reaches taken sent None new m most = tt
+
+own_limit : (end : End) (s : Setting) (stage : Stage) (frames : List FrameText) (taken sent : List ℕ) (old new : Option LineBytes) → s.limit ≡ 17592186044416 → Moves taken sent old new → OwnCause end s stage frames taken sent → LimitCause end old new
+own_limit E.Endless s stage frames taken sent old new is m c = reaches taken sent old new m (subst (λ (n : ℕ). n ≤ length taken + length sent) is c)
+own_limit E.Finished s stage frames taken sent old new is m c = tt
+own_limit (E.Broke cause n) s stage frames taken sent old new is m c = tt
+own_limit E.Dropped s stage frames taken sent old new is m c = tt
+own_limit E.LineFault s stage frames taken sent old new is m c = tt
+own_limit (E.DiskFault count) s stage frames taken sent old new is m c = tt
+own_limit E.LedgerFull s stage frames taken sent old new is m c = tt
+own_limit E.Quiet s stage frames taken sent old new is m c = tt
+own_limit E.NoMemory s stage frames taken sent old new is m c = tt
+
+from_causes : (end : End) (line line' : LineState) (counts counts' : Counts) → counts.broken ≡ None → EndCount end line.ends line'.ends → LineCause end line.faults line'.faults line'.calm → DeskCause end counts counts' → LimitCause end line.bytes line'.bytes → StatusCause (status_after end) line line' counts counts'
+from_causes E.Finished line line' counts counts' whole e l d m = e
+from_causes (E.Broke cause n) line line' counts counts' whole e l d m = e
+from_causes E.Dropped line line' counts counts' whole e l d m = e
+from_causes E.LineFault line line' counts counts' whole e l d m = (l, e)
+from_causes (E.DiskFault count) line line' counts counts' whole e l (inl broke) m = absurd (let clash : None ≡ Some count = sym whole ∙ broke in cc)
+from_causes (E.DiskFault count) line line' counts counts' whole e l (inr rose) m = (rose, e)
+from_causes E.LedgerFull line line' counts counts' whole e l d m = (d, e)
+from_causes E.Quiet line line' counts counts' whole e l d m = (l, e)
+from_causes E.Endless line line' counts counts' whole e l d m = (m, e)
+from_causes E.NoMemory line line' counts counts' whole e l d m = e
 
 pub held_causes : (home : Address) (moment : ℕ) (line : LineState) (store : StoreState) (status : Status) (line' : LineState) (store' : StoreState) → HeldSession home moment line store status line' store' → store.counts.broken ≡ None → StatusCause status line line' store.counts store'.counts
 held_causes home moment line store status line' store' h whole =
@@ -38,7 +64,10 @@ held_causes home moment line store status line' store' h whole =
     let ends : EndCount h.end line.ends line'.ends = subst (λ (x : LineState). EndCount h.end line.ends x.ends) s.line_is (subst (λ (p : Phase). EndCountAt p line.ends s.last.line.ends) s.closed f.ends) in
     let lines : LineCause h.end line.faults line'.faults line'.calm = subst (λ (x : LineState). LineCause h.end line.faults x.faults x.calm) s.line_is (subst (λ (p : Phase). LineCauseAt p line.faults s.last.line.faults s.last.line.calm) s.closed f.line_cause) in
     let desks : DeskCause h.end store.counts store'.counts = subst (λ (x : DeskState). DeskCause h.end store.counts (counts_of x.knows)) s.desk_is (subst (λ (p : Phase). DeskCauseAt p store.counts (counts_of s.last.desk.knows)) s.closed (f.desk_cause refl)) in
-    subst (λ (x : Status). StatusCause x line line' store.counts store'.counts) (sym h.status_is) (from_causes h.end line line' store.counts store'.counts whole ends lines desks)
+    let own : OwnCause h.end s.last.setting s.last.stage s.last.frames s.last.taken s.last.sent = subst (λ (p : Phase). OwnCauseAt p s.last.setting s.last.stage s.last.frames s.last.taken s.last.sent) s.closed f.own_cause in
+    let setting : s.last.setting.limit ≡ 17592186044416 = ap (λ (x : Setting). x.limit) (reach_setting true (opening (lent home moment) line (one_seat store 0 None)) s.last s.run) in
+    let limit : LimitCause h.end line.bytes line'.bytes = subst (λ (x : LineState). LimitCause h.end line.bytes x.bytes) s.line_is (own_limit h.end s.last.setting s.last.stage s.last.frames s.last.taken s.last.sent line.bytes s.last.line.bytes setting f.moves own) in
+    subst (λ (x : Status). StatusCause x line line' store.counts store'.counts) (sym h.status_is) (from_causes h.end line line' store.counts store'.counts whole ends lines desks limit)
 
 once_told : (content : Option Stored) → HasOnceTold content → HasOnce (told content).state
 once_told None once = tt
@@ -63,6 +92,12 @@ held_once home moment line store status line' store' h once =
 pub answers_once : (words : List (List ℕ)) (moment : ℕ) (line : LineState) (store : StoreState) (status : Status) (line' : LineState) (store' : StoreState) → Answers_line words moment line store status line' store' → HasOnceTold store.content → HasOnceTold store'.content
 answers_once words moment line store status line' store' (Turned_away why line_is store_is) once = subst (λ (x : StoreState). HasOnceTold x.content) (sym store_is) once
 answers_once words moment line store status line' store' (Held_one home are h) once = held_once home moment line store status line' store' h once
+
+-- whatever the statuses, and however many calls
+pub calls_once : (store new : StoreState) → Calls_in_turn store new → HasOnceTold store.content → HasOnceTold new.content
+calls_once store new none_yet once = once
+calls_once store new (one_more {old} before words moment status line line' answers) once =
+    answers_once words moment line old status line' new answers (calls_once store old before once)
 
 turned_causes : (status : Status) (line : LineState) (counts : Counts) → (status ≡ S.Usage) ⊎ (status ≡ S.NoMemory) → StatusCause status line line counts counts
 turned_causes status line counts (inl e) = subst (λ (x : Status). StatusCause x line line counts counts) (sym e) refl

@@ -1,8 +1,9 @@
 //! The program's call.
 ghost use Rattle.std.specs.Prelude.{◌≡◌, ℕ, None};
 ghost use Rattle.ftn_addr.specs.Address.{Address};
+ghost use Rattle.node_model.specs.Stores.{StoreState};
 ghost use Rattle.hub_core.specs.Seats.{IsMarkFree, IsSettled, told};
-ghost use Rattle.binkp_mailer.specs.TopCall.{Answers_line, HasOnceTold, StatusCause};
+ghost use Rattle.binkp_mailer.specs.TopCall.{Answers_line, Calls_in_turn, HasOnceTold, StatusCause};
 ghost use Rattle.binkp_mailer.specs.Words.{AreWords, texts};
 ghost use Rattle.binkp_mailer.specs.declared.status.Status.TheVariants.{Usage};
 
@@ -56,6 +57,11 @@ pub fn run_line<S: Store, L: Line, O: Sink>(
     let report = run_session(alloc, line, &mut seat, &setting);
     (status_of(report.end), seat.into_store())
 }
+
+/// No sender and key gets two receipts over any number of calls over one store, whatever their statuses.
+pub fn one_receipt_over_calls()
+    ensures { (store new : StoreState) → Calls_in_turn store new → HasOnceTold store.content → HasOnceTold new.content }
+{}
 
 #[cfg(test)]
 mod tests;

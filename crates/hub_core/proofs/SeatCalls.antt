@@ -1,25 +1,24 @@
 -- What a seat's session does is a call of its desk, with what a stop may leave of it.
-use Rattle.std.proofs.Common.{◌≡◌, ◌≢◌, ◌⊎◌, ℕ, zero, suc, ◌+◌, ◌-◌, ◌<◌, ◌≤◌, Bool, true, false, List, [], ◌∷◌, Option, Some, None, length, refl, sym, ◌∙◌, ap, subst, inl, inr, arith, option_map}
-use Rattle.std.specs.Prelude.{Result, Ok, Err}
+use Rattle.std.proofs.Common.{◌≡◌, ◌≢◌, ◌⊎◌, ℕ, zero, suc, ◌+◌, ◌-◌, ◌<◌, ◌≤◌, Bool, true, List, Option, Some, None, refl, sym, ◌∙◌, ap, subst, inl, inr, arith, option_map}
+use Rattle.std.specs.Prelude.{Ok, Err}
 use Rattle.ftn_addr.specs.Address.{Address}
 use Rattle.ftn_addr.specs.Counts.{Rose, risen}
 use Rattle.ftn_addr.specs.Key.{Key}
 use Rattle.node_model.specs.declared.store.StoreFault.{StoreFault}
 use Rattle.node_model.specs.declared.store.StoreFault.TheVariants as D
 use Rattle.node_model.specs.Durable.{Durable}
-use Rattle.node_model.specs.Node.{Node, Session, Seat, session_at, seat_in}
+use Rattle.node_model.specs.Node.{Node, Session, session_at, seat_in}
 use Rattle.node_model.specs.Rows.{unheld, released, left_by, FileAnswer, FileRow, Whole, Answered}
 use Rattle.node_model.specs.Calls.{Call, Answer, File_call, Data_call, Open_call, Leave_call, Refused, Filed, More, Whole_now, Settled, Disk, Full, No_memory, Fault, Caused, Counts, NodeStep, Breaks, Passes, Before_it, After_it, unheld_in, Tells}
 use Rattle.node_model.specs.Images.{Kept, OpensTo, IsAnswered}
 use Rattle.node_model.specs.Stores.{StoreState, StoreStand}
-use Rattle.hub_core.specs.declared.desk.DeskFault.{DeskFault}
 use Rattle.hub_core.specs.declared.desk.FileIn.{FileIn}
 use Rattle.hub_core.specs.declared.desk.FileIn.TheVariants as F
 use Rattle.hub_core.specs.declared.desk.DataIn.{DataIn}
 use Rattle.hub_core.specs.declared.desk.DataIn.TheVariants as I
 use Rattle.node_model.specs.Talk.{Part}
-use Rattle.hub_core.specs.Desks.{DeskPart, fault_of, file_answer, data_answer, part_after}
-use Rattle.hub_core.specs.Seats.{Holding, Sitting, told, IsMarkFree, IsSettled, unless_broken, hold_of, places_of, session_of, node_of, seat_stand, seat_part, part_in, IsSeated, IsHolding}
+use Rattle.hub_core.specs.Desks.{DeskPart, file_answer, data_answer, part_after}
+use Rattle.hub_core.specs.Seats.{Holding, Sitting, told, IsSettled, unless_broken, places_of, session_of, node_of, seat_stand, seat_part, part_in, IsSeated, IsHolding}
 use Rattle.ftn_addr.specs.Limits.{IsAddress}
 use Rattle.std.specs.List.{All}
 use Rattle.std.proofs.lemmas.List.Elements.{All-head}

@@ -1,25 +1,24 @@
 -- What a seat's session does with its store is a row of the node that the seat tells.
-use Rattle.std.proofs.Common.{◌≡◌, ◌≢◌, ◌⊎◌, ℕ, zero, suc, ◌+◌, ◌-◌, ◌<◌, ◌≤◌, Bool, true, false, cond, ◌||◌, List, [], ◌∷◌, ◌++◌, Option, Some, None, length, refl, sym, ◌∙◌, ap, subst, inl, inr, arith, nat_lt, ◌^◌}
+use Rattle.std.proofs.Common.{◌≡◌, ◌≢◌, ◌⊎◌, ℕ, zero, suc, ◌<◌, ◌≤◌, Bool, true, false, cond, ◌||◌, List, [], ◌∷◌, ◌++◌, Option, Some, None, length, refl, sym, ◌∙◌, ap, subst, inl, inr, arith, nat_lt, ◌^◌}
 use Rattle.std.proofs.lemmas.Bool.Decides.{Decides-ltb}
 use borrow.Author.Tests.{ltb-false}
 use Rattle.ftn_addr.specs.Address.{Address}
 use Rattle.ftn_addr.specs.Key.{Key}
-use Rattle.node_model.specs.declared.words.Known.{Known}
 use Rattle.node_model.specs.declared.words.Known.TheVariants.{New, Received, Refused}
-use Rattle.node_model.specs.Items.{Mark, Receipt}
-use Rattle.node_model.specs.Durable.{Durable, is_same, is_received, is_refused, is_known, mark_of, marked, bytes_of_mark, with_receipt}
+use Rattle.node_model.specs.Items.{Mark}
+use Rattle.node_model.specs.Durable.{Durable, is_same, is_received, is_refused, is_known, marked, bytes_of_mark, with_receipt}
 use Rattle.node_model.specs.Lists.{first_that}
 use Rattle.node_model.specs.Calls.{Counts}
 use Rattle.node_model.specs.Node.{Hold, Node, Session, Seat, Logged, session_at, hold_in}
-use Rattle.node_model.specs.Rows.{by, Acceptable, HeldElsewhere, PartNumber, Whole, Answered, receipt_of, received_record}
+use Rattle.node_model.specs.Rows.{by, HeldElsewhere, PartNumber, Whole, Answered, receipt_of, received_record}
 use Rattle.node_model.specs.Images.{OpensTo}
-use Rattle.node_model.specs.Stores.{Stored, StoreState, StoreStand, StoreTied, IfTold, IsPartNumber, Opened, committed, known_in}
-use Rattle.std.specs.Prelude.{Result, Ok, Err}
+use Rattle.node_model.specs.Stores.{Stored, StoreState, StoreStand, StoreTied, IfTold, IsPartNumber, known_in}
+use Rattle.std.specs.Prelude.{Result, Err}
 use Rattle.ftn_addr.specs.Counts.{Rose}
 use Rattle.node_model.specs.declared.store.StoreFault.{StoreFault}
 use Rattle.node_model.specs.declared.store.StoreFault.TheVariants as D
 use Rattle.hub_core.specs.declared.desk.FileIn.{FileIn}
-use Rattle.hub_core.specs.Seats.{Holding, Sitting, told, IsMarkFree, IsSettled, unless_broken, hold_of, places_of, session_of, node_of}
+use Rattle.hub_core.specs.Seats.{Holding, Sitting, told, IsMarkFree, unless_broken, hold_of, session_of, node_of}
 use Rattle.hub_core.specs.SeatSteps.{Leaves, OpensUnder, Receives, ReceivePasses, state_in, session_in, received, TakePasses, Broke, BrokenBy, Takes}
 
 -- where no file has a mark, none has bytes of one

@@ -1,19 +1,16 @@
 -- Rows over messages that were made.
-use Rattle.std.proofs.Common.{◌≡◌, ◌≢◌, ◌⊎◌, ◌<◌, ◌≤◌, ◌-◌, ◌∙◌, ℕ, Bool, true, List, [], ◌∷◌, ◌++◌, length, Option, Some, None, Result, Ok, Err, refl, sym, ap, subst, inl, inr, arith, true, false, not, map}
-use Rattle.std.specs.Prelude.{filter}
+use Rattle.std.proofs.Common.{◌≡◌, ◌≤◌, ◌-◌, ◌∙◌, ℕ, Bool, true, List, [], ◌∷◌, ◌++◌, length, Option, Some, None, Result, refl, sym, ap, subst, inl, inr, arith, true, false, not}
 use Rattle.node_model.specs.Rows.{Go}
 use Rattle.std.proofs.lemmas.List.{append-nil}
 use Rattle.std.proofs.lemmas.List.Elements.{All-filter}
 use Rattle.ftn_addr.specs.Key.{Key}
 use Rattle.node_model.specs.Calls.{Open_call, File_call, Data_call, Answer, Filed, Event, one}
 use Rattle.node_model.specs.Images.{Stand, Kept}
-use Rattle.node_model.specs.Talk.{Message, Got, Talk, Part, Verdict, on, ends, Out_of_turn, Too_much, AfterFile, FileTaken, Asks, Not_yet, AfterData, DataTaken, Nothing_held, Exceeds, Fits}
+use Rattle.node_model.specs.Talk.{Message, Got, Talk, Part, Verdict, on, AfterFile, FileTaken, Asks, AfterData, DataTaken, Fits}
 use Rattle.hub_core.specs.declared.desk.DeskFault.{DeskFault}
-use Rattle.hub_core.specs.declared.desk.DeskFault.TheVariants as D
 use Rattle.session_core.specs.declared.receiver.RecvStep.{RecvStep}
 use Rattle.hub_core.specs.Desks.{held_after}
-use Rattle.ftn_addr.specs.Address.{Address, address, same_address}
-use Rattle.ftn_addr.specs.declared.addr.Addr.{Addr}
+use Rattle.ftn_addr.specs.Address.{Address, same_address}
 use Rattle.ftn_addr.specs.Limits.{IsAddress}
 use Rattle.std.specs.List.{All}
 use Rattle.node_model.specs.Lists.{without}

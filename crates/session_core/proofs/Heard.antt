@@ -1,14 +1,14 @@
 -- Messages after login that were taken.
-use Rattle.std.proofs.Common.{◌≡◌, ◌⊎◌, ◌∙◌, ℕ, Bool, true, false, List, [], ◌∷◌, ◌++◌, Option, Result, Ok, Err, refl, sym, ap, subst, inl, inr, cond}
+use Rattle.std.proofs.Common.{◌≡◌, ◌⊎◌, ◌∙◌, ℕ, Bool, true, false, List, [], ◌∷◌, ◌++◌, Option, Result, Err, refl, sym, ap, subst, inl, inr}
 use Rattle.std.specs.Prelude.{MatchBool}
 use Rattle.std.proofs.lemmas.List.{append-nil}
 use Rattle.ftn_addr.specs.Key.{Key}
-use Rattle.binkp_args.specs.Command.{CommandText, command_of}
+use Rattle.binkp_args.specs.Command.{CommandText}
 use Rattle.binkp_args.specs.Reading.{Fails}
 use Rattle.binkp_args.specs.declared.fault.ArgFault.{ArgFault}
 use Rattle.binkp_args.specs.declared.fault.ArgFault.TheVariants.{MissingWord, BadNumber, LongName, TooLarge, PastEnd, NoAddress, NoMemory as NoMemoryFault}
 use Rattle.node_model.specs.Rows.{Have, Refuse, Elsewhere, Go, Whole, From, Late}
-use Rattle.node_model.specs.Calls.{Answer, Filed, More, Whole_now, Refused, Queued, Let_in, Busy, Begun, Offered, Nothing, Came, Settled, Acted, Given, Held as Held_back, Event}
+use Rattle.node_model.specs.Calls.{Answer, Filed, More, Whole_now, Refused, Event}
 use Rattle.node_model.specs.Images.{Stand}
 use Rattle.node_model.specs.Talk.{on, End as EndMessage, Talk, Part, Message, Verdict, TakeRow, AfterFile, FileTaken, Asks, Not_yet, AfterData, DataTaken, Nothing_held, Drops, Exceeds, Fits, Outcome}
 use Rattle.hub_core.specs.declared.desk.DeskFault.{DeskFault}
@@ -17,7 +17,7 @@ use Rattle.session_core.specs.declared.ending.End.TheVariants as E
 use Rattle.session_core.specs.declared.ending.Took.{Took}
 use Rattle.session_core.specs.declared.ending.Took.TheVariants as T
 use Rattle.session_core.specs.declared.receiver.RecvStep.{RecvStep}
-use Rattle.session_core.specs.Sessions.{Setting, Said, ReadRow, unreadable, broken_frame, Stage, Talks, Reply, TalkRow, reply_of, said_bytes, outcome_bytes, outcome_took, held_along}
+use Rattle.session_core.specs.Sessions.{Setting, Said, ReadRow, unreadable, broken_frame, Stage, Talks, TalkRow, reply_of, said_bytes, outcome_bytes, outcome_took}
 use Rattle.session_core.specs.Replies.{Did, DidPlain, DidTake, IfMore, MadeRow, RefusesArgument, Writes, step_outcome}
 use Rattle.session_core.proofs.Writings.{wrote_all, wrote_then, no_more, if_more}
 use Rattle.session_core.proofs.Rans.{ran_none}

@@ -1,9 +1,8 @@
 -- Calls of a desk, one after another.
-use Rattle.std.proofs.Common.{◌≡◌, ◌⊎◌, ◌<◌, ◌≤◌, ℕ, Bool, List, [], ◌∷◌, ◌++◌, Option, Some, None, rules, refl, sym, subst, inl, inr, le_refl, arith, ⊎_elim}
-use Rattle.std.proofs.Math.Path.{subst_refl, path_j}
+use Rattle.std.proofs.Common.{◌<◌, ◌≤◌, ℕ, Bool, [], Option, Some, None, refl, inl, le_refl, arith}
 use Rattle.node_model.specs.Durable.{Durable}
-use Rattle.node_model.specs.Calls.{Call, Answer, Event, one, Chain, DeskState}
-use Rattle.node_model.specs.Images.{Stand, Kept, Ran, OpensTo, Along}
+use Rattle.node_model.specs.Calls.{Call, Answer, one}
+use Rattle.node_model.specs.Images.{Stand, Kept, Ran, OpensTo}
 
 opens_weaker : (P Q : Durable → Type 0) → ((x : Durable) → P x → Q x) → (d : Option Durable) → OpensTo P d → OpensTo Q d
 opens_weaker P Q f None h = h

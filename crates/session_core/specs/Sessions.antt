@@ -1,6 +1,6 @@
 -- The rows of an answering session over frames: its login, and the messages after it (FTS-1026, session stages; the
 -- texts of M_OK, M_ERR and VER are own).
-use Rattle.std.specs.Prelude.{◌≡◌, ◌⊎◌, ℕ, ◌+◌, ◌-◌, ◌^◌, min, Bool, true, false, ◌||◌, ◌&&◌, ◌==◌, nat_le, nat_eq, MatchBool, List, [], ◌∷◌, ◌++◌, length, Option, Some, None, Result, Ok, Err, codes}
+use Rattle.std.specs.Prelude.{◌≡◌, ◌⊎◌, ℕ, ◌-◌, ◌^◌, min, Bool, true, false, ◌||◌, ◌&&◌, ◌==◌, nat_le, nat_eq, MatchBool, List, [], ◌∷◌, ◌++◌, length, Option, None, Result, Ok, Err, codes}
 use Rattle.std.specs.List.{flat_map}
 use Rattle.std.specs.Cmp.Lexicographic.{pointwise}
 use Rattle.ftn_addr.specs.Address.{Address, same_address}
@@ -8,12 +8,12 @@ use Rattle.ftn_addr.specs.Key.{Key}
 use Rattle.ftn_addr.specs.Frames.{FrameText, Command as CommandFrame, Data as DataFrame, frame_bytes}
 use Rattle.binkp_args.specs.declared.fault.ArgFault.{ArgFault}
 use Rattle.binkp_args.specs.declared.fault.ArgFault.TheVariants.{NoAddress}
-use Rattle.binkp_args.specs.Command.{CommandText, Nul, Adr, Pwd, File as FileCommand, Accept, Eob, Got as GotCommand, Error, Bsy, Get as GetCommand, Skip as SkipCommand, Other, command_of}
+use Rattle.binkp_args.specs.Command.{CommandText, Nul, Adr, Pwd, File as FileCommand, Accept, Eob, Got as GotCommand, Error, Get as GetCommand, Skip as SkipCommand, Other, command_of}
 use Rattle.binkp_args.specs.Limits.{AreAddresses}
 use Rattle.binkp_args.specs.Writing.{frame_text_of}
 use Rattle.node_model.specs.declared.words.Role.TheVariants.{Answers}
 use Rattle.node_model.specs.Lists.{without}
-use Rattle.node_model.specs.Calls.{Call, Open_call, Fault, Disk, Read, Full, No_memory, Answer, Let_in, Begun, Refused, Event, one}
+use Rattle.node_model.specs.Calls.{Open_call, Fault, Disk, Read, Full, No_memory, Answer, Let_in, Begun, Refused, Event, one}
 use Rattle.node_model.specs.Talk.{Message, File, Data, Got, Get, Skip, End as EndMessage, Talk, first_words, Part, RowEnd, Finished, Out_of_turn, Too_late, Too_much, Refused_by, Outcome, Goes_on, Waits, Ends, Verdict, TakeRow, TurnRow}
 use Rattle.session_core.specs.declared.ending.Cause.TheVariants as C
 use Rattle.session_core.specs.declared.ending.End.{End}

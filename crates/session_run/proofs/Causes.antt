@@ -1,24 +1,23 @@
 -- The ends that rows give, and their causes.
-use Rattle.std.proofs.Common.{◌≡◌, ◌⊎◌, ◌∙◌, ℕ, ◌+◌, ◌-◌, ◌^◌, ◌≤◌, min, Bool, true, false, List, [], ◌∷◌, Option, Some, None, Result, Ok, Err, refl, sym, ap, subst, inl, inr, arith}
+use Rattle.std.proofs.Common.{◌≡◌, ◌⊎◌, ◌∙◌, ℕ, Bool, true, false, List, [], ◌∷◌, Option, Some, Result, Ok, Err, refl, sym, ap, subst, inl, inr, arith}
 use Rattle.std.specs.Prelude.{MatchBool}
 use Rattle.ftn_addr.specs.Address.{Address, same_address}
 use Rattle.ftn_addr.specs.Frames.{FrameText, Command, Data}
 use Rattle.ftn_addr.specs.Key.{Key}
 use Rattle.ftn_addr.specs.Counts.{Rose}
 use Rattle.binkp_args.specs.declared.fault.ArgFault.{ArgFault}
-use Rattle.binkp_args.specs.declared.fault.ArgFault.TheVariants.{NoAddress}
 use Rattle.binkp_args.specs.Command.{CommandText, command_of}
 use Rattle.node_model.specs.Lists.{without}
 use Rattle.node_model.specs.Rows.{Have, Refuse, Elsewhere, Go, Whole, From, Late}
 use Rattle.node_model.specs.Calls.{Call, Fault, Disk, Read, Full, No_memory, Answer, Queued, Let_in, Busy, Begun, Offered, Nothing, Came, Settled, Filed, More, Whole_now, Acted, Given, Held, Refused, Event, one, Counts, counts_of, Caused, DeskState, Calls, Chain}
-use Rattle.node_model.specs.Talk.{Message, File, Data as DataMessage, Got, Get, Skip, End as EndMessage, Talk, Part, RowEnd, Finished, Out_of_turn, Too_late, Too_much, Refused_by, Outcome, Goes_on, Waits, Ends, Verdict, TakeRow, TurnRow, AfterFile, AfterData, FileTaken, Asks, Not_yet, DataTaken, Nothing_held, Drops, Exceeds, Fits, Finishes, Rests, Says_end, Waits_for_end}
+use Rattle.node_model.specs.Talk.{Message, File, Data as DataMessage, Got, Get, Skip, End as EndMessage, Talk, Part, Outcome, Verdict, TakeRow, TurnRow, AfterFile, AfterData, Asks, Not_yet, Nothing_held, Drops, Exceeds, Fits, Finishes, Rests, Says_end, Waits_for_end}
 use Rattle.session_core.specs.declared.ending.End.{End}
 use Rattle.session_core.specs.declared.ending.End.TheVariants as E
 use Rattle.session_core.specs.declared.ending.Took.{Took}
 use Rattle.session_core.specs.declared.ending.Took.TheVariants as T
 use Rattle.session_core.specs.declared.ending.Gave.{Gave}
 use Rattle.session_core.specs.declared.ending.Gave.TheVariants as G
-use Rattle.session_core.specs.Sessions.{Setting, Stage, Awaits_address, Awaits_password, Talks, Reply, Row, ReadRow, HeardRow, PasswordRow, LoggedRow, LoginRow, TalkRow, DataRow, AfterBegin, AfterKnock, Plain, Heard, Passed, Addresses, Password, Offers, Ends_batch, Unbuilt, heard_of, before_address, named, unreadable, ends, is_none, is_unbuilt, end_of, fault_end, outcome_took, outcome_gave, Said, Turn, TalkTurn, GiveRow}
+use Rattle.session_core.specs.Sessions.{Setting, Stage, Awaits_address, Awaits_password, Talks, Reply, Row, ReadRow, HeardRow, PasswordRow, LoggedRow, LoginRow, TalkRow, DataRow, AfterBegin, AfterKnock, Plain, Heard, Passed, Addresses, Password, Offers, Ends_batch, Unbuilt, heard_of, before_address, named, is_none, is_unbuilt, fault_end, outcome_took, outcome_gave, Said, Turn, GiveRow}
 use Rattle.session_run.specs.Laws.{Since, Stays_or_rose, DeskCause}
 
 -- the ends that a row of the frame with that number gives without another object

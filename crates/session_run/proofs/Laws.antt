@@ -1,5 +1,5 @@
 -- What holds of every session, step by step.
-use Rattle.std.proofs.Common.{◌≡◌, ◌⊎◌, ◌∙◌, ℕ, ◌+◌, ◌-◌, ◌^◌, ◌≤◌, min, max, Bool, true, false, List, [], ◌∷◌, ◌++◌, length, Option, Some, None, refl, sym, ap, subst, inl, inr, arith, append_assoc}
+use Rattle.std.proofs.Common.{◌≡◌, ◌∙◌, ℕ, Bool, true, false, List, [], ◌∷◌, ◌++◌, refl, sym, ap, subst, arith, append_assoc}
 use Rattle.std.proofs.lemmas.List.{append-nil}
 use Rattle.node_model.specs.Calls.{Event, one, Counts, counts_of, DeskState, Calls, Chain, Knock_call, Leave_call}
 use Rattle.node_model.specs.declared.words.Role.TheVariants.{Answers}
@@ -16,10 +16,10 @@ use Rattle.binkp_link.specs.declared.link.WriteAnswer.TheVariants as W
 use Rattle.std.specs.Prelude.{nat_le, if◌then◌else◌}
 use Rattle.binkp_link.specs.Lines.{LineState, Moves, came, went}
 use Rattle.session_core.specs.Sessions.{Setting, frame_number}
-use Rattle.session_run.specs.Machine.{World, Phase, Starting, Taking, Writing, Reading, Over, Draining, Closed, MayGiveUp, Step, greets, takes_frame, makes_turn, writes, passes_write, reads, gives_up, leaves, drains, closes, Reach, here, next, opening, after_took, after_gave, after_leave, after_read, after_write, after_drain}
-use Rattle.session_run.specs.Laws.{Facts, OwnCauseAt, joined, EndCount, EndCountAt, LineCause, LineCauseAt, WholeAt, DeskCause, DeskCauseAt, Since}
+use Rattle.session_run.specs.Machine.{World, Phase, Starting, Taking, Writing, Reading, Over, Draining, Closed, MayGiveUp, Step, greets, takes_frame, makes_turn, writes, passes_write, reads, gives_up, leaves, drains, closes, Reach, here, next, opening, after_took, after_gave, after_read, after_write, after_drain}
+use Rattle.session_run.specs.Laws.{Facts, OwnCauseAt, EndCount, EndCountAt, LineCause, LineCauseAt, WholeAt, DeskCause, DeskCauseAt, Since}
 use Rattle.node_model.proofs.RisingCounts.{chain_joins}
-use Rattle.session_run.proofs.Causes.{RowCause, row_cause, said_cause, knock_cause, Finished_alone, turn_finishes, since_on, since_same, since_chain, caused_alone, row_desk}
+use Rattle.session_run.proofs.Causes.{RowCause, row_cause, said_cause, knock_cause, Finished_alone, turn_finishes, since_same, since_chain, caused_alone, row_desk}
 use Rattle.session_run.proofs.OwnCauses.{no_broke, took_own, said_broke, gave_own, read_own, write_own, drain_own, leave_own}
 use Rattle.session_run.proofs.LineLaws.{joined-last, moves_on, moves_not, took_ends, took_line, read_ends, read_faults, read_line, write_ends, write_faults, write_line, leave_ends, leave_line, leave_desk, drain_ends, drain_line, drain_whole, close_whole, rest_of, sent_on}
 

@@ -8,7 +8,6 @@ use Rattle.binkp_link.specs.declared.link.WriteAnswer.{WriteAnswer}
 use Rattle.session_core.specs.declared.ending.End.{End}
 use Rattle.binkp_link.specs.Lines.{LineState, IsWrite, went}
 use Rattle.session_run.specs.Machine.{World, Phase, Draining, Closed, Reach, here, next, drains, closes, Drains, Closes, IsLeft, IsClosed, is_mute, after_drain}
-use Rattle.session_run.proofs.Runs.{reach_trans}
 
 -- from w on this is left, in that phase
 pub record Drained (alone : Bool) (w : World) (line : LineState) (left : List ℕ) (q : Phase) : Type 0 where

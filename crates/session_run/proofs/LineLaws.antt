@@ -1,5 +1,5 @@
 -- What reads, writes and the close leave of the causes of an end.
-use Rattle.std.proofs.Common.{◌≡◌, ◌⊎◌, ◌∙◌, ℕ, ◌+◌, ◌-◌, ◌^◌, ◌<◌, ◌≤◌, max, min, Bool, true, false, List, [], ◌∷◌, ◌++◌, length, Option, Some, None, refl, sym, ap, subst, inl, inr, arith, append_assoc, drop}
+use Rattle.std.proofs.Common.{◌≡◌, ◌⊎◌, ◌∙◌, ℕ, ◌≤◌, Bool, true, false, List, [], ◌∷◌, ◌++◌, Option, Some, None, refl, sym, ap, subst, inl, inr, arith, append_assoc, drop}
 use Rattle.std.specs.Prelude.{nat_le, if◌then◌else◌}
 use Rattle.std.proofs.lemmas.List.{append-nil, take-append-drop}
 use Rattle.std.proofs.lemmas.Bool.{leb-true}
@@ -13,11 +13,11 @@ use Rattle.session_core.specs.declared.ending.End.{End}
 use Rattle.session_core.specs.declared.ending.End.TheVariants as E
 use Rattle.session_core.specs.declared.ending.Took.{Took}
 use Rattle.session_core.specs.declared.ending.Took.TheVariants as T
-use Rattle.binkp_link.specs.Lines.{LineBytes, LineState, Moves, IsRead, IsWrite, came, went}
+use Rattle.binkp_link.specs.Lines.{LineBytes, LineState, Moves, IsRead, IsWrite, went}
 use Rattle.session_core.specs.Sessions.{fault_end}
-use Rattle.session_run.specs.Machine.{Phase, Starting, Taking, Writing, Reading, Over, Draining, Closed, after_took, after_read, after_write, after_drain, after_leave, is_mute}
-use Rattle.session_run.specs.Laws.{joined, EndCount, EndCountAt, LineCause, LineCauseAt, WholeAt, DeskCause, Since, Stays_or_rose}
-use Rattle.session_run.proofs.Causes.{Plain_end, Refused_end, RowCause, since_on, since_same, fault_cause, rose_on, rose_from}
+use Rattle.session_run.specs.Machine.{Phase, Taking, Reading, Over, Draining, Closed, after_took, after_read, after_write, after_drain, after_leave, is_mute}
+use Rattle.session_run.specs.Laws.{joined, EndCount, EndCountAt, LineCause, LineCauseAt, WholeAt, DeskCause, Since}
+use Rattle.session_run.proofs.Causes.{Plain_end, Refused_end, RowCause, since_on, since_same, fault_cause, rose_on}
 
 pub joined-last : (pieces : List (List ℕ)) (piece : List ℕ) → joined (pieces ++ piece ∷ []) ≡ joined pieces ++ piece
 joined-last [] piece = append-nil piece

@@ -1,5 +1,5 @@
 -- Why sessions end, in the session's own words, step by step.
-use Rattle.std.proofs.Common.{◌≡◌, ◌⊎◌, ◌∙◌, ℕ, suc, ◌+◌, ◌≤◌, Bool, true, false, List, [], ◌∷◌, ◌++◌, length, Option, Some, None, refl, sym, ap, subst, inl, inr, arith}
+use Rattle.std.proofs.Common.{◌≡◌, ◌∙◌, ℕ, suc, ◌+◌, Bool, true, false, List, [], ◌++◌, length, Option, refl, sym, ap, subst, inl, inr, arith}
 use Rattle.std.specs.Prelude.{nat_le, if◌then◌else◌}
 use Rattle.std.proofs.lemmas.List.{length-append}
 use Rattle.std.proofs.lemmas.Bool.{leb-true}
@@ -11,13 +11,11 @@ use Rattle.session_core.specs.declared.ending.End.{End}
 use Rattle.session_core.specs.declared.ending.End.TheVariants as E
 use Rattle.session_core.specs.declared.ending.Took.{Took}
 use Rattle.session_core.specs.declared.ending.Took.TheVariants as T
-use Rattle.session_core.specs.declared.ending.Gave.{Gave}
-use Rattle.session_core.specs.declared.ending.Gave.TheVariants as G
 use Rattle.binkp_link.specs.declared.link.ReadAnswer.{ReadAnswer}
 use Rattle.binkp_link.specs.declared.link.ReadAnswer.TheVariants as R
 use Rattle.binkp_link.specs.declared.link.WriteAnswer.{WriteAnswer}
 use Rattle.binkp_link.specs.declared.link.WriteAnswer.TheVariants as W
-use Rattle.session_core.specs.Sessions.{Setting, Stage, Awaits_address, Awaits_password, Talks, Turn, TalkTurn, GiveRow, Said, fault_end, outcome_gave, said_bytes}
+use Rattle.session_core.specs.Sessions.{Setting, Stage, Awaits_address, Awaits_password, Talks, Turn, GiveRow, Said, fault_end, outcome_gave}
 use Rattle.session_run.specs.Machine.{Phase, Taking, Reading, Over, Draining, Closed, after_took, after_gave, after_leave, after_read, after_write, after_drain}
 use Rattle.session_run.specs.Laws.{OwnCause, OwnCauseAt, Refuses}
 use Rattle.session_run.proofs.Causes.{RowCause}

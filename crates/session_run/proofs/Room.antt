@@ -1,5 +1,5 @@
 -- Each turn moves a byte or is one Quiet more.
-use Rattle.std.proofs.Common.{◌≡◌, ◌+◌, ◌-◌, ◌*◌, ◌<◌, ◌≤◌, ◌∙◌, ◌&&◌, ℕ, List, [], ◌++◌, length, refl, sym, ap, subst, arith, true, false, Bool, Option, Some, None, take}
+use Rattle.std.proofs.Common.{◌≡◌, ◌+◌, ◌<◌, ◌∙◌, ◌&&◌, ℕ, List, [], length, refl, sym, ap, arith, true, false, Bool, Option, Some, None}
 use Rattle.std.specs.Prelude.{nat_le, ◌==◌, if◌then◌else◌, IfNone}
 use Rattle.std.proofs.lemmas.Bool.{leb-false}
 use Rattle.std.proofs.lemmas.List.{length-take-le}
@@ -11,8 +11,8 @@ use Rattle.binkp_link.specs.declared.link.ReadAnswer.TheVariants as R
 use Rattle.session_core.specs.declared.ending.End.{End}
 use Rattle.session_core.specs.declared.ending.End.TheVariants as E
 use Rattle.binkp_link.specs.Lines.{LineState, IsRead, IsWrite, came, went}
-use Rattle.session_run.specs.Machine.{Phase, Over, Taking, Reading, moved, quieted, after_write, after_read}
-use Rattle.session_run.specs.Runs.{Wrote, Came, Advances, InLimit, room, over_or}
+use Rattle.session_run.specs.Machine.{Phase, Over, Taking, Reading, after_write, after_read}
+use Rattle.session_run.specs.Runs.{Wrote, Came, Advances, InLimit, over_or}
 
 -- what goes on didn't reach a limit
 went_on : (limit bytes : ℕ) (end : End) (goal : Phase) → ((e : End) → goal ≡ Over e → ⊥) → goal ≡ (if nat_le limit bytes then Over end else goal) → bytes < limit

@@ -1,5 +1,5 @@
 -- How the code's run goes on in the run of its machine.
-use Rattle.std.proofs.Common.{◌≡◌, ◌⊎◌, ◌∙◌, ◌+◌, ◌-◌, ◌^◌, ◌<◌, ◌≤◌, ◌&&◌, min, ℕ, Bool, true, false, List, [], ◌∷◌, ◌++◌, length, Option, Some, None, refl, sym, ap, subst, inl, inr, arith, append_assoc, length-append, drop, get_or, zero, suc, add-one}
+use Rattle.std.proofs.Common.{◌≡◌, ◌⊎◌, ◌∙◌, ◌+◌, ◌-◌, ◌^◌, ◌<◌, ◌≤◌, ◌&&◌, min, ℕ, Bool, List, [], ◌∷◌, ◌++◌, length, Option, Some, None, refl, sym, ap, subst, inl, inr, arith, append_assoc, length-append, drop, get_or, zero, suc, add-one}
 use Rattle.std.specs.Prelude.{◌==◌}
 use Rattle.std.specs.List.{All, flat_map, filter_map, cons_option}
 use Rattle.std.proofs.lemmas.List.{append-nil, take_at, length-map}
@@ -9,7 +9,7 @@ use Rattle.ftn_addr.specs.Frames.{FrameText, Block, spelling}
 use Rattle.binkp_frame.specs.Stream.{Begins, Splits, Feeds, frame_in}
 use Rattle.binkp_frame.specs.Views.{frame_text, frame_texts}
 use Rattle.binkp_frame.specs.declared.frame.Frame.{Frame}
-use Rattle.node_model.specs.Calls.{DeskState, Answer, Event, one, Calls, Chain, Knock_call, Leave_call}
+use Rattle.node_model.specs.Calls.{DeskState, Answer, one, Calls, Chain, Knock_call, Leave_call}
 use Rattle.node_model.specs.declared.words.Role.TheVariants.{Answers}
 use Rattle.session_core.proofs.Writings.{if_more}
 use Rattle.node_model.specs.Images.{Stand, Kept}
@@ -24,8 +24,8 @@ use Rattle.session_core.specs.declared.session.Session.{Session}
 use Rattle.binkp_link.specs.Lines.{LineState, IsRead, IsWrite, came, went}
 use Rattle.binkp_link.specs.declared.link.ReadAnswer.{ReadAnswer}
 use Rattle.binkp_link.specs.declared.link.WriteAnswer.{WriteAnswer}
-use Rattle.session_core.specs.Sessions.{AfterKnock, Awaits_address, Setting, Stage, Reply, Row, Said, GiveRow, frame_number}
-use Rattle.session_core.specs.Replies.{Writes as Grows, Did, GaveUp, IfMore, MadeRow, DidGive, stage_of}
+use Rattle.session_core.specs.Sessions.{AfterKnock, Awaits_address, Setting, Stage, Reply, Row, GiveRow, frame_number}
+use Rattle.session_core.specs.Replies.{Writes as Grows, Did, IfMore, MadeRow, DidGive, stage_of}
 use Rattle.session_run.specs.Machine.{World, Phase, Starting, opening, Greets, greets, Leaves, leaves, after_leave, Taking, Writing, Reading, Over, Draining, Reach, here, next, TakesFrame, takes_frame, MakesTurn, makes_turn, GivesUp, gives_up, MayGiveUp, Writes, writes, PassesWrite, passes_write, Reads, reads, after_took, after_gave, after_write, after_read}
 use Rattle.session_run.specs.Runs.{Spot, spot, Stream, Follows, At, Goes, IsNew, Wrote, Came, over_or}
 

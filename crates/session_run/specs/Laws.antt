@@ -1,5 +1,5 @@
 -- What holds of every session, in the subject's own words (own, after FTS-1026).
-use Rattle.std.specs.Prelude.{◌≡◌, ◌⊎◌, ℕ, ◌+◌, ◌≤◌, Bool, true, List, [], ◌∷◌, ◌++◌, length, Option, Some}
+use Rattle.std.specs.Prelude.{◌≡◌, ◌⊎◌, ℕ, ◌+◌, ◌≤◌, Bool, true, List, [], ◌∷◌, ◌++◌, length, Some}
 use Rattle.ftn_addr.specs.Counts.{Rose, risen}
 use Rattle.ftn_addr.specs.Frames.{FrameText}
 use Rattle.binkp_frame.specs.Stream.{Begins}

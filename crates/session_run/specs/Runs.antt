@@ -8,7 +8,7 @@ use Rattle.session_run.specs.declared.run.Run.{Run}
 use Rattle.binkp_link.specs.Lines.{LineState}
 use Rattle.session_core.specs.Sessions.{Setting, Awaits_address, frame_number}
 use Rattle.session_core.specs.Replies.{stage_of}
-use Rattle.session_run.specs.Machine.{World, Phase, Starting, Taking, Writing, Reading, Over, Draining, Closed, Reach}
+use Rattle.session_run.specs.Machine.{World, Phase, Over, Draining, Closed, Reach}
 
 -- the code's run, where its line and its desk stand, the frames that were read and not yet taken, and the phase
 pub record Spot : Type 0 where

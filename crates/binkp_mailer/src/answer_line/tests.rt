@@ -12,6 +12,9 @@ use session_core::Cause;
 use std::alloc::Global;
 use std::test::Fail;
 
+mod lines;
+mod refusals;
+
 const LOGIN: &[u8] = b"\x80\x12\x012:5047/13@fidonet\x80\x02\x02-";
 
 const OFFER: &[u8] = b"\x80\x15\x03a.txt 5 1000000000 0";

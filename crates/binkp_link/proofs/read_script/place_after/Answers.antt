@@ -1,4 +1,4 @@
-use Rattle.std.proofs.Common.{◌≡◌, ◌∙◌, ◌-◌, ℕ, List, ap, sym, subst, length, arith}
+use Rattle.std.proofs.Common.{◌∙◌, ap, length, arith}
 use Rattle.binkp_link.proofs.Plays.{bytes_at, place_more, place_none}
 use Rattle.binkp_link.proofs.read_script.place_after.Goals as goal
 

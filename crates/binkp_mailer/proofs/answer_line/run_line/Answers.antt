@@ -2,7 +2,7 @@ use Rattle.std.proofs.Common.{option_map}
 use Rattle.ftn_addr.specs.Address.{address}
 use Rattle.hub_core.specs.Seats.{sitting}
 use Rattle.binkp_mailer.specs.TopCall.{Held_one}
-use Rattle.binkp_mailer.proofs.TopCalls.{answers_once, from_node}
+use Rattle.binkp_mailer.proofs.TopCalls.{answers_once, answers_causes, from_node}
 use Rattle.binkp_mailer.proofs.answer_line.run_line.Goals as goal
 
 pub returns-clause-session : goal.returns-clause-session
@@ -24,3 +24,6 @@ returns-clause-free g c = rw c.into_store.ensures c.run_session-report.ensures.r
 
 pub returns-clause-settled : goal.returns-clause-settled
 returns-clause-settled g c = rw c.into_store.ensures c.run_session-report.ensures.ready.settled
+
+pub returns-clause-cause : goal.returns-clause-cause
+returns-clause-cause g c = answers_causes _ _ _ _ _ _ _ (returns-clause-session g c) c.requires.whole

@@ -1,6 +1,6 @@
-use Rattle.std.proofs.Common.{rules, refl, sym, ap, subst, arith, ◌∙◌, ◌≡◌, ℕ, List, IfOk, Ok, Err, Result, ◌<◌, ◌≤◌, length, true, false, [], ◌∷◌, codes, map, get_or, nat_eq, not, Bool}
+use Rattle.std.proofs.Common.{rules, refl, sym, ap, arith, ◌∙◌, ◌≡◌, ℕ, List, IfOk, Ok, Err, Result, ◌<◌, ◌≤◌, length, true, false, [], ◌∷◌, codes, get_or, nat_eq, not, Bool}
 use Rattle.std.specs.Cmp.Lexicographic.{pointwise}
-use Rattle.ftn_addr.specs.Address.{Address, address}
+use Rattle.ftn_addr.specs.Address.{address}
 use Rattle.ftn_addr.specs.Content.{Content}
 use Rattle.ftn_addr.specs.declared.addr.Addr.{Addr}
 use Rattle.ftn_addr.specs.Writing.{canonical}

@@ -1,4 +1,4 @@
-use Rattle.std.proofs.Common.{refl, sym, ◌∙◌}
+use Rattle.std.proofs.Common.{sym, ◌∙◌}
 use Rattle.session_core.proofs.Dids.{did_as, did_pass, did_row}
 use Rattle.session_core.proofs.Heard.{did_end, may, may_not}
 use Rattle.session_core.proofs.logged.take_after_login.Goals as goal

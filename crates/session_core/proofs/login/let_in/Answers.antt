@@ -1,4 +1,4 @@
-use Rattle.std.proofs.Common.{[], refl, ap, map}
+use Rattle.std.proofs.Common.{refl, ap, map}
 use Rattle.ftn_addr.specs.Address.{address}
 use Rattle.node_model.specs.Calls.{Begun, Refused}
 use Rattle.hub_core.specs.Desks.{fault_of}

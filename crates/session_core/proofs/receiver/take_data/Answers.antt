@@ -1,7 +1,6 @@
-use Rattle.std.proofs.Common.{[], refl, sym, ap, subst, ◌∙◌}
+use Rattle.std.proofs.Common.{[], refl, sym, ap, ◌∙◌}
 use Rattle.node_model.specs.Talk.{on, ends, Too_much, Nothing_held, Exceeds}
 use Rattle.session_core.specs.Replies.{held_of}
-use Rattle.session_core.specs.declared.holding.Receiver.TheVariants as R
 use Rattle.session_core.proofs.Dids.{did_plain, held_as}
 use Rattle.session_core.proofs.receiver.take_data.Goals as goal
 

@@ -1,4 +1,4 @@
-use Rattle.std.proofs.Common.{[], ◌∷◌, sym, ap, ◌++◌, ◌∙◌}
+use Rattle.std.proofs.Common.{[], ◌∷◌, ◌∙◌}
 use Rattle.ftn_addr.specs.Address.{address}
 use Rattle.binkp_args.specs.Command.{Adr}
 use Rattle.session_core.specs.Sessions.{command_bytes, version}

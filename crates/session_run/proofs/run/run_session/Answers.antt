@@ -1,10 +1,9 @@
-use Rattle.std.proofs.Common.{refl, ap, sym, subst, arith, ◌∙◌, ◌≡◌, length, [], ◌++◌}
+use Rattle.std.proofs.Common.{ap, sym, ◌∙◌, length}
 use Rattle.node_model.specs.Calls.{DeskState}
-use Rattle.session_core.specs.declared.ending.End.{End}
 use Rattle.hub_core.specs.Desks.{leave_answer}
 use Rattle.binkp_link.specs.Lines.{LineState}
 use Rattle.session_core.specs.Replies.{setting_of}
-use Rattle.session_run.specs.Machine.{World, Phase, Draining, opening, after_leave, IsLeft, IsClosed}
+use Rattle.session_run.specs.Machine.{World, Draining, opening}
 use Rattle.session_run.proofs.Runs.{reach_trans, at_opening, left_it, goes_then, ends_at}
 use Rattle.session_run.proofs.Laws.{facts_on, facts_open}
 use Rattle.session_run.proofs.run.run_session.Goals as goal

@@ -1,5 +1,5 @@
-use Rattle.std.proofs.Common.{◌≡◌, ◌∙◌, ap, sym, arith, List, ℕ, Some, drop, length}
-use Rattle.binkp_link.specs.Scripts.{Bytes, first_bytes}
+use Rattle.std.proofs.Common.{◌∙◌, ap, arith, List, ℕ, Some, drop, length}
+use Rattle.binkp_link.specs.Scripts.{Bytes}
 use Rattle.binkp_link.proofs.Plays.{acts_at, place_within, next_is}
 use Rattle.binkp_link.proofs.read_script.ReadScript.front.Goals as goal
 

@@ -1,6 +1,6 @@
-use Rattle.std.proofs.Common.{◌≡◌, ◌∙◌, ℕ, ◌+◌, ◌++◌, List, ap, sym, subst, None, Some, IsSome, length, map, take, drop}
+use Rattle.std.proofs.Common.{◌≡◌, ◌∙◌, ℕ, ◌++◌, List, ap, sym, subst, None, Some, IsSome, length, map, take, drop}
 use Rattle.binkp_link.specs.declared.acts.ReadAct.{ReadAct}
-use Rattle.binkp_link.specs.Scripts.{Act, Script, act_of, script_bytes, first_act, first_bytes, place_on, played, without_front}
+use Rattle.binkp_link.specs.Scripts.{Act, Script, act_of, script_bytes, first_act, first_bytes, place_on, played}
 use Rattle.binkp_link.proofs.Plays.{goes_on_taken, passes_left, passes_some, passes_taken, some_below, some_place}
 use Rattle.binkp_link.proofs.read_script.ReadScript.pass.Goals as goal
 

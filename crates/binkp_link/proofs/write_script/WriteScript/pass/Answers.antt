@@ -1,4 +1,4 @@
-use Rattle.std.proofs.Common.{◌≡◌, ◌∙◌, ap, sym, List, length, arith}
+use Rattle.std.proofs.Common.{◌∙◌, ap, sym, List, arith}
 use Rattle.binkp_link.specs.declared.acts.WriteAct.{WriteAct}
 use Rattle.binkp_link.specs.Scripts.{after_write_act}
 use Rattle.binkp_link.proofs.PlaysWrites.{next_write, last_write, next_some}

@@ -1,4 +1,4 @@
-use Rattle.std.proofs.Common.{◌≡◌, Option, Some, None, option_map, refl, sym, ◌∙◌, ap, subst}
+use Rattle.std.proofs.Common.{option_map, sym}
 use Rattle.ftn_addr.specs.Address.{address}
 use Rattle.std.proofs.Common.{map}
 use Rattle.hub_core.specs.Desks.{fault_of}

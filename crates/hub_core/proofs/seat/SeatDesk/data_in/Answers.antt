@@ -1,10 +1,10 @@
-use Rattle.std.proofs.Common.{◌≡◌, Option, Some, None, option_map, refl, sym, ◌∙◌, ap, subst}
+use Rattle.std.proofs.Common.{Option, Some, option_map, sym, ◌∙◌, ap, subst}
 use Rattle.node_model.specs.Calls.{Data_call, Refused}
 use Rattle.node_model.specs.Images.{Kept}
 use Rattle.std.proofs.Common.{true}
 use Rattle.hub_core.specs.Desks.{fault_of, data_answer}
 use Rattle.std.specs.Prelude.{Ok}
-use Rattle.hub_core.specs.Seats.{Sitting, sitting, seat_stand, IfSitting}
+use Rattle.hub_core.specs.Seats.{Sitting, sitting, seat_stand}
 use Rattle.hub_core.proofs.SeatCalls.{data_made, data_refused}
 use Rattle.hub_core.proofs.seat.SeatDesk.data_in.Goals as goal
 

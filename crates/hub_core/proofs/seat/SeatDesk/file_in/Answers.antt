@@ -1,11 +1,11 @@
-use Rattle.std.proofs.Common.{◌≡◌, Option, Some, None, option_map, refl, sym, ◌∙◌, ap, subst}
+use Rattle.std.proofs.Common.{◌≡◌, Option, Some, option_map, sym, ◌∙◌, ap, subst}
 use Rattle.std.proofs.Common.{true, ℕ}
 use Rattle.std.specs.Prelude.{Ok}
 use Rattle.ftn_addr.specs.Key.{key_of}
 use Rattle.node_model.specs.Calls.{File_call, Refused, Counts}
 use Rattle.node_model.specs.Images.{Kept}
 use Rattle.node_model.specs.Stores.{StoreState}
-use Rattle.hub_core.specs.Desks.{DeskPart, fault_of, file_answer, part_after}
+use Rattle.hub_core.specs.Desks.{fault_of, file_answer, part_after}
 use Rattle.hub_core.specs.Seats.{Sitting, sitting, seat_stand, seat_part}
 use Rattle.hub_core.proofs.SeatCalls.{LetsGo, settled_after, file_made, file_refused, file_part}
 use Rattle.hub_core.proofs.seat.SeatDesk.file_in.Goals as goal

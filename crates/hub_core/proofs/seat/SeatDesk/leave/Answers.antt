@@ -1,4 +1,4 @@
-use Rattle.std.proofs.Common.{◌≡◌, Option, Some, None, option_map, refl, sym, ◌∙◌, ap, subst}
+use Rattle.std.proofs.Common.{Option, Some, option_map, sym, ap, subst}
 use Rattle.std.proofs.Common.{true}
 use Rattle.node_model.specs.Calls.{Leave_call, Settled}
 use Rattle.node_model.specs.Images.{Kept}

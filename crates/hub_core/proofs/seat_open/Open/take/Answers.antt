@@ -1,11 +1,10 @@
 use Rattle.std.proofs.lemmas.Result.{err_from_is_err_and}
-use Rattle.std.proofs.Common.{◌≡◌, Some, subst, sym, ◌∙◌, ap}
-use Rattle.ftn_addr.specs.Address.{address}
+use Rattle.std.proofs.Common.{subst, sym, ◌∙◌, ap}
 use Rattle.ftn_addr.specs.Key.{Key, key_of}
 use Rattle.node_model.specs.Stores.{Opened}
 use Rattle.hub_core.specs.Seats.{sitting}
-use Rattle.hub_core.specs.SeatSteps.{OpensUnder, Takes, TakePasses, ReceivePasses, state_in}
-use Rattle.hub_core.proofs.Seats.{IsEmptyNew, told_unknown, empty_whole, whole_is, receipt_passes, empty_leaves, broken_takes, broken_free, broken_now}
+use Rattle.hub_core.specs.SeatSteps.{OpensUnder, ReceivePasses}
+use Rattle.hub_core.proofs.Seats.{IsEmptyNew, told_unknown, empty_whole, whole_is, empty_leaves, broken_takes, broken_free, broken_now}
 use Rattle.hub_core.proofs.seat_open.Open.take.Goals as goal
 
 pub returns-then-left-eq0-clause-takes : goal.returns-then-left-eq0-clause-takes

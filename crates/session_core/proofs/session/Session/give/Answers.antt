@@ -1,5 +1,3 @@
-use Rattle.std.proofs.Common.{ap}
-use Rattle.session_core.specs.Replies.{stage_of}
 use Rattle.session_core.proofs.Gives.{gave_early}
 use Rattle.session_core.proofs.session.Session.give.Goals as goal
 

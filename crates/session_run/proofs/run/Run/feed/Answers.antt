@@ -1,7 +1,4 @@
-use Rattle.std.proofs.Common.{[], List, ℕ, refl, subst}
-use Rattle.ftn_addr.specs.Frames.{FrameText}
-use Rattle.binkp_frame.specs.Stream.{Feeds}
-use Rattle.binkp_frame.specs.Views.{frame_texts}
+use Rattle.std.proofs.Common.{refl}
 use Rattle.session_run.specs.Machine.{Taking}
 use Rattle.session_run.proofs.Runs.{fed_it, gave_up_at}
 use Rattle.session_run.proofs.run.Run.feed.Goals as goal

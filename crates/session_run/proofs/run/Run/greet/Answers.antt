@@ -1,4 +1,4 @@
-use Rattle.std.proofs.Common.{refl, ap, sym, subst, ◌∙◌, ◌≡◌, Ok}
+use Rattle.std.proofs.Common.{refl, subst, ◌≡◌, Ok}
 use Rattle.ftn_addr.specs.Address.{address}
 use Rattle.node_model.specs.Calls.{Answer, Let_in, Refused, Knock_call}
 use Rattle.node_model.specs.Images.{Kept}

@@ -1,8 +1,7 @@
-use Rattle.std.proofs.Common.{◌≡◌, ◌+◌, ◌&&◌, ◌++◌, ℕ, Bool, List, length, ap, sym, subst, refl, ◌∙◌}
-use Rattle.std.specs.Prelude.{◌==◌}
+use Rattle.std.proofs.Common.{◌≡◌, ◌+◌, ◌&&◌, ◌++◌, ℕ, Bool, List, ap, sym, subst, refl, ◌∙◌}
 use Rattle.binkp_link.specs.Lines.{IsRead, came}
 use Rattle.session_run.specs.Machine.{Taking, Reading, after_read}
-use Rattle.session_run.specs.Runs.{Came, over_or}
+use Rattle.session_run.specs.Runs.{over_or}
 use Rattle.session_run.proofs.Runs.{gave_up_at, came_it}
 use Rattle.session_run.proofs.Room.{read_advanced}
 use Rattle.session_run.proofs.run.Run.read_once.Goals as goal

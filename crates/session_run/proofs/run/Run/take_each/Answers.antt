@@ -1,5 +1,4 @@
-use Rattle.std.proofs.Common.{◌∙◌, refl, sym, ap}
-use Rattle.binkp_frame.specs.Views.{frame_text, frame_texts}
+use Rattle.std.proofs.Common.{refl}
 use Rattle.session_core.specs.declared.ending.Took.TheVariants as T
 use Rattle.session_run.proofs.Runs.{goes_then, goes_nowhere, took_it, over_drops, pending_as, next_pending, none_pending}
 use Rattle.session_run.proofs.run.Run.take_each.Goals as goal

@@ -1,4 +1,4 @@
-use Rattle.std.proofs.Common.{refl, ap, arith}
+use Rattle.std.proofs.Common.{ap}
 use Rattle.session_run.specs.Machine.{Taking}
 use Rattle.session_run.specs.Runs.{over_or}
 use Rattle.session_run.proofs.Runs.{goes_then, ends_at}

@@ -1,6 +1,6 @@
 use Rattle.std.proofs.Common.{refl, ap, sym, ◌∙◌, ◌≡◌}
 use Rattle.session_core.specs.Replies.{setting_of}
-use Rattle.session_run.specs.Machine.{after_took, after_gave, Writing, Taking, Reading}
+use Rattle.session_run.specs.Machine.{after_took, after_gave, Writing, Reading}
 use Rattle.session_run.specs.Runs.{over_or}
 use Rattle.session_run.proofs.Runs.{goes_then, ends_at}
 use Rattle.session_run.proofs.run.Run.turn.Goals as goal

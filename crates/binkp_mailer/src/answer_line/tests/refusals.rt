@@ -1,0 +1,168 @@
+//! What a caller gets whose frames aren't those of an ordinary session.
+use super::{BROKEN_FRAME, END, GOT, GREETING, LOGIN, OFFER, WELCOME, answer, fast_line, joined};
+use crate::Status;
+use binkp_args::ArgFault;
+use ftn_addr::NoMemory;
+use node_model::ListStore;
+use session_core::Cause;
+use std::alloc::Global;
+use std::test::Fail;
+
+const ADDRESS: &[u8] = b"\x80\x12\x012:5047/13@fidonet";
+
+const PASSWORD: &[u8] = b"\x80\x02\x02-";
+
+const DATA: &[u8] = b"\x00\x05hello";
+
+// M_NUL, and a command that isn't known.
+const PASSED_OVER: [&[u8]; 2] = [b"\x80\x06\x00SYS x", b"\x80\x02\x0bx"];
+
+// M_OK, M_GOT, M_ERR, M_BSY, M_GET and M_SKIP, and a password.
+const NOT_BUILT: [&[u8]; 7] = [
+    b"\x80\x07\x04secure",
+    b"\x80\x13\x06a.txt 5 1000000000",
+    b"\x80\x08\x07go away",
+    b"\x80\x05\x08busy",
+    b"\x80\x15\x09a.txt 5 1000000000 0",
+    b"\x80\x13\x0aa.txt 5 1000000000",
+    b"\x80\x07\x02secret",
+];
+
+// What came of a session: its status, what was written behind the greeting, and how many files were received.
+fn came_of(
+    alloc: Global,
+    pieces: &[&[u8]],
+    behind: &[&[u8]],
+) -> Result<(Status, bool, usize), NoMemory> {
+    let call = joined(alloc, pieces)?;
+    let mut line = fast_line(alloc, call.as_slice())?;
+    let (status, store) = answer(alloc, ListStore::new(alloc), &mut line)?;
+    let mut wanted = joined(alloc, &[GREETING])?;
+    wanted.push_slice(joined(alloc, behind)?.as_slice())?;
+    let as_wanted = line.written() == wanted.as_slice();
+    Ok((status, as_wanted, store.receipts().len()))
+}
+
+#[test]
+fn a_frame_in_place_of_the_address(rt: HostRuntime) -> Result<(), Fail> {
+    let alloc = rt.alloc();
+    let later: &[&[u8]] = &[PASSWORD, OFFER, DATA, END];
+    for frame in &PASSED_OVER {
+        let call = joined(alloc, &[frame, PASSWORD, OFFER, DATA, END])?;
+        let came = came_of(alloc, &[call.as_slice()], &[BROKEN_FRAME])?;
+        assert_eq!(rt; came, (Status::Broke(Cause::OutOfTurn, 2), true, 0));
+    }
+    for frame in &NOT_BUILT {
+        let call = joined(alloc, &[frame, PASSWORD, OFFER, DATA, END])?;
+        let came = came_of(alloc, &[call.as_slice()], &[BROKEN_FRAME])?;
+        assert_eq!(rt; came, (Status::Broke(Cause::OutOfTurn, 1), true, 0));
+    }
+    for frame in later {
+        let came = came_of(alloc, &[frame, PASSWORD], &[BROKEN_FRAME])?;
+        assert_eq!(rt; came, (Status::Broke(Cause::OutOfTurn, 1), true, 0));
+    }
+    Ok(())
+}
+
+#[test]
+fn a_frame_in_place_of_the_password(rt: HostRuntime) -> Result<(), Fail> {
+    let alloc = rt.alloc();
+    let later: &[&[u8]] = &[OFFER, DATA, END];
+    for frame in &PASSED_OVER {
+        let came = came_of(alloc, &[ADDRESS, frame, OFFER, DATA], &[BROKEN_FRAME])?;
+        assert_eq!(rt; came, (Status::Broke(Cause::OutOfTurn, 3), true, 0));
+    }
+    for frame in &NOT_BUILT {
+        let came = came_of(alloc, &[ADDRESS, frame, OFFER, DATA], &[BROKEN_FRAME])?;
+        assert_eq!(rt; came, (Status::Broke(Cause::OutOfTurn, 2), true, 0));
+    }
+    for frame in later {
+        let came = came_of(alloc, &[ADDRESS, frame, OFFER], &[BROKEN_FRAME])?;
+        assert_eq!(rt; came, (Status::Broke(Cause::OutOfTurn, 2), true, 0));
+    }
+    Ok(())
+}
+
+#[test]
+fn a_frame_in_place_of_the_offer(rt: HostRuntime) -> Result<(), Fail> {
+    let alloc = rt.alloc();
+    let dropped: &[&[u8]] = &[ADDRESS, PASSWORD, DATA, END];
+    for frame in &PASSED_OVER {
+        let came = came_of(alloc, &[LOGIN, frame, DATA, END], &[WELCOME, END])?;
+        assert_eq!(rt; came, (Status::Done, true, 0));
+    }
+    for frame in dropped {
+        let came = came_of(alloc, &[LOGIN, frame, DATA, END], &[WELCOME, END])?;
+        assert_eq!(rt; came, (Status::Done, true, 0));
+    }
+    for frame in &NOT_BUILT {
+        let came = came_of(alloc, &[LOGIN, frame, DATA, END], &[WELCOME, BROKEN_FRAME])?;
+        assert_eq!(rt; came, (Status::Broke(Cause::OutOfTurn, 3), true, 0));
+    }
+    Ok(())
+}
+
+#[test]
+fn a_frame_in_place_of_the_data(rt: HostRuntime) -> Result<(), Fail> {
+    let alloc = rt.alloc();
+    let without: &[&[u8]] = &[ADDRESS, PASSWORD, OFFER, END];
+    for frame in &PASSED_OVER {
+        let came = came_of(alloc, &[LOGIN, OFFER, frame, END], &[WELCOME, END])?;
+        assert_eq!(rt; came, (Status::Dropped, true, 0));
+    }
+    for frame in without {
+        let came = came_of(alloc, &[LOGIN, OFFER, frame, END], &[WELCOME, END])?;
+        assert_eq!(rt; came, (Status::Dropped, true, 0));
+    }
+    for frame in &NOT_BUILT {
+        let came = came_of(alloc, &[LOGIN, OFFER, frame, END], &[WELCOME, BROKEN_FRAME])?;
+        assert_eq!(rt; came, (Status::Broke(Cause::OutOfTurn, 4), true, 0));
+    }
+    Ok(())
+}
+
+#[test]
+fn a_frame_in_place_of_the_end(rt: HostRuntime) -> Result<(), Fail> {
+    let alloc = rt.alloc();
+    let passed: &[&[u8]] = &[ADDRESS, PASSWORD, DATA];
+    for frame in &PASSED_OVER {
+        let came = came_of(alloc, &[LOGIN, OFFER, DATA, frame], &[WELCOME, GOT])?;
+        assert_eq!(rt; came, (Status::Dropped, true, 1));
+    }
+    for frame in passed {
+        let came = came_of(alloc, &[LOGIN, OFFER, DATA, frame], &[WELCOME, GOT])?;
+        assert_eq!(rt; came, (Status::Dropped, true, 1));
+    }
+    for frame in &NOT_BUILT {
+        let came = came_of(
+            alloc,
+            &[LOGIN, OFFER, DATA, frame],
+            &[WELCOME, GOT, BROKEN_FRAME],
+        )?;
+        assert_eq!(rt; came, (Status::Broke(Cause::OutOfTurn, 5), true, 1));
+    }
+    let came = came_of(alloc, &[LOGIN, OFFER, DATA, OFFER], &[WELCOME, GOT, GOT])?;
+    assert_eq!(rt; came, (Status::Dropped, true, 1));
+    Ok(())
+}
+
+#[test]
+fn an_argument_that_cannot_be_read_is_refused(rt: HostRuntime) -> Result<(), Fail> {
+    let alloc = rt.alloc();
+    let cases: [(&[u8], ArgFault); 4] = [
+        (b"\x80\x08\x03a.txt 5", ArgFault::MissingWord(3)),
+        (b"\x80\x0c\x03a.txt x 1 0", ArgFault::BadNumber(2)),
+        (b"\x80\x15\x03a.txt 2147483648 1 0", ArgFault::TooLarge),
+        (b"\x80\x15\x03a.txt 5 1000000000 6", ArgFault::PastEnd),
+    ];
+    for (frame, fault) in &cases {
+        let came = came_of(alloc, &[LOGIN, frame, DATA, END], &[WELCOME, BROKEN_FRAME])?;
+        assert_eq!(rt; came, (Status::Broke(Cause::Arg(*fault), 3), true, 0));
+    }
+    let came = came_of(alloc, &[b"\x80\x04\x01x y", PASSWORD], &[BROKEN_FRAME])?;
+    assert_eq!(rt;
+        came,
+        (Status::Broke(Cause::Arg(ArgFault::NoAddress), 1), true, 0)
+    );
+    Ok(())
+}
