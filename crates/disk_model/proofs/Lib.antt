@@ -3,5 +3,6 @@ mod HoldingLemmas
 mod NameLemmas
 mod OwnLemmas
 mod PlayLemmas
+mod TwiceLemmas
 mod UndoLemmas
 mod YardLemmas

@@ -1,6 +1,7 @@
 pub mod Answers
 pub mod Causes
 pub mod Changes
+pub mod CountLaws
 pub mod EntryLaws
 pub mod Folders
 pub mod Holding
@@ -13,5 +14,6 @@ pub mod PickLaws
 pub mod Picks
 pub mod StopLaws
 pub mod TornLaws
+pub mod Twice
 pub mod Undo
 pub mod World

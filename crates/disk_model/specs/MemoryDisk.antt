@@ -1,9 +1,12 @@
 -- A disk in memory: what a read gives, and what a stop may leave after so many of its calls (own).
-use Rattle.std.specs.Prelude.{◌≡◌, ◌⊎◌, ℕ, List, [], ◌∷◌, ◌++◌, length, take, Some, None, Result, Ok, Err, MatchResult, IsErr}
+use Rattle.std.specs.Prelude.{◌≡◌, ◌⊎◌, ℕ, List, [], ◌∷◌, ◌++◌, ◌+◌, length, take, Some, None, Contains, Result, Ok, Err, MatchResult, IsErr}
+use Rattle.ftn_addr.specs.Counts.{risen}
 use Rattle.ftn_addr.specs.declared.refusals.NoMemory.{NoMemory}
 use Rattle.disk_model.specs.World.{World}
 use Rattle.disk_model.specs.Changes.{OnOwn, OnOutside, Rewrites, Torn, Cut, Puts, PutsPart, Renames, Moves, Gives}
-use Rattle.disk_model.specs.Holding.{Holding, first_calls, play, shown}
+use Rattle.disk_model.specs.Holding.{Holding, calls_in, first_calls, play, shown}
+use Rattle.disk_model.specs.declared.answers.ListFault.{ListFault}
+use Rattle.disk_model.specs.declared.answers.ListFault.TheVariants.{Failed, NoMemory as NoRoom}
 use Rattle.disk_model.specs.declared.memory.call.Call.{Call}
 use Rattle.disk_model.specs.declared.memory.call.Call.TheVariants.{Nothing, Wrote, Shortened, Synced, Created, Removed, Renamed, Placed, PutOut, LostOut, Moved, Copied, Given}
 use Rattle.disk_model.specs.declared.memory.disk.MemDisk.{MemDisk}
@@ -36,6 +39,10 @@ left first calls c = run (λ w. w ≡ shown first) first calls c
 
 abbrev pub mem_files : MemDisk → World → Type 0
 mem_files d w = w ≡ shown d.held
+
+-- it tells its content
+abbrev pub Tells : MemDisk → Type 0
+Tells d = (w : World) × mem_files d w
 
 abbrev pub mem_moment : MemDisk → ℕ
 mem_moment d = length d.log.items
@@ -71,3 +78,29 @@ NotedAs (Err e) result old new = IsErr result × Unnoted old new
 abbrev pub Plays : {T E : Type 0} → Result Call NoMemory → Result T E → World → World → World → Type 0
 Plays (Ok x) result read d c = MatchResult result (λ _. may x read d c) (λ _. c ≡ d)
 Plays (Err e) result read d c = MatchResult result (λ _. ⊥) (λ _. c ≡ d)
+
+-- a call took its number, and the calls that are to fail are the same
+pub record Numbered (old new : MemDisk) : Type 0 where
+  pub calls : calls_in new.log.items ≡ calls_in old.log.items + 1
+  pub failing : new.failing.items ≡ old.failing.items
+
+-- a call took no number
+pub record Unnumbered (old new : MemDisk) : Type 0 where
+  pub calls : calls_in new.log.items ≡ calls_in old.log.items
+  pub failing : new.failing.items ≡ old.failing.items
+
+-- whether the next call is one of those that are to fail
+abbrev pub IsToFail : MemDisk → Type 0
+IsToFail d = Contains d.failing.items (risen (calls_in d.log.items))
+
+-- A call whose number is one of those that are to fail fails. Another fails only for want of memory, and then it takes no
+-- number.
+abbrev pub FailsAsSet : {T E : Type 0} → Result T E → MemDisk → MemDisk → Type 0
+FailsAsSet (Ok v) old new = (IsToFail old → ⊥) × Numbered old new × (new.faults ≡ old.faults)
+FailsAsSet (Err e) old new = ((IsToFail old × Numbered old new) ⊎ Unnumbered old new) × (new.faults ≡ risen old.faults)
+
+-- the same of a call that lists: where it found no memory for the list, it took no number and counts no fault
+abbrev pub ListsAsSet : {T : Type 0} → Result T ListFault → MemDisk → MemDisk → Type 0
+ListsAsSet (Ok v) old new = (IsToFail old → ⊥) × Numbered old new × (new.faults ≡ old.faults)
+ListsAsSet (Err Failed) old new = ((IsToFail old × Numbered old new) ⊎ Unnumbered old new) × (new.faults ≡ risen old.faults)
+ListsAsSet (Err NoRoom) old new = Unnumbered old new × (new.faults ≡ old.faults)

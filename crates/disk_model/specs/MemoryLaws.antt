@@ -7,7 +7,7 @@ use Rattle.disk_model.specs.World.{World}
 use Rattle.disk_model.specs.Changes.{Follows}
 use Rattle.disk_model.specs.Moments.{Now, Steps}
 use Rattle.disk_model.specs.Holding.{Holding, play, replay, shown}
-use Rattle.disk_model.specs.MemoryDisk.{may, run, left, mem_files, mem_moment, mem_images, Added, Unnoted, NotedAs, Plays}
+use Rattle.disk_model.specs.MemoryDisk.{may, run, left, Tells, mem_files, mem_moment, mem_images, Added, Unnoted, NotedAs, Plays}
 use Rattle.disk_model.specs.StopLaws.{shown_left, whole}
 use Rattle.disk_model.specs.declared.memory.call.Call.{Call}
 use Rattle.disk_model.specs.declared.memory.call.Call.TheVariants.{Nothing}
@@ -23,6 +23,10 @@ now_of d c is = subst (λ (l : List Call). left d.first l c) (take_all (length d
 
 of_now : (d : MemDisk) (c : World) → left d.first d.log.items c → Now mem_moment mem_images d c
 of_now d c is = subst (λ (l : List Call). left d.first l c) (sym (take_all (length d.log.items) d.log.items (omega arith))) is
+
+-- a disk in memory tells its content, whatever was called
+pub mem_tells : (d : MemDisk) → Tells d
+mem_tells d = (shown d.held, refl)
 
 pub mem_as_read : (d : MemDisk) (w : World) → mem_files d w → Now mem_moment mem_images d w
 mem_as_read d w is =

@@ -10,11 +10,14 @@
 //! [`MemDisk`] is both in memory: it keeps its calls, lets those fail that a test names, and gives the
 //! images of a stop.
 //!
+//! [`write_twice`] shows on a few lines what a caller gets from these contracts.
+//!
 //! Left out: a real folder (`real_edge`).
 #![tactic(auto)]
 
 mod answers;
 mod disk;
+mod example;
 mod memory;
 mod name;
 #[cfg(test)]
@@ -23,6 +26,7 @@ mod yard;
 
 pub use answers::{Copied, Giving, Hit, ListFault, Made, Marking, Moved, OutStat};
 pub use disk::Disk;
+pub use example::{Piece, write_twice};
 pub use memory::MemDisk;
 pub use name::Name;
 pub use yard::Yard;

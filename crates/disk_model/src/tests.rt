@@ -1,4 +1,7 @@
-use crate::{Copied, Disk, Giving, Hit, Made, Marking, MemDisk, Moved, Name, OutStat, Yard};
+use crate::{
+    Copied, Disk, Giving, Hit, Made, Marking, MemDisk, Moved, Name, OutStat, Piece, Yard,
+    write_twice,
+};
 use ftn_addr::{Bytes, Failed};
 use std::alloc::Global;
 use std::test::Fail;
@@ -67,17 +70,50 @@ fn written_over(alloc: Global) -> Result<MemDisk, Fail> {
     Ok(disk)
 }
 
+// Writes behind a front that the file has.
+fn write_behind<D: Disk>(disk: &mut D, name: &Name, at: u64, text: &[u8]) -> Result<(), Failed> {
+    match disk.stat(name)? {
+        Some(len) if at <= len => disk.write_at(name, at, text),
+        _ => Err(Failed),
+    }
+}
+
+// Two pieces in a file that has their places.
+fn write_both<D: Disk>(
+    disk: &mut D,
+    name: &Name,
+    first: Piece<'_>,
+    second: Piece<'_>,
+) -> Result<(), Failed> {
+    match disk.stat(name)? {
+        Some(len) if first.at.max(second.at) <= len => write_twice(disk, name, first, second),
+        _ => Err(Failed),
+    }
+}
+
+// The disk after a stop behind all its calls.
+fn stopped(disk: MemDisk, pick: u64) -> Result<MemDisk, Fail> {
+    let after = disk.calls();
+    match disk.stop(after, pick) {
+        Ok(disk) => Ok(disk),
+        Err((_, e)) => Err(e.into()),
+    }
+}
+
 // What a stop leaves of it.
 fn left(alloc: Global, pick: u64) -> Result<[u8; 4], Fail> {
-    let disk = written_over(alloc)?;
-    let after = disk.calls();
-    let mut stopped = match disk.stop(after, pick) {
-        Ok(disk) => disk,
-        Err((_, e)) => return Err(e.into()),
-    };
+    let mut left = stopped(written_over(alloc)?, pick)?;
     let mut out = [0; 4];
-    read_front(&mut stopped, &name(b"a")?, &mut out)?;
+    read_front(&mut left, &name(b"a")?, &mut out)?;
     Ok(out)
+}
+
+// A disk with an outside file of 3 bytes and the time 7, whose call with that number is to fail.
+fn with_outside(alloc: Global, path: &Bytes, failing: u64) -> Result<MemDisk, Fail> {
+    let mut yard = MemDisk::new(alloc);
+    yard.put_out(path, b"abc", 7)?;
+    yard.fail_at(failing)?;
+    Ok(yard)
 }
 
 #[test]
@@ -90,6 +126,77 @@ fn each_digit_leaves_its_bytes(rt: HostRuntime) -> Result<(), Fail> {
     assert_eq!(rt; left(rt.alloc(), 1)?, *b"xycd");
     assert_eq!(rt; left(rt.alloc(), 2)?, [135, 134, 99, 100]);
     assert_eq!(rt; left(rt.alloc(), 3)?, [1, 1, 99, 100]);
+    Ok(())
+}
+
+#[test]
+fn a_synced_front_stays_at_each_digit(rt: HostRuntime) -> Result<(), Fail> {
+    let a = name(b"a")?;
+    for (pick, want) in [
+        (0, b"abxy\0".as_slice()),
+        (1, b"abcde".as_slice()),
+        (2, [97, 98, 156, 155, 154].as_slice()),
+        (3, [97, 98, 1, 1, 1].as_slice()),
+    ] {
+        let mut disk = MemDisk::new(rt.alloc());
+        put_and_write(&mut disk, &a, b"abxy", b"")?;
+        write_behind(&mut disk, &a, 2, b"cde")?;
+        let mut left = stopped(disk, pick)?;
+        let mut out = [0; 5];
+        let len = if pick == 0 { 4 } else { 5 };
+        assert_eq!(rt; left.stat(&a), Ok(Some(len)));
+        read_front(&mut left, &a, &mut out[..len as usize])?;
+        assert_eq!(rt; out.as_slice(), want);
+    }
+    Ok(())
+}
+
+#[test]
+fn two_writes_and_a_sync_last(rt: HostRuntime) -> Result<(), Fail> {
+    let mut disk = written_over(rt.alloc())?;
+    let a = name(b"a")?;
+    let first = Piece {
+        at: 4,
+        bytes: b"ef",
+    };
+    let second = Piece { at: 1, bytes: b"Y" };
+    assert_eq!(rt; write_both(&mut disk, &a, first, second), Ok(()));
+    assert_eq!(rt; disk.picks(disk.calls()), 1);
+    let mut left = stopped(disk, 0)?;
+    let mut out = [0; 6];
+    read_front(&mut left, &a, &mut out)?;
+    assert_eq!(rt; out, *b"xYcdef");
+    Ok(())
+}
+
+#[test]
+fn each_call_of_the_yard_that_is_to_fail_changes_nothing(rt: HostRuntime) -> Result<(), Fail> {
+    let alloc = rt.alloc();
+    let a = name(b"a")?;
+    let (folder, path) = (bytes(alloc, b"in")?, bytes(alloc, b"in/x")?);
+    let stat = OutStat { size: 3, time: 7 };
+    for call in 0..7 {
+        let mut yard = with_outside(alloc, &path, 1)?;
+        let failed = match call {
+            0 => yard.look(&path).is_err(),
+            1 => yard.copy(&path, &a, 3).is_err(),
+            2 => yard.remove_if(&path, &stat).is_err(),
+            3 => yard.cut_if(&path, &stat).is_err(),
+            4 => yard.mark(&folder, &path).is_err(),
+            5 => yard.unmark(&path, &folder).is_err(),
+            _ => yard.names(&folder).is_err(),
+        };
+        assert!(rt; failed);
+        assert_eq!(rt; (yard.calls(), yard.faults()), (1, 1));
+        assert_eq!(rt; yard.look(&path), Ok(Some(stat)));
+        assert_eq!(rt; yard.stat(&a), Ok(None));
+    }
+    let mut yard = with_outside(alloc, &path, 2)?;
+    assert_eq!(rt; take_free(&mut yard, &path, &a), Err(Failed));
+    assert_eq!(rt; yard.look(&path), Ok(Some(stat)));
+    let mut yard = with_outside(alloc, &path, 2)?;
+    assert_eq!(rt; give_new(&mut yard, &a, &folder, &folder), Err(Failed));
+    assert_eq!(rt; yard.stat(&a), Ok(Some(0)));
     Ok(())
 }
 

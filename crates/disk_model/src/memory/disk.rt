@@ -1,6 +1,7 @@
 //! A disk in memory.
 ghost use Rattle.std.specs.Prelude.{◌≡◌};
 ghost use Rattle.disk_model.specs.Holding.{calls_in, calm, replay};
+ghost use Rattle.disk_model.specs.Picks.{counts_along};
 
 use super::call::Call;
 use super::holdings::Holdings;
@@ -21,4 +22,5 @@ pub struct MemDisk {
     ghost replayed: { held ≡ replay first log.items },
     ghost synced: { first ≡ calm first },
     ghost counted: { calls ≡ calls_in log.items },
+    ghost changes: { changed.items ≡ counts_along first log.items },
 }

@@ -1,6 +1,7 @@
 //! What a disk in memory keeps, and each change of it.
 ghost use Rattle.std.specs.Prelude.{◌≡◌, [], IfOk, OnOk, OnErr, IfSome, IsSome, false, Option};
 ghost use Rattle.disk_model.specs.Holding.{empty, play, is_named, under, adding, without};
+ghost use Rattle.disk_model.specs.Picks.{changed_in};
 ghost use Rattle.disk_model.specs.declared.memory.call.Call.TheVariants.{Wrote, Shortened, Synced, Created, Removed, Renamed, PutOut, LostOut, Moved, Copied, Given};
 
 use super::block::Block;
@@ -78,6 +79,24 @@ impl Holdings {
             Call::Copied(name, bytes) => self.copy(alloc, name, bytes.as_slice()),
             Call::Given(own, folder, name, path) => self.give(alloc, own, folder, name, path),
         }
+    }
+
+    /// The same, where `changed` own files had unsynced changes before. It answers how many have after it.
+    #[tactic(auto, using(crate::specs::CountLaws::changed_play))]
+    pub fn play_counting(
+        &mut self,
+        alloc: Global,
+        call: &Call,
+        changed: usize,
+    ) -> Result<usize, NoMemory>
+        requires { changed ≡ changed_in self.old.own }
+        ensures ok { OnOk result (self.new ≡ play call.now self.old) }
+        ensures changed { IfOk result (λ n. n ≡ changed_in self.new.own) }
+        ensures err { OnErr result (self.new ≡ self.old) }
+    {
+        let before = self.changed_by(call);
+        self.play(alloc, call)?;
+        Ok(changed + self.changed_by(call) - before)
     }
 
     #[tactic(auto, using(std::proofs::lemmas::Map::Steps::set_value_same))]
@@ -227,7 +246,7 @@ impl Holdings {
     }
 }
 
-fn is_same(name: &Name, other: &Name) -> bool
+pub(super) fn is_same(name: &Name, other: &Name) -> bool
     ensures { result ≡ is_named name.now other.now }
 {
     name.cmp(other).is_eq()

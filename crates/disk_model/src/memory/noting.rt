@@ -1,11 +1,12 @@
 //! Making a disk in memory, and noting its calls.
-ghost use Rattle.std.specs.Prelude.{◌≡◌, ◌≤◌, ℕ, [], ◌∷◌, ◌++◌, Some, None, Err, MatchResult, OnOk, OnErr};
+ghost use Rattle.std.specs.Prelude.{◌≡◌, ◌≤◌, ℕ, [], ◌∷◌, ◌++◌, true, Some, None, Err, MatchResult, IfOk, OnOk, OnErr};
+ghost use Rattle.ftn_addr.specs.Counts.{risen};
 ghost use Rattle.disk_model.specs.Causes.{HasCause};
 ghost use Rattle.disk_model.specs.Changes.{Every, Follows, Same, OnOutside, Puts};
 ghost use Rattle.disk_model.specs.Moments.{Steps};
 ghost use Rattle.disk_model.specs.Holding.{Holding, calls_in, is_call, empty, play, replay, shown};
 ghost use Rattle.disk_model.specs.World.{nothing_there};
-ghost use Rattle.disk_model.specs.MemoryDisk.{mem_files, mem_moment, mem_images, Added, Unnoted, NotedAs, Plays};
+ghost use Rattle.disk_model.specs.MemoryDisk.{mem_files, mem_moment, mem_images, Added, Unnoted, NotedAs, Plays, Tells, Unnumbered, FailsAsSet};
 
 use super::block::Block;
 use super::call::Call;
@@ -32,10 +33,14 @@ impl MemDisk {
         }
     }
 
-    /// The call of that number, counted from 1, is to fail.
+    /// The call of that number, counted from 1, is to fail. Others fail only for want of memory, and such a
+    /// call takes no number.
+    #[tactic(auto, using(crate::specs::MemoryLaws::mem_tells))]
     pub fn fail_at(&mut self, call: u64) -> Result<(), NoMemory>
         ensures listed { OnOk result (self.new.failing.items ≡ self.old.failing.items ++ call ∷ []) }
+        ensures err { OnErr result (self.new.failing.items ≡ self.old.failing.items) }
         ensures same { Unnoted self.old self.new }
+        ensures tells { Tells self.new }
         ensures faults { self.new.faults ≡ self.old.faults }
     {
         self.failing.push(call)?;
@@ -50,10 +55,13 @@ impl MemDisk {
     }
 
     /// Puts an outside file, as another program does. This is no call of the disk.
+    #[tactic(auto, using(crate::specs::MemoryLaws::mem_tells))]
     pub fn put_out(&mut self, path: &Bytes, bytes: &[u8], time: u64) -> Result<(), NoMemory>
         ensures read { OnOk result (Follows (OnOutside (Puts path.now.list (Some (record { bytes = bytes.now; time = time })))) (mem_files self.old) (mem_files self.new)) }
         ensures stop { OnOk result (Steps mem_moment mem_images (OnOutside (Puts path.now.list (Some (record { bytes = bytes.now; time = time })))) self.old self.new) }
         ensures same { OnErr result (Unnoted self.old self.new) }
+        ensures tells { Tells self.new }
+        ensures uncounted { Unnumbered self.old self.new }
         ensures faults { self.new.faults ≡ self.old.faults }
     {
         let path = Block::from_bytes(self.alloc, path)?;
@@ -62,35 +70,35 @@ impl MemDisk {
     }
 
     // Makes the change and notes it, or finds no memory.
-    #[tactic(auto, using(crate::specs::MemoryLaws::replay_add))]
+    #[tactic(auto, using(crate::specs::MemoryLaws::replay_add, crate::specs::CountLaws::counts_add))]
     fn add(&mut self, call: Call) -> Result<(), NoMemory>
         ensures ok { OnOk result (Added call self.old self.new) }
         ensures err { OnErr result (Unnoted self.old self.new) }
         ensures faults { self.new.faults ≡ self.old.faults }
+        ensures failing { self.new.failing.items ≡ self.old.failing.items }
     {
         self.log.reserve(1)?;
-        let before = self.changed.last().copied().unwrap_or(0);
-        let touched = self.held.changed_by(&call);
-        self.changed.push(before.saturating_sub(touched))?;
-        if self.held.play(self.alloc, &call).is_err() {
-            self.changed.pop();
-            return Err(NoMemory);
-        }
-        if let Some(changed) = self.changed.last_mut() {
-            *changed = changed.saturating_add(self.held.changed_by(&call));
-        }
+        self.changed.reserve(1)?;
+        let before = self.changed_behind(self.log.len());
+        let changed = self.held.play_counting(self.alloc, &call, before)?;
         let calls = calls_with(self.calls, &self.log, &call);
-        match self.log.push(call) {
-            Ok(()) => {
-                self.calls = calls;
-                Ok(())
-            }
-            Err(_) => unreachable!(),
-        }
+        self.log.push(call).unwrap();
+        self.changed.push(changed).unwrap();
+        self.calls = calls;
+        Ok(())
+    }
+
+    // The number of the next call.
+    fn next_number(&self) -> u64
+        ensures { result ≡ risen (calls_in self.now.log.items) }
+    {
+        self.calls.saturating_add(1)
     }
 
     fn fail(&mut self) -> Failed
         ensures same { Unnoted self.old self.new }
+        ensures failing { self.new.failing.items ≡ self.old.failing.items }
+        ensures risen { self.new.faults ≡ risen self.old.faults }
         ensures cause { HasCause {T = ℕ} self.old.faults self.new.faults (Err result) }
     {
         self.faults = self.faults.saturating_add(1);
@@ -99,9 +107,11 @@ impl MemDisk {
 
     /// Notes a call, unless it is to fail or there is no memory: then nothing changes.
     pub(super) fn note(&mut self, call: Result<Call, NoMemory>) -> Result<(), Failed>
+        requires { IfOk call (λ x. is_call x ≡ true) }
         ensures done { OnOk result (MatchResult call (λ x. self.new.held ≡ play x self.old.held) (λ _. ⊥)) }
         ensures read { Follows (Plays call result (shown self.old.held)) (mem_files self.old) (mem_files self.new) }
         ensures stop { Steps mem_moment mem_images (Plays call result (shown self.old.held)) self.old self.new }
+        ensures as_set { FailsAsSet result self.old self.new }
         ensures cause { HasCause self.old.faults self.new.faults result }
     {
         self.enter(call)
@@ -112,6 +122,7 @@ impl MemDisk {
         ensures held { OnOk result (self.new.held ≡ self.old.held) }
         ensures read { Every (mem_files self.new) (mem_files self.old) }
         ensures stop { Steps mem_moment mem_images Same self.old self.new }
+        ensures as_set { FailsAsSet result self.old self.new }
         ensures cause { HasCause self.old.faults self.new.faults result }
     {
         self.note(Ok(Call::Nothing))
@@ -121,19 +132,22 @@ impl MemDisk {
     pub(super) fn no_memory(&mut self) -> Failed
         ensures read { Every (mem_files self.new) (mem_files self.old) }
         ensures stop { Steps mem_moment mem_images Same self.old self.new }
+        ensures as_set { FailsAsSet {T = ℕ} (Err result) self.old self.new }
         ensures cause { HasCause {T = ℕ} self.old.faults self.new.faults (Err result) }
     {
         self.fail()
     }
 
     fn enter(&mut self, call: Result<Call, NoMemory>) -> Result<(), Failed>
+        requires { IfOk call (λ x. is_call x ≡ true) }
         ensures noted { NotedAs call result self.old self.new }
+        ensures as_set { FailsAsSet result self.old self.new }
         ensures cause { HasCause self.old.faults self.new.faults result }
     {
         let Ok(call) = call else {
             return Err(self.fail());
         };
-        let number = self.calls.saturating_add(1);
+        let number = self.next_number();
         let fails = self.failing.contains(&number);
         let what = if fails { Call::Nothing } else { call };
         if self.add(what).is_err() {

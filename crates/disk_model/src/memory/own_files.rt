@@ -1,10 +1,15 @@
 //! What the own files of a disk in memory are.
-ghost use Rattle.std.specs.Prelude.{◌≡◌, ◌+◌, ◌≤◌, length, take, drop, is_some, option_map, map, IfOk, IfSome};
+ghost use Rattle.std.specs.Prelude.{◌≡◌, ◌+◌, ◌^◌, ◌<◌, ◌≤◌, length, take, drop, is_some, option_map, map, IfOk, IfSome};
 ghost use Rattle.disk_model.specs.Folders.{Ascend};
 ghost use Rattle.disk_model.specs.Holding.{under};
+ghost use Rattle.disk_model.specs.Picks.{changed_at, touched};
+ghost use Rattle.std.specs.Cmp.Lexicographic.{slice_cmp};
+ghost use Rattle.std.specs.List.Sorted.{IsStrictlySortedBy};
+ghost use Rattle.std.specs.Map.{keys_of};
+ghost use Rattle.std.specs.Ordering.{nat_cmp};
 
 use super::call::Call;
-use super::holdings::Holdings;
+use super::holdings::{Holdings, is_same};
 use crate::Name;
 use ftn_addr::NoMemory;
 use std::alloc::Global;
@@ -18,7 +23,13 @@ impl Holdings {
     }
 
     /// How many of the own files that a call names have unsynced changes.
-    pub fn changed_by(&self, call: &Call) -> usize {
+    pub fn changed_by(&self, call: &Call) -> usize
+        ensures exact { result ≡ touched call.now self.now.own }
+        ensures few { result ≤ 2 }
+        ensures ordered { IsStrictlySortedBy (slice_cmp nat_cmp) (keys_of self.now.own) }
+        ensures small { length self.now.own < 2 ^ 63 }
+    {
+        let _files = self.own.len();
         match call {
             Call::Wrote(name, ..)
             | Call::Shortened(name, _)
@@ -28,14 +39,15 @@ impl Holdings {
             | Call::Moved(_, name)
             | Call::Copied(name, _)
             | Call::Given(name, ..) => self.changed_at(name),
-            Call::Renamed(from, to) if from == to => self.changed_at(from),
+            Call::Renamed(from, to) if is_same(from, to) => self.changed_at(from),
             Call::Renamed(from, to) => self.changed_at(from) + self.changed_at(to),
             Call::Nothing | Call::Placed(..) | Call::PutOut(..) | Call::LostOut(_) => 0,
         }
     }
 
     fn changed_at(&self, name: &Name) -> usize
-        ensures { result ≤ 1 }
+        ensures exact { result ≡ changed_at name.now self.now.own }
+        ensures few { result ≤ 1 }
     {
         match self.own.get(name) {
             Some(file) if file.is_changed() => 1,

@@ -1,10 +1,10 @@
 //! Stops of a disk in memory.
-ghost use Rattle.std.specs.Prelude.{◌≡◌, ◌≤◌, ℕ, List, [], length, IfOk, OnOk, IfErr, map};
+ghost use Rattle.std.specs.Prelude.{◌≡◌, ◌≤◌, ℕ, List, [], length, take, IfOk, OnOk, IfErr, map};
 ghost use Rattle.disk_model.specs.Changes.{Every};
 ghost use Rattle.disk_model.specs.Kept.{settled, chosen};
 ghost use Rattle.disk_model.specs.Holding.{calls_in, first_calls, replay, under, adding, calm, shown, picked};
-ghost use Rattle.disk_model.specs.Picks.{digit_for, rest_for, digit_of, stopped_files};
-ghost use Rattle.disk_model.specs.MemoryDisk.{mem_files, mem_images, moment_after};
+ghost use Rattle.disk_model.specs.Picks.{changed_in, picks_of, digit_for, rest_for, digit_of, stopped_files};
+ghost use Rattle.disk_model.specs.MemoryDisk.{mem_files, mem_images, moment_after, Tells};
 
 use super::disk::MemDisk;
 use super::file::MemFile;
@@ -20,10 +20,12 @@ impl MemDisk {
     /// sync left, 1 has all as written, 2 and 3 have the written length with each unsynced byte as 255
     /// minus the written one, and as 1. Outside files and gifts are those after that many calls. The new
     /// disk has made no call, counts no fault and has no call that is to fail.
+    #[tactic(auto, using(crate::specs::MemoryLaws::mem_tells))]
     pub fn stop(self, after: u64, pick: u64) -> Result<MemDisk, (MemDisk, NoMemory)>
         requires { after ≤ calls_in self.log.items }
         ensures image { IfOk result (λ disk. Every (mem_files disk) (mem_images self (moment_after after self))) }
         ensures exact { IfOk result (λ disk. let h = replay self.first (first_calls after self.log.items) in mem_files disk (picked (digit_of pick h.own) h)) }
+        ensures tells { IfOk result Tells }
         ensures fresh { IfOk result (λ disk. (disk.log.items ≡ []) × (disk.faults ≡ 0) × (disk.failing.items ≡ [])) }
         ensures err { IfErr result (λ e. e.0 ≡ self) }
     {
@@ -55,17 +57,21 @@ impl MemDisk {
     /// How many numbers pick the images of a stop after so many calls: 4 to the number of files with
     /// unsynced changes, or 2^64 - 1 where there are more than 31. It takes no memory.
     pub fn picks(&self, after: u64) -> u64
-        ensures some { 1 ≤ result }
+        ensures { result ≡ picks_of (changed_in (replay self.now.first (first_calls after self.now.log.items)).own) }
     {
-        let place = self.place_after(after);
-        let changed = match place {
-            0 => 0,
-            _ => self.changed.get(place - 1).copied().unwrap_or(0),
-        };
-        if changed > 31 {
-            return u64::MAX;
+        picks_of(self.changed_behind(self.place_after(after)))
+    }
+
+    // How many own files had unsynced changes behind so many items of the log.
+    pub(super) fn changed_behind(&self, place: usize) -> usize
+        requires { place ≤ length self.now.log.items }
+        ensures { result ≡ changed_in (replay self.now.first (take place self.now.log.items)).own }
+    {
+        if 0 < place {
+            self.changed[place - 1]
+        } else {
+            0
         }
-        1u64 << (2 * changed)
     }
 
     // How many items of the log stand before the call behind so many.
@@ -152,6 +158,15 @@ fn add_stopped(
     let bytes = file.chosen(alloc, digit_for(pick, &file))?;
     files.insert(name, MemFile::settled(alloc, bytes))?;
     Ok(rest_for(pick, &file))
+}
+
+fn picks_of(changed: usize) -> u64
+    ensures { result ≡ picks_of changed }
+{
+    if 31 < changed {
+        return u64::MAX;
+    }
+    4u64.pow(changed as u32)
 }
 
 fn digit_for(pick: u64, file: &MemFile) -> u64

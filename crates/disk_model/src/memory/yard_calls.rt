@@ -1,6 +1,11 @@
 //! The outside folders of a disk in memory.
-ghost use Rattle.std.specs.Prelude.{◌≡◌, map, IfOk};
-ghost use Rattle.disk_model.specs.Folders.{ListsFolder};
+ghost use Rattle.std.specs.Prelude.{◌≡◌, map, option_map, IfOk};
+ghost use Rattle.disk_model.specs.Answers.{stat_of, MovedOf, Takes, CopiedOf, Copies, CopiesInPart, HitOf, Removes, Empties, MarkingOf, Marks, UnmarkOf, GivingOf, GivesTo};
+ghost use Rattle.disk_model.specs.Causes.{HasCause, ListsWithCause};
+ghost use Rattle.disk_model.specs.Changes.{Every, Follows, Same, AtOnce, Stands, IsFree};
+ghost use Rattle.disk_model.specs.Folders.{path_in, ListsFolder};
+ghost use Rattle.disk_model.specs.MemoryDisk.{mem_files, mem_images, mem_moment, FailsAsSet, ListsAsSet};
+ghost use Rattle.disk_model.specs.Moments.{Steps};
 ghost use Rattle.disk_model.specs.Holding.{under};
 ghost use Rattle.disk_model.specs.declared.memory.call.Call.TheVariants.{Given};
 
@@ -14,7 +19,13 @@ use ftn_addr::{Bytes, Failed, NoMemory};
 use std::alloc::Global;
 
 impl Yard for MemDisk {
-    fn look(&mut self, path: &Bytes) -> Result<Option<OutStat>, Failed> {
+    fn look(&mut self, path: &Bytes) -> Result<Option<OutStat>, Failed>
+        ensures told { IfOk result (λ stat. Every (mem_files self.old) (λ w. stat ≡ option_map stat_of (w.outside path.now.list))) }
+        ensures read { Every (mem_files self.new) (mem_files self.old) }
+        ensures stop { Steps mem_moment mem_images Same self.old self.new }
+        ensures cause { HasCause self.old.faults self.new.faults result }
+        ensures as_set { FailsAsSet result self.old self.new }
+    {
         let Ok(path) = Block::from_bytes(self.alloc, path) else {
             return Err(self.no_memory());
         };
@@ -23,7 +34,14 @@ impl Yard for MemDisk {
         Ok(stat)
     }
 
-    fn take(&mut self, path: &Bytes, own: &Name) -> Result<Moved, Failed> {
+    fn take(&mut self, path: &Bytes, own: &Name) -> Result<Moved, Failed>
+        requires { Every (mem_files self.old) (IsFree own.now) }
+        ensures told { IfOk result (λ moved. Every (mem_files self.old) (λ w. MovedOf moved (w.outside path.now.list))) }
+        ensures read { Follows (AtOnce result (Takes path.now.list own.now)) (mem_files self.old) (mem_files self.new) }
+        ensures stop { Steps mem_moment mem_images (AtOnce result (Takes path.now.list own.now)) self.old self.new }
+        ensures cause { HasCause self.old.faults self.new.faults result }
+        ensures as_set { FailsAsSet result self.old self.new }
+    {
         let Ok(path) = Block::from_bytes(self.alloc, path) else {
             return Err(self.no_memory());
         };
@@ -37,7 +55,13 @@ impl Yard for MemDisk {
         }
     }
 
-    fn copy(&mut self, path: &Bytes, own: &Name, most: u64) -> Result<Copied, Failed> {
+    fn copy(&mut self, path: &Bytes, own: &Name, most: u64) -> Result<Copied, Failed>
+        ensures told { IfOk result (λ copied. Every (mem_files self.old) (λ w. CopiedOf copied most (w.outside path.now.list))) }
+        ensures read { Follows (Copies result path.now.list own.now most) (mem_files self.old) (mem_files self.new) }
+        ensures stop { Steps mem_moment mem_images (CopiesInPart result own.now most) self.old self.new }
+        ensures cause { HasCause self.old.faults self.new.faults result }
+        ensures as_set { FailsAsSet result self.old self.new }
+    {
         let Ok(path) = Block::from_bytes(self.alloc, path) else {
             return Err(self.no_memory());
         };
@@ -62,7 +86,13 @@ impl Yard for MemDisk {
         }
     }
 
-    fn remove_if(&mut self, path: &Bytes, was: &OutStat) -> Result<Hit, Failed> {
+    fn remove_if(&mut self, path: &Bytes, was: &OutStat) -> Result<Hit, Failed>
+        ensures told { IfOk result (λ hit. Every (mem_files self.old) (λ w. HitOf hit was.now (w.outside path.now.list))) }
+        ensures read { Follows (AtOnce result (Removes path.now.list)) (mem_files self.old) (mem_files self.new) }
+        ensures stop { Steps mem_moment mem_images (AtOnce result (Removes path.now.list)) self.old self.new }
+        ensures cause { HasCause self.old.faults self.new.faults result }
+        ensures as_set { FailsAsSet result self.old self.new }
+    {
         let Ok(path) = Block::from_bytes(self.alloc, path) else {
             return Err(self.no_memory());
         };
@@ -76,7 +106,13 @@ impl Yard for MemDisk {
         }
     }
 
-    fn cut_if(&mut self, path: &Bytes, was: &OutStat) -> Result<Hit, Failed> {
+    fn cut_if(&mut self, path: &Bytes, was: &OutStat) -> Result<Hit, Failed>
+        ensures told { IfOk result (λ hit. Every (mem_files self.old) (λ w. HitOf hit was.now (w.outside path.now.list))) }
+        ensures read { Follows (AtOnce result (Empties path.now.list)) (mem_files self.old) (mem_files self.new) }
+        ensures stop { Steps mem_moment mem_images (AtOnce result (Empties path.now.list)) self.old self.new }
+        ensures cause { HasCause self.old.faults self.new.faults result }
+        ensures as_set { FailsAsSet result self.old self.new }
+    {
         let Ok(path) = Block::from_bytes(self.alloc, path) else {
             return Err(self.no_memory());
         };
@@ -90,13 +126,21 @@ impl Yard for MemDisk {
         }
     }
 
-    fn mark(&mut self, path: &Bytes, text: &Bytes) -> Result<Marking, Failed> {
+    fn mark(&mut self, path: &Bytes, text: &Bytes) -> Result<Marking, Failed>
+        ensures told { IfOk result (λ marking. Every (mem_files self.old) (λ w. MarkingOf marking (w.outside path.now.list))) }
+        ensures read { Follows (AtOnce result (Marks path.now.list text.now.list)) (mem_files self.old) (mem_files self.new) }
+        ensures stop { Steps mem_moment mem_images (AtOnce result (Marks path.now.list text.now.list)) self.old self.new }
+        ensures cause { HasCause self.old.faults self.new.faults result }
+        ensures as_set { FailsAsSet result self.old self.new }
+    {
         let Ok(path) = Block::from_bytes(self.alloc, path) else {
             return Err(self.no_memory());
         };
         if self.held.stands_out(&path) {
-            self.pass()?;
-            return Ok(Marking::Exists);
+            match self.pass() {
+                Ok(()) => return Ok(Marking::Exists),
+                Err(_) => return Err(Failed),
+            }
         }
         let Ok(text) = Block::from_bytes(self.alloc, text) else {
             return Err(self.no_memory());
@@ -107,7 +151,13 @@ impl Yard for MemDisk {
         }
     }
 
-    fn unmark(&mut self, path: &Bytes, text: &Bytes) -> Result<Hit, Failed> {
+    fn unmark(&mut self, path: &Bytes, text: &Bytes) -> Result<Hit, Failed>
+        ensures told { IfOk result (λ hit. Every (mem_files self.old) (λ w. UnmarkOf hit text.now.list (w.outside path.now.list))) }
+        ensures read { Follows (AtOnce result (Removes path.now.list)) (mem_files self.old) (mem_files self.new) }
+        ensures stop { Steps mem_moment mem_images (AtOnce result (Removes path.now.list)) self.old self.new }
+        ensures cause { HasCause self.old.faults self.new.faults result }
+        ensures as_set { FailsAsSet result self.old self.new }
+    {
         let Ok(path) = Block::from_bytes(self.alloc, path) else {
             return Err(self.no_memory());
         };
@@ -121,7 +171,13 @@ impl Yard for MemDisk {
         }
     }
 
-    fn names(&mut self, folder: &Bytes) -> Result<Vec<Bytes>, ListFault> {
+    fn names(&mut self, folder: &Bytes) -> Result<Vec<Bytes>, ListFault>
+        ensures told { IfOk result (λ names. Every (mem_files self.old) (λ w. ListsFolder folder.now.list w.outside (map (λ name. name.list) names.items))) }
+        ensures read { Every (mem_files self.new) (mem_files self.old) }
+        ensures stop { Steps mem_moment mem_images Same self.old self.new }
+        ensures cause { ListsWithCause self.old.faults self.new.faults result }
+        ensures as_set { ListsAsSet result self.old self.new }
+    {
         let Ok(names) = listed(self.alloc, &self.held, folder.as_slice()) else {
             return Err(ListFault::NoMemory);
         };
@@ -131,7 +187,14 @@ impl Yard for MemDisk {
         }
     }
 
-    fn give(&mut self, own: &Name, folder: &Bytes, name: &Bytes) -> Result<Giving, Failed> {
+    fn give(&mut self, own: &Name, folder: &Bytes, name: &Bytes) -> Result<Giving, Failed>
+        requires { Every (mem_files self.old) (Stands own.now 0) }
+        ensures told { IfOk result (λ giving. Every (mem_files self.old) (GivingOf giving (path_in folder.now.list name.now.list))) }
+        ensures read { Follows (AtOnce result (GivesTo own.now folder.now.list name.now.list)) (mem_files self.old) (mem_files self.new) }
+        ensures stop { Steps mem_moment mem_images (AtOnce result (GivesTo own.now folder.now.list name.now.list)) self.old self.new }
+        ensures cause { HasCause self.old.faults self.new.faults result }
+        ensures as_set { FailsAsSet result self.old self.new }
+    {
         let Ok(path) = path_in(self.alloc, folder, name) else {
             return Err(self.no_memory());
         };

@@ -12,8 +12,8 @@ use Rattle.disk_model.proofs.memory.yard_calls.MemDiskYard.mark.Goals as goal
 pub returns-in_default-clause-read : goal.returns-in_default-clause-read
 returns-in_default-clause-read c = at_once_unchanged (Marks c.args.path.now.list c.args.text.now.list) (mem_files c.args.self.now) (mem_files c.no_memory.new.self) c.no_memory.ensures.read
 
-pub returns-then-stands_out-clause-told : goal.returns-then-stands_out-clause-told
-returns-then-stands_out-clause-told c =
+pub returns-in-Ok-pass-clause-told : goal.returns-in-Ok-pass-clause-told
+returns-in-Ok-pass-clause-told c =
     let old = c.args.self.now in
     let stood : is_some (under c.in-Ok.path old.held.outside) ≡ true = search rules in
     subst (λ (p : List ℕ). Every (mem_files old) (λ w. (f : OutFile) × (w.outside p ≡ Some f))) c.in-Ok.ensures
@@ -30,5 +30,8 @@ returns-in-Ok-note-clause-read c =
     (subst (λ (b : List ℕ). Follows (PutsOut c.in-Ok.path b) (mem_files old) (mem_files c.note.new.self)) c.in-Ok-from_bytes.ensures
     (follows_map (may (PutOut c.in-Ok.path c.in-Ok-from_bytes.text 0) (shown old.held)) (PutsOut c.in-Ok.path c.in-Ok-from_bytes.text) (mem_files old) (mem_files c.note.new.self) (λ d e was is. (0, is)) c.in-Ok-note.ensures.read))
 
+pub returns-in-Err-note-clause-read : goal.returns-in-Err-note-clause-read
+returns-in-Err-note-clause-read c = at_once_failed (Marks c.args.path.now.list c.args.text.now.list) (mem_files c.args.self.now) (mem_files c.note.new.self) c.in-Err-note.ensures.read
+
 pub returns-in-Err-clause-read : goal.returns-in-Err-clause-read
-returns-in-Err-clause-read c = at_once_failed (Marks c.args.path.now.list c.args.text.now.list) (mem_files c.args.self.now) (mem_files c.note.new.self) c.in-Err.ensures.read
+returns-in-Err-clause-read c = at_once_unchanged (Marks c.args.path.now.list c.args.text.now.list) (mem_files c.args.self.now) (mem_files c.pass.new.self) c.pass.ensures.read
