@@ -1,0 +1,3 @@
+mod GateLemmas
+mod OwnLemmas
+mod Published

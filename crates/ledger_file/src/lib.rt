@@ -1,0 +1,10 @@
+//! A list of payloads in one file of a disk, where all payloads of a call become durable together.
+//!
+//! The file is a header, records and a closed gate, and then anything. A record's first byte is its gate,
+//! and the list ends at the first gate that isn't open.
+#![tactic(auto)]
+
+mod fault;
+mod publish;
+
+pub use fault::{AppendFault, OpenFault};
