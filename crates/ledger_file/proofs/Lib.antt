@@ -1,3 +1,6 @@
 mod GateLemmas
 mod OwnLemmas
 mod Published
+mod RecordLemmas
+mod HeaderLemmas
+mod LedgerLemmas

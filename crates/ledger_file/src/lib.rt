@@ -4,7 +4,13 @@
 //! and the list ends at the first gate that isn't open.
 #![tactic(auto)]
 
+mod append;
 mod fault;
+mod file_name;
+mod header;
+mod ledger;
 mod publish;
+mod records;
 
 pub use fault::{AppendFault, OpenFault};
+pub use ledger::Ledger;

@@ -5,10 +5,9 @@ ghost use Rattle.disk_model.specs.Changes.{Every, Follows, OnOwn, Only, Rewrites
 ghost use Rattle.disk_model.specs.Moments.{Now, Leaves};
 ghost use Rattle.ledger_file.specs.Gate.{ShutAt, Published, Opened};
 
+use crate::records::OPEN;
 use disk_model::{Disk, Name};
 use ftn_addr::Failed;
-
-const OPEN: u8 = 1;
 
 /// Writes a block behind the closed gate and opens it. At every moment a stop leaves the file's front as it
 /// was, and the whole block wherever the gate is open.
