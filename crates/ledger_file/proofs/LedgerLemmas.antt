@@ -1,7 +1,7 @@
 -- What the gate's protocol makes of a ledger's payloads.
-use Rattle.std.proofs.Common.{◌≡◌, ◌⊎◌, inl, inr, ℕ, ◌+◌, ◌-◌, ◌<◌, ◌≤◌, List, [], ◌∷◌, ◌++◌, length, take, drop, refl, sym, ◌∙◌, ap, subst, arith, append_assoc, length-append, take-append-drop}
+use Rattle.std.proofs.Common.{◌≡◌, ◌⊎◌, inl, inr, ℕ, ◌+◌, ◌-◌, ◌<◌, ◌≤◌, ◌^◌, List, [], ◌∷◌, ◌++◌, length, take, drop, refl, sym, ◌∙◌, ap, subst, arith, append_assoc, length-append, take-append-drop}
 use Rattle.std.proofs.lemmas.Bool.{cases_eq}
-use Rattle.std.proofs.lemmas.List.{drop_at, drop-drop, take_rest, length-take}
+use Rattle.std.proofs.lemmas.List.{drop_at, drop-drop, take_rest, length-take, length-drop}
 use Rattle.disk_model.specs.World.{World}
 use Rattle.disk_model.specs.Changes.{OnOwn, Rewrites}
 use Rattle.ledger_file.specs.Gate.{IsShut, ShutAt, Published, Opened}
@@ -9,7 +9,7 @@ use Rattle.ledger_file.specs.Text.{ArePayloads, header, record_of, records, gate
 use Rattle.ledger_file.specs.Ledger.{ledger_name, LedgerIs, Appends}
 use Rattle.ledger_file.proofs.GateLemmas.{front}
 use Rattle.ledger_file.proofs.OwnLemmas.{only_rewrites}
-use Rattle.ledger_file.proofs.RecordLemmas.{records-append, records-split}
+use Rattle.ledger_file.proofs.RecordLemmas.{records-append, records-split, length-records}
 
 -- what stands behind a gate is the records from there on without their first gate, and a closed gate
 opens_with : (more : List (List ℕ)) (l : List ℕ) → 0 < length more → l ≡ records more ++ 0 ∷ [] → 1 ∷ drop 1 l ≡ l
@@ -85,3 +85,51 @@ module _ (old more : List (List ℕ)) (gate : ℕ) (block : List ℕ) (place : g
   appended d c was step =
       let after = step.own.file was.0 was.1 in
       (after.0, after.1, all was.0 after.0 was.2 after.2)
+
+-- the block that stands in a text behind its first records
+abbrev pub block_in : List ℕ → ℕ → List ℕ
+block_in text gate = take (length text - (gate + 1)) (drop (gate + 1) text)
+
+module _ (ps : List (List ℕ)) (text : List ℕ) (count gate : ℕ) (is : text ≡ (header ++ records ps) ++ 0 ∷ []) (sizes : ArePayloads ps)
+    (within : count < length ps) (few : length ps ≤ 262144) (at : gate ≡ gate_of (take count ps)) where
+  again : take count ps ++ drop count ps ≡ ps
+  again = take-append-drop count ps
+
+  sizes_again : ArePayloads (take count ps ++ drop count ps)
+  sizes_again = subst ArePayloads (sym again) sizes
+
+  few_again : length (take count ps ++ drop count ps) ≤ 262144
+  few_again = omega (arith, ap length again, few)
+
+  is_block : 1 ∷ block_in text gate ≡ records (drop count ps) ++ 0 ∷ []
+  is_block = block_is ps text count gate is within at
+
+  -- the text is longer than the gate's place, and not too long
+  pub inside : gate + 1 < length text
+  inside =
+      let some : 0 < length (drop count ps) = omega (arith, ap length again, length-append (take count ps) (drop count ps), length-take count ps) in
+      let left = least (drop count ps) some in
+      omega (arith, at, ap length is, length-append (header ++ records ps) (0 ∷ []), length-append header (records ps), length-append header (records (take count ps)), ap length (records-split count ps), length-append (records (take count ps)) (records (drop count ps)), left)
+    where
+      least : (qs : List (List ℕ)) → 0 < length qs → 0 < length (records qs)
+      least [] some = absurd (omega arith)
+      least (q ∷ qs) some = omega (arith, length-append (record_of q) (records qs))
+
+  pub short : length text ≤ 400000000
+  short = omega (arith, ap length is, length-append (header ++ records ps) (0 ∷ []), length-append header (records ps), length-records ps sizes, few)
+
+  pub room : gate + length (block_in text gate) + 1 < 2 ^ 64
+  room = omega (arith, inside, short, length-take (length text - (gate + 1)) (drop (gate + 1) text), length-drop (gate + 1) text)
+
+  pub stands_shut : (name : List ℕ) → name ≡ ledger_name → (d : World) → LedgerIs (take count ps) d → ShutAt name gate d
+  stands_shut name named d was =
+      subst (λ (n : List ℕ). ShutAt n gate d) (sym named) (shut_at (take count ps) (drop count ps) gate (block_in text gate) at is_block sizes_again few_again d was)
+
+  pub leaves_some : (name : List ℕ) → name ≡ ledger_name → (d c : World) → LedgerIs (take count ps) d → OnOwn (Rewrites name (Published gate (block_in text gate))) d c → Appends (take count ps) (drop count ps) d c
+  leaves_some name named d c was step =
+      appends (take count ps) (drop count ps) gate (block_in text gate) at is_block sizes_again few_again d c was (subst (λ (n : List ℕ). OnOwn (Rewrites n (Published gate (block_in text gate))) d c) named step)
+
+  pub leaves_all : (name : List ℕ) → name ≡ ledger_name → (d c : World) → LedgerIs (take count ps) d → OnOwn (Rewrites name (Opened gate (block_in text gate))) d c → LedgerIs ps c
+  leaves_all name named d c was step =
+      subst (λ (l : List (List ℕ)). LedgerIs l c) again
+      (appended (take count ps) (drop count ps) gate (block_in text gate) at is_block sizes_again few_again d c was (subst (λ (n : List ℕ). OnOwn (Rewrites n (Opened gate (block_in text gate))) d c) named step))

@@ -4,3 +4,4 @@ mod Published
 mod RecordLemmas
 mod HeaderLemmas
 mod LedgerLemmas
+mod CountLemmas

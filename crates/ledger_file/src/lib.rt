@@ -10,6 +10,7 @@ mod file_name;
 mod header;
 mod ledger;
 mod publish;
+mod read;
 mod records;
 
 pub use fault::{AppendFault, OpenFault};
