@@ -5,3 +5,5 @@ mod RecordLemmas
 mod HeaderLemmas
 mod LedgerLemmas
 mod CountLemmas
+mod ReadLemmas
+mod OpenLemmas

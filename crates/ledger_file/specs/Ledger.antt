@@ -1,5 +1,5 @@
 -- A ledger in memory, and what a stop may leave of its file (own).
-use Rattle.std.specs.Prelude.{◌≡◌, ◌≢◌, ◌⊎◌, ℕ, List, [], ◌++◌, Some, None, codes}
+use Rattle.std.specs.Prelude.{◌≡◌, ◌≢◌, ◌⊎◌, ℕ, List, [], ◌++◌, Some, codes}
 use Rattle.disk_model.specs.Changes.{Only}
 use Rattle.disk_model.specs.World.{World}
 use Rattle.ledger_file.specs.Text.{Spells}
@@ -19,10 +19,6 @@ new_name = codes "ledger.new"
 -- the ledger of this world has these payloads
 abbrev pub LedgerIs : List (List ℕ) → World → Type 0
 LedgerIs payloads w = (b : List ℕ) × (w.own ledger_name ≡ Some b) × Spells payloads b
-
--- the same, where a world without the file has none
-abbrev pub Holds : List (List ℕ) → World → Type 0
-Holds payloads w = ((w.own ledger_name ≡ None) × (payloads ≡ [])) ⊎ LedgerIs payloads w
 
 -- nothing else changed, and the ledger has the old payloads, or the old and all the new
 pub record Appends (old more : List (List ℕ)) (d c : World) : Type 0 where

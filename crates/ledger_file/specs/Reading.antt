@@ -1,5 +1,7 @@
 -- What an opening says of the bytes of a ledger (own).
-use Rattle.std.specs.Prelude.{◌≡◌, ◌≢◌, ◌⊎◌, ℕ, ◌<◌, ◌≤◌, ◌^◌, List, [], ◌∷◌, ◌++◌, length, Result, Ok, Err}
+use Rattle.std.specs.Prelude.{◌≡◌, ◌≢◌, ◌⊎◌, ℕ, ◌<◌, ◌≤◌, ◌^◌, List, [], ◌∷◌, ◌++◌, length, Some, Result, Ok, Err}
+use Rattle.disk_model.specs.World.{World}
+use Rattle.ledger_file.specs.Ledger.{ledger_name}
 use Rattle.ledger_file.specs.Text.{IsPayload, ArePayloads, header_of, header, record_of, records, gate_of, Spells}
 use Rattle.ledger_file.specs.declared.fault.OpenFault.{OpenFault}
 use Rattle.ledger_file.specs.declared.fault.OpenFault.TheVariants.{Disk, NotLedger, Version, Cut, Over, NoMemory}
@@ -49,6 +51,10 @@ Reads (Err (Cut place)) bytes = IsCut place bytes
 Reads (Err (Over place)) bytes = IsOver place bytes
 Reads (Err Disk) bytes = ⊥
 Reads (Err NoMemory) bytes = ⊥
+
+-- the ledger of this world has bytes that are refused so
+abbrev pub Refuses : OpenFault → World → Type 0
+Refuses fault w = (bytes : List ℕ) × (w.own ledger_name ≡ Some bytes) × Reads (Err fault) bytes
 
 -- bytes have one reading at most
 abbrev pub OneReading : Type 0

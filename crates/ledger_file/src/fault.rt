@@ -1,5 +1,6 @@
 //! Why a ledger isn't opened, or takes no more.
 use ftn_addr::{Failed, NoMemory};
+use std::alloc::AllocError;
 use thiserror::Error;
 
 /// Why a ledger isn't opened.
@@ -47,6 +48,17 @@ impl From<NoMemory> for OpenFault {
     ghost from_gives = { λ _ e. e ≡ NoMemory };
 
     fn from(_: NoMemory) -> Self {
+        OpenFault::NoMemory
+    }
+}
+
+impl From<AllocError> for OpenFault {
+    ghost use Rattle.std.specs.Prelude.{◌≡◌};
+    ghost use Rattle.ledger_file.specs.declared.fault.OpenFault.TheVariants.{NoMemory};
+
+    ghost from_gives = { λ _ e. e ≡ NoMemory };
+
+    fn from(_: AllocError) -> Self {
         OpenFault::NoMemory
     }
 }

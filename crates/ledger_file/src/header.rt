@@ -1,5 +1,5 @@
 //! The header of a ledger's file.
-ghost use Rattle.std.specs.Prelude.{◌≡◌, ◌++◌, drop, MatchOption};
+ghost use Rattle.std.specs.Prelude.{◌≡◌, ◌++◌, ◌<◌, ◌^◌, drop, MatchOption, IfSome};
 ghost use Rattle.ledger_file.specs.Reading.{IsNoLedger};
 ghost use Rattle.ledger_file.specs.Text.{header_of};
 
@@ -18,7 +18,8 @@ pub(crate) fn header_bytes(version: u32) -> [u8; 16]
 
 /// The version of the header that stands at the front, or None where there is none.
 pub(crate) fn read_version(bytes: &[u8]) -> Option<u32>
-    ensures { MatchOption result (IsNoLedger bytes.now) (λ version. bytes.now ≡ header_of version ++ drop 16 bytes.now) }
+    ensures header { MatchOption result (IsNoLedger bytes.now) (λ version. bytes.now ≡ header_of version ++ drop 16 bytes.now) }
+    ensures number { IfSome result (λ version. version < 2 ^ 32) }
 {
     if bytes.len() < LEN {
         return None;

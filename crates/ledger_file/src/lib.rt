@@ -9,9 +9,14 @@ mod fault;
 mod file_name;
 mod header;
 mod ledger;
+mod opening;
 mod publish;
 mod read;
 mod records;
+#[cfg(test)]
+mod tests;
+mod whole_file;
 
 pub use fault::{AppendFault, OpenFault};
 pub use ledger::Ledger;
+pub use whole_file::put_file;

@@ -1,5 +1,5 @@
 //! Reading the bytes of a ledger.
-ghost use Rattle.std.specs.Prelude.{◌≡◌, ◌≢◌, ◌⊎◌, ℕ, List, ◌++◌, drop, Err, IfOk, IfErr, IfSome, IfNone};
+ghost use Rattle.std.specs.Prelude.{◌≡◌, ◌≢◌, ◌⊎◌, ◌↔◌, ◌≤◌, ℕ, List, ◌++◌, length, drop, slice_index, IsTrue, Err, IfOk, IfErr, IfSome, IfNone};
 ghost use Rattle.ledger_file.specs.Reading.{Reads};
 ghost use Rattle.ledger_file.specs.Text.{IsPayload, header, record_of, Spells};
 ghost use Rattle.ledger_file.specs.declared.fault.OpenFault.TheVariants.{NoMemory};
@@ -32,7 +32,7 @@ fn read_records(alloc: Global, bytes: &[u8]) -> Result<Records, OpenFault>
 {
     let mut held = Records::new(alloc)?;
     let mut rest = &bytes[LEN..];
-    while let [OPEN, ..] = rest {
+    'records: while is_open(rest) {
         if held.count() == MOST_RECORDS {
             return Err(OpenFault::Over((bytes.len() - rest.len()) as u64));
         }
@@ -47,6 +47,13 @@ fn read_records(alloc: Global, bytes: &[u8]) -> Result<Records, OpenFault>
         return Err(OpenFault::Cut(bytes.len() as u64));
     }
     Ok(held)
+}
+
+// Whether an open gate stands at the front.
+fn is_open(bytes: &[u8]) -> bool
+    ensures { IsTrue result ↔ ((1 ≤ length bytes.now) × (slice_index bytes.now 0 ≡ 1)) }
+{
+    !bytes.is_empty() && bytes[0] == OPEN
 }
 
 // The payload of the record at the front, and what stands behind it. None where no record stands there.
