@@ -7,3 +7,4 @@ mod LedgerLemmas
 mod CountLemmas
 mod ReadLemmas
 mod OpenLemmas
+mod ReadingLaw

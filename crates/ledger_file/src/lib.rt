@@ -8,6 +8,7 @@ mod append;
 mod fault;
 mod file_name;
 mod header;
+mod law;
 mod ledger;
 mod opening;
 mod publish;
@@ -18,5 +19,6 @@ mod tests;
 mod whole_file;
 
 pub use fault::{AppendFault, OpenFault};
+pub use law::one_reading;
 pub use ledger::Ledger;
 pub use whole_file::put_file;

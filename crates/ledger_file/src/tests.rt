@@ -55,7 +55,8 @@ fn new_ledger_has_17_bytes(rt: HostRuntime) -> Result<(), Fail> {
     assert_eq!(rt; ledger.count(), 0);
     let bytes = file_of(alloc, &mut disk)?;
     assert_eq!(rt; bytes.len(), 17);
-    assert_eq!(rt; bytes[..], *b"binkpldg\x00\x00\x00\x01\x00\x00\x00\x00\x00");
+    let wanted = b"binkpldg\x00\x00\x00\x01\x00\x00\x00\x00\x00";
+    assert_eq!(rt; bytes.as_slice(), wanted.as_slice());
     Ok(())
 }
 
@@ -67,7 +68,8 @@ fn record_has_gate_length_and_payload(rt: HostRuntime) -> Result<(), Fail> {
     ledger.append(&mut disk, &[6, 0, 0, 0, 1])?;
     let bytes = file_of(alloc, &mut disk)?;
     assert_eq!(rt; bytes.len(), 25);
-    assert_eq!(rt; bytes[16..], *b"\x01\x00\x05\x06\x00\x00\x00\x01\x00");
+    let wanted = b"\x01\x00\x05\x06\x00\x00\x00\x01\x00";
+    assert_eq!(rt; bytes[16..], wanted[..]);
     Ok(())
 }
 
