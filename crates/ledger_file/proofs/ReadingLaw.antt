@@ -58,8 +58,8 @@ record Split (r : Result (List (List ℕ)) OpenFault) (bytes : List ℕ) : Type 
 
 not_equal : (m n : ℕ) → m ≢ n → nat_eq m n ≡ false
 not_equal m n other = elim (cases_Bool (nat_eq m n)) [
-  | inl yes ↦ absurd (other (grind (arith, nat_tests)))
-  | inr no_test ↦ no_test
+  | inl holds ↦ absurd (other (grind (arith, nat_tests)))
+  | inr fails ↦ fails
 ]
 
 shut_ends : (b : ℕ) (rest : List ℕ) → b ≢ 1 → IsEnd (b ∷ rest)
