@@ -1,5 +1,5 @@
 -- What the gate's protocol makes of a ledger's payloads.
-use Rattle.std.proofs.Common.{◌≡◌, ◌⊎◌, inl, inr, ℕ, ◌+◌, ◌-◌, ◌<◌, ◌≤◌, ◌^◌, List, [], ◌∷◌, ◌++◌, length, take, drop, refl, sym, ◌∙◌, ap, subst, arith, append_assoc, length-append, take-append-drop}
+use Rattle.std.proofs.Common.{◌≡◌, ◌⊎◌, inl, inr, ℕ, ◌+◌, ◌-◌, ◌<◌, ◌≤◌, ◌^◌, List, [], ◌∷◌, ◌++◌, length, take, drop, sym, ◌∙◌, ap, subst, arith, append_assoc, length-append, take-append-drop}
 use Rattle.std.proofs.lemmas.Bool.{cases_eq}
 use Rattle.std.proofs.lemmas.List.{drop_at, drop-drop, take_rest, length-take, length-drop}
 use Rattle.disk_model.specs.World.{World}
@@ -22,10 +22,10 @@ block_is ps text count gate is within at =
     let more = drop count ps in
     let front = header ++ records (take count ps) in
     let parts : text ≡ front ++ (records more ++ 0 ∷ []) =
-        is
-        ∙ ap (λ (l : List ℕ). (header ++ l) ++ 0 ∷ []) (records-split count ps)
-        ∙ ap (λ (l : List ℕ). l ++ 0 ∷ []) (sym (append_assoc header (records (take count ps)) (records more)))
-        ∙ append_assoc front (records more) (0 ∷ []) in
+    is
+    ∙ ap (λ (l : List ℕ). (header ++ l) ++ 0 ∷ []) (records-split count ps)
+    ∙ ap (λ (l : List ℕ). l ++ 0 ∷ []) (sym (append_assoc header (records (take count ps)) (records more)))
+    ∙ append_assoc front (records more) (0 ∷ []) in
     let behind : drop gate text ≡ records more ++ 0 ∷ [] = ap (λ (l : List ℕ). drop gate l) parts ∙ drop_at front (records more ++ 0 ∷ []) gate (sym at) in
     let some : 0 < length more = omega (arith, ap length (take-append-drop count ps), length-append (take count ps) more, length-take count ps) in
     ap (λ (l : List ℕ). 1 ∷ l) (take_rest text (gate + 1) ∙ sym (drop-drop 1 gate text)) ∙ opens_with more (drop gate text) some behind ∙ behind

@@ -1,12 +1,12 @@
 -- Making a ledger, and reading one that stands.
-use Rattle.std.proofs.Common.{◌≡◌, ◌≢◌, ◌⊎◌, inl, inr, ℕ, zero, suc, ◌+◌, ◌≤◌, List, [], ◌∷◌, ◌++◌, length, take, drop, Option, Some, None, Result, Ok, Err, refl, sym, ◌∙◌, ap, subst, arith}
+use Rattle.std.proofs.Common.{◌≡◌, ◌≢◌, inl, inr, ℕ, zero, suc, ◌+◌, List, [], ◌∷◌, ◌++◌, length, take, drop, Option, Some, None, Result, Ok, Err, refl, sym, ◌∙◌, ap, subst, arith}
 use Rattle.std.specs.Prelude.{option_map}
 use Rattle.std.proofs.Math.Seq.{take-length}
 use Rattle.std.proofs.lemmas.List.{append-nil}
 use Rattle.disk_model.specs.World.{World}
 use Rattle.disk_model.specs.Changes.{Every, Follows, Same, Stands, AtOnce, Holds, Only, OnOwn, Renames}
 use Rattle.disk_model.specs.Moments.{Now, Steps, Leaves, started, weakened, goes_on}
-use Rattle.ledger_file.specs.Text.{header, records, Spells}
+use Rattle.ledger_file.specs.Text.{header, records}
 use Rattle.ledger_file.specs.Ledger.{ledger_name, new_name, LedgerIs, Makes}
 
 -- the bytes of a new ledger

@@ -1,5 +1,5 @@
 -- Steps of one own file.
-use Rattle.std.proofs.Common.{◌≡◌, ◌⊎◌, inl, inr, ℕ, List, Some, Result, Ok, Err, refl, sym, ◌∙◌, subst, arith}
+use Rattle.std.proofs.Common.{◌≡◌, inl, inr, ℕ, List, Some, Result, Ok, Err, refl, sym, ◌∙◌, subst, arith}
 use Rattle.ftn_addr.specs.declared.refusals.Failed.{Failed}
 use Rattle.disk_model.specs.World.{World}
 use Rattle.disk_model.specs.Answers.{Creates}

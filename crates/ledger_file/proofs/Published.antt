@@ -1,7 +1,7 @@
 -- A run of the gate's protocol, call by call. The disks d0 to d4 are those before it and after each of its calls.
-use Rattle.std.proofs.Common.{◌≡◌, ℕ, ◌+◌, ◌≤◌, List, [], ◌∷◌, length, take, drop, Some, refl, ◌∙◌, subst, arith, append_assoc}
+use Rattle.std.proofs.Common.{◌≡◌, ℕ, ◌+◌, List, [], ◌∷◌, length, take, drop, Some, ◌∙◌, subst, arith, append_assoc}
 use Rattle.disk_model.specs.World.{World}
-use Rattle.disk_model.specs.Changes.{Every, Follows, Same, SameAt, Stands, OnOwn, Only, Rewrites, Torn, Holds}
+use Rattle.disk_model.specs.Changes.{Every, Follows, Same, SameAt, Stands, OnOwn, Rewrites, Torn, Holds}
 use Rattle.disk_model.specs.Moments.{Now, Steps, Leaves, started, goes_on, same_now}
 use Rattle.ledger_file.specs.Gate.{IsShut, ShutAt, Published, Opened}
 use Rattle.ledger_file.proofs.GateLemmas.{Staged, long, torn_behind, torn_gate, is_staged, is_opened, same_as_shut}

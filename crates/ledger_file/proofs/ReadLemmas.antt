@@ -1,9 +1,9 @@
 -- What reading finds behind some records.
-use Rattle.std.proofs.Common.{◌≡◌, ◌≢◌, ◌⊎◌, inl, inr, ℕ, ◌+◌, ◌-◌, ◌*◌, ◌/◌, ◌%◌, ◌<◌, ◌≤◌, List, [], ◌∷◌, ◌++◌, length, get_or, take, drop, refl, sym, ◌∙◌, ap, subst, arith, append_assoc, length-append, length-drop, take-append-drop}
+use Rattle.std.proofs.Common.{◌≡◌, ◌≢◌, inl, inr, ℕ, ◌+◌, ◌-◌, ◌*◌, ◌/◌, ◌%◌, ◌<◌, ◌≤◌, List, [], ◌∷◌, ◌++◌, length, get_or, take, drop, refl, sym, ◌∙◌, ap, arith, append_assoc, length-append, length-drop, take-append-drop}
 use Rattle.std.proofs.Math.Seq.{take-length}
-use Rattle.std.proofs.lemmas.List.{length-take-le, append-nil}
+use Rattle.std.proofs.lemmas.List.{length-take-le}
 use Rattle.ledger_file.specs.Text.{IsPayload, ArePayloads, header, record_of, records, gate_of, Spells}
-use Rattle.ledger_file.specs.Reading.{IsBroken, IsCut, IsOver}
+use Rattle.ledger_file.specs.Reading.{IsCut, IsOver}
 use Rattle.ledger_file.proofs.RecordLemmas.{records-append, records-one, are-append}
 
 high_of : (h l : ℕ) → l < 256 → (h * 256 + l) / 256 ≡ h
@@ -25,11 +25,11 @@ record_front (g ∷ h ∷ l ∷ after) x len long gate low len_is x_is fits =
     let size : length p ≡ len = length-take-le len x fits in
     let back : take (length x - len) (drop len x) ≡ drop len x = ap (λ (n : ℕ). take n (drop len x)) (sym (length-drop len x)) ∙ take-length (drop len x) in
     sym
-      (λ i.
-        sym gate i
-        ∷ (ap (λ (n : ℕ). n / 256) (size ∙ len_is) ∙ high_of h l low) i
-        ∷ (ap (λ (n : ℕ). n % 256) (size ∙ len_is) ∙ low_of h l low) i
-        ∷ (ap (λ (t : List ℕ). p ++ t) back ∙ take-append-drop len x ∙ whole) i)
+    (λ i.
+    sym gate i
+    ∷ (ap (λ (n : ℕ). n / 256) (size ∙ len_is) ∙ high_of h l low) i
+    ∷ (ap (λ (n : ℕ). n % 256) (size ∙ len_is) ∙ low_of h l low) i
+    ∷ (ap (λ (t : List ℕ). p ++ t) back ∙ take-append-drop len x ∙ whole) i)
 
 -- bytes that begin with an open gate
 opens : (rest : List ℕ) → 1 ≤ length rest → get_or rest 0 0 ≡ 1 → (more : List ℕ) × (rest ≡ 1 ∷ more)

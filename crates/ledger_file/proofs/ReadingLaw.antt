@@ -1,11 +1,11 @@
 -- Bytes have one reading at most.
-use Rattle.std.proofs.Common.{◌≡◌, ◌≢◌, ◌⊎◌, inl, inr, ℕ, ◌+◌, ◌*◌, ◌/◌, ◌%◌, ◌<◌, ◌≤◌, ◌^◌, Bool, true, false, List, [], ◌∷◌, ◌++◌, length, get_or, take, drop, Result, Ok, Err, refl, sym, ◌∙◌, ap, subst, arith, append_assoc}
+use Rattle.std.proofs.Common.{◌≡◌, ◌≢◌, ◌⊎◌, inl, inr, ℕ, ◌+◌, ◌*◌, ◌/◌, ◌%◌, ◌<◌, ◌≤◌, ◌^◌, true, false, List, [], ◌∷◌, ◌++◌, length, get_or, take, drop, Result, Ok, Err, refl, sym, ◌∙◌, ap, arith, append_assoc}
 use Rattle.std.specs.Prelude.{nat_eq, if◌then◌else◌}
 use Rattle.std.proofs.lemmas.Bool.{cases_Bool, cases_lt}
 use Rattle.std.proofs.lemmas.Bool.Decides.{nat_tests}
 use Rattle.std.proofs.lemmas.List.{take_at, drop_at, append_cancel_left}
 use Rattle.ledger_file.specs.Text.{IsPayload, ArePayloads, header_of, header, record_of, records, gate_of, Spells}
-use Rattle.ledger_file.specs.Reading.{IsNoLedger, IsOfVersion, IsBroken, IsCut, IsOver, Reads, OneReading}
+use Rattle.ledger_file.specs.Reading.{IsNoLedger, IsBroken, IsCut, IsOver, Reads, OneReading}
 use Rattle.ledger_file.specs.declared.fault.OpenFault.{OpenFault}
 use Rattle.ledger_file.specs.declared.fault.OpenFault.TheVariants.{Disk, NotLedger, Version, Cut, Over, NoMemory}
 use Rattle.ledger_file.proofs.HeaderLemmas.{same_version}

@@ -133,11 +133,11 @@ standing ps text gates i is within =
     let first = first_of_drop ps i within is.sizes in
     let front = header ++ records (take i ps) in
     let parts : text ≡ front ++ (record_of first.0 ++ (records first.1 ++ 0 ∷ [])) =
-        is.text
-        ∙ ap (λ (l : List ℕ). (header ++ l) ++ 0 ∷ []) (records-split i ps ∙ ap (λ (l : List (List ℕ)). records (take i ps) ++ records l) first.2)
-        ∙ ap (λ (l : List ℕ). l ++ 0 ∷ []) (sym (append_assoc header (records (take i ps)) (records (first.0 ∷ first.1))))
-        ∙ append_assoc front (records (first.0 ∷ first.1)) (0 ∷ [])
-        ∙ ap (λ (l : List ℕ). front ++ l) (append_assoc (record_of first.0) (records first.1) (0 ∷ [])) in
+    is.text
+    ∙ ap (λ (l : List ℕ). (header ++ l) ++ 0 ∷ []) (records-split i ps ∙ ap (λ (l : List (List ℕ)). records (take i ps) ++ records l) first.2)
+    ∙ ap (λ (l : List ℕ). l ++ 0 ∷ []) (sym (append_assoc header (records (take i ps)) (records (first.0 ∷ first.1))))
+    ∙ append_assoc front (records (first.0 ∷ first.1)) (0 ∷ [])
+    ∙ ap (λ (l : List ℕ). front ++ l) (append_assoc (record_of first.0) (records first.1) (0 ∷ [])) in
     subst (λ (n : ℕ). Standing text n) (sym (gate_at ps text gates i is within))
     (subst (λ (l : List ℕ). Standing l (length front)) (sym parts) (standing_behind front first.0 (records first.1 ++ 0 ∷ []) first.3))
 
@@ -165,10 +165,10 @@ is_text-take ps text gates n text' gates' is within texts gates_are =
     let front = header ++ records (take n ps) in
     let gate : get_or gates n 0 ≡ length front = gate_at ps text gates n is within in
     let parts : text ≡ front ++ (records (drop n ps) ++ 0 ∷ []) =
-        is.text
-        ∙ ap (λ (l : List ℕ). (header ++ l) ++ 0 ∷ []) (records-split n ps)
-        ∙ ap (λ (l : List ℕ). l ++ 0 ∷ []) (sym (append_assoc header (records (take n ps)) (records (drop n ps))))
-        ∙ append_assoc front (records (drop n ps)) (0 ∷ []) in
+    is.text
+    ∙ ap (λ (l : List ℕ). (header ++ l) ++ 0 ∷ []) (records-split n ps)
+    ∙ ap (λ (l : List ℕ). l ++ 0 ∷ []) (sym (append_assoc header (records (take n ps)) (records (drop n ps))))
+    ∙ append_assoc front (records (drop n ps)) (0 ∷ []) in
     record {
       text = texts ∙ ap (λ (l : List ℕ). l ++ 0 ∷ []) (ap (λ (l : List ℕ). take (get_or gates n 0) l) parts ∙ take_at front (records (drop n ps) ++ 0 ∷ []) (get_or gates n 0) (sym gate));
       gates = gates_are ∙ ap (λ (l : List ℕ). take n l) is.gates ∙ take-gates n ps 16;
@@ -178,8 +178,15 @@ is_text-take ps text gates n text' gates' is within texts gates_are =
 -- how long the text is, up to a record and from it on
 pub length-text : (ps : List (List ℕ)) (text gates : List ℕ) (n : ℕ) → IsText ps text gates → length text ≡ gate_of (take n ps) + length (records (drop n ps)) + 1
 length-text ps text gates n is =
-    omega (arith, ap length is.text, length-append (header ++ records ps) (0 ∷ []), length-append header (records ps), length-append header (records (take n ps)),
-    ap length (records-split n ps), length-append (records (take n ps)) (records (drop n ps)))
+    omega (
+      arith,
+      ap length is.text,
+      length-append (header ++ records ps) (0 ∷ []),
+      length-append header (records ps),
+      length-append header (records (take n ps)),
+      ap length (records-split n ps),
+      length-append (records (take n ps)) (records (drop n ps)),
+    )
 
 -- reading a record by its number
 slice_get_is : (xs : List ℕ) (i x : ℕ) → i < length xs → x ≡ get_or xs i x → slice_get xs i ≡ Some x

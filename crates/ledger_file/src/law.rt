@@ -5,5 +5,4 @@ ghost use Rattle.ledger_file.specs.Reading.{OneReading};
 /// an opening answers is decided by the bytes, but for a failing disk and want of memory.
 pub fn one_reading()
     ensures { OneReading }
-{
-}
+{}

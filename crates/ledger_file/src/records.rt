@@ -113,7 +113,10 @@ impl Records {
         let len = payload.len();
         let gate = self.text.len() - 1;
         self.text.truncate(gate);
-        put(&mut self.text, &[OPEN, (len / 256) as u8, (len % 256) as u8]);
+        put(
+            &mut self.text,
+            &[OPEN, (len / 256) as u8, (len % 256) as u8],
+        );
         put(&mut self.text, payload);
         put(&mut self.text, &[SHUT]);
         self.gates.push_reserved(gate as u64);

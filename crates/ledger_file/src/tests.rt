@@ -132,11 +132,26 @@ fn other_headers_are_refused(rt: HostRuntime) -> Result<(), Fail> {
     let alloc = rt.alloc();
     let cases: [(&[u8], OpenFault); 6] = [
         (b"", OpenFault::NotLedger),
-        (b"binkpldg\x00\x00\x00\x01\x00\x00\x00", OpenFault::NotLedger),
-        (b"Binkpldg\x00\x00\x00\x01\x00\x00\x00\x00", OpenFault::NotLedger),
-        (b"binkpldg\x00\x00\x00\x01\x00\x00\x00\x01", OpenFault::NotLedger),
-        (b"binkpldg\x00\x00\x00\x02\x00\x00\x00\x00", OpenFault::Version(2)),
-        (b"binkpldg\x01\x00\x00\x01\x00\x00\x00\x00", OpenFault::Version(16777217)),
+        (
+            b"binkpldg\x00\x00\x00\x01\x00\x00\x00",
+            OpenFault::NotLedger,
+        ),
+        (
+            b"Binkpldg\x00\x00\x00\x01\x00\x00\x00\x00",
+            OpenFault::NotLedger,
+        ),
+        (
+            b"binkpldg\x00\x00\x00\x01\x00\x00\x00\x01",
+            OpenFault::NotLedger,
+        ),
+        (
+            b"binkpldg\x00\x00\x00\x02\x00\x00\x00\x00",
+            OpenFault::Version(2),
+        ),
+        (
+            b"binkpldg\x01\x00\x00\x01\x00\x00\x00\x00",
+            OpenFault::Version(16777217),
+        ),
     ];
     for (head, fault) in cases {
         assert_eq!(rt; opened(alloc, head, b"")?, Err(fault));

@@ -1,4 +1,4 @@
-use Rattle.std.proofs.Common.{arith, ◌≡◌, ℕ, ◌+◌, ◌-◌, ◌<◌, ◌≤◌, List, take, drop, length}
+use Rattle.std.proofs.Common.{arith, take, drop}
 use Rattle.disk_model.specs.Changes.{OnOwn, Rewrites}
 use Rattle.disk_model.specs.Moments.{weakened}
 use Rattle.ledger_file.specs.Gate.{Published}
@@ -33,4 +33,3 @@ pub returns-in-Err-clause-stop : goal.returns-in-Err-clause-stop
 returns-in-Err-clause-stop g c = weakened g.D.Disk.moment g.D.Disk.images (OnOwn (Rewrites c.ledger_file_name.result (Published c.place-gate.result (block_in c.file_bytes.result.now c.place-gate.result))))
     (Appends (take c.args.count c.args.held.now.payloads) (drop c.args.count c.args.held.now.payloads)) c.args.disk.now c.publish.new.disk
     (λ d e now step. leaves_some c.args.held.now.payloads c.file_bytes.result.now c.args.count c.place-gate.result c.file_bytes.ensures.bytes c.file_bytes.ensures.sizes c.requires.some c.requires.few c.place-gate.ensures c.ledger_file_name.result c.ledger_file_name.ensures d e (c.requires.ready d now) step) c.publish.ensures.stop
-

@@ -1,5 +1,5 @@
 use Rattle.ledger_file.proofs.HeaderLemmas.{with_header, no_header}
-use Rattle.std.proofs.Common.{◌∙◌, sym, refl}
+use Rattle.std.proofs.Common.{sym}
 use Rattle.ledger_file.proofs.header.read_version.Goals as goal
 
 pub returns-then-eq-clause-header : goal.returns-then-eq-clause-header

@@ -1,7 +1,6 @@
-use Rattle.std.proofs.Common.{rules, ◌≡◌, ◌⊎◌, inl, inr, ℕ, List, length, drop, subst, sym, ap, ◌∙◌, Err, Result}
+use Rattle.std.proofs.Common.{rules, ◌≡◌, inl, inr, length, drop, subst, sym, ap, ◌∙◌, Err}
 use Rattle.std.proofs.lemmas.List.{take_at}
 use Rattle.ledger_file.specs.Text.{Spells}
-use Rattle.ledger_file.specs.Ledger.{ledger_name}
 use Rattle.ledger_file.specs.Reading.{Reads}
 use Rattle.ledger_file.proofs.OpenLemmas.{read_there, stands_as_read}
 use Rattle.ledger_file.proofs.opening.read_standing.Goals as goal

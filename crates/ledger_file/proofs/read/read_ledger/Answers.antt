@@ -1,4 +1,4 @@
-use Rattle.std.proofs.Common.{rules, arith, ◌≡◌, ◌≢◌, ◌⊎◌, inl, inr, ℕ, ◌<◌, ◌^◌, drop}
+use Rattle.std.proofs.Common.{inr, drop}
 use Rattle.ledger_file.proofs.read.read_ledger.Goals as goal
 
 pub returns-in-Some-clause-fault : goal.returns-in-Some-clause-fault

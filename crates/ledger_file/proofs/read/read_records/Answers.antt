@@ -1,4 +1,4 @@
-use Rattle.std.proofs.Common.{rules, arith, ◌≡◌, ◌≢◌, ◌⊎◌, inl, inr, ℕ, ◌+◌, ◌-◌, ◌<◌, ◌≤◌, List, [], ◌∷◌, ◌++◌, length, get_or, sym, ◌∙◌, ap, subst, length-append}
+use Rattle.std.proofs.Common.{rules, arith, ◌≡◌, ◌≢◌, inr, ℕ, ◌≤◌, List, [], ◌∷◌, ◌++◌, length, get_or, sym, ◌∙◌, ap, subst, length-append}
 use Rattle.ledger_file.specs.Text.{ArePayloads, header, records}
 use Rattle.ledger_file.proofs.ReadLemmas.{is_over, is_broken, is_ended, spells, read_more, sizes_more}
 use Rattle.ledger_file.proofs.read.read_records.Goals as goal

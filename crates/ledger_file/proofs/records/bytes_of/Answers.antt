@@ -1,4 +1,4 @@
-use Rattle.std.proofs.Common.{arith, ◌≡◌, ℕ, ◌+◌, ◌-◌, ◌*◌, ◌<◌, ◌≤◌, List, [], ◌∷◌, ◌++◌, length, drop, get_or, sym, ◌∙◌, ap, length-append}
+use Rattle.std.proofs.Common.{arith, ◌≡◌, ◌+◌, ◌<◌, List, ◌∷◌, length, drop, sym, ◌∙◌, ap, length-append}
 use Rattle.std.proofs.lemmas.List.{drop_more, length-map}
 use Rattle.ftn_addr.specs.Content.{Content}
 use Rattle.ledger_file.specs.Text.{lists, records}

@@ -1,5 +1,5 @@
-use Rattle.std.proofs.Common.{rules, ◌≡◌, ℕ, zero, suc, ◌+◌, List, [], ◌++◌, length, take, drop, Some, refl, ◌∙◌, ap, subst}
-use Rattle.disk_model.specs.Changes.{Every, Stands, Holds}
+use Rattle.std.proofs.Common.{rules, Some, ◌∙◌, ap}
+use Rattle.disk_model.specs.Changes.{Every, Stands}
 use Rattle.ledger_file.proofs.OwnLemmas.{only_started, only_after_change, only_after_none, only_after_create}
 use Rattle.ledger_file.proofs.OpenLemmas.{filled}
 use Rattle.ledger_file.proofs.whole_file.put_file.Goals as goal

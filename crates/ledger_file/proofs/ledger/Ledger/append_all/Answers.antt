@@ -1,8 +1,7 @@
-use Rattle.std.proofs.Common.{rules, arith, ◌≡◌, ℕ, ◌+◌, ◌-◌, ◌*◌, ◌<◌, ◌≤◌, List, length, ap, true, false, length-append}
+use Rattle.std.proofs.Common.{rules, arith, ◌≡◌, ◌≤◌, length, ap, true, false, length-append}
 use Rattle.std.proofs.lemmas.List.{length-map}
 use Rattle.ftn_addr.specs.Content.{Content}
 use Rattle.ledger_file.specs.Text.{lists, records}
-use Rattle.ledger_file.specs.declared.fault.AppendFault.{AppendFault}
 use Rattle.ledger_file.specs.declared.fault.AppendFault.TheVariants.{Disk}
 use Rattle.ledger_file.proofs.CountLemmas.{of_errs, has_room, places_left}
 use Rattle.ledger_file.proofs.RecordLemmas.{length-records}

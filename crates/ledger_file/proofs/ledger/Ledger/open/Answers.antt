@@ -1,4 +1,4 @@
-use Rattle.std.proofs.Common.{◌≡◌, ◌⊎◌, inl, inr, ℕ, List, length, sym, ap, ◌∙◌, refl}
+use Rattle.std.proofs.Common.{inr, ℕ, List, length, sym, ap, ◌∙◌, refl}
 use Rattle.std.specs.Prelude.{option_map}
 use Rattle.ledger_file.specs.Ledger.{ledger_name}
 use Rattle.ledger_file.proofs.OpenLemmas.{stands_as_read}

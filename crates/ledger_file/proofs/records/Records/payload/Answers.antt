@@ -1,4 +1,4 @@
-use Rattle.std.proofs.Common.{rules, arith, ◌≡◌, ℕ, ◌+◌, ◌-◌, ◌*◌, ◌<◌, ◌≤◌, List, [], ◌∷◌, ◌++◌, length, map, take, drop, get_or, refl, sym, ◌∙◌, ap, subst}
+use Rattle.std.proofs.Common.{rules, arith, ◌≡◌, ℕ, List, length, map, sym, ◌∙◌, ap}
 use Rattle.std.specs.Prelude.{slice_get}
 use Rattle.ledger_file.specs.Records.{payload_at}
 use Rattle.ledger_file.proofs.RecordLemmas.{stands_there, payload_there}
@@ -65,4 +65,3 @@ returns c =
     let ps = map (payload_at c.self.inside.text.list) c.self.inside.gates.items in
     let view : ps ≡ c.args.self.now.payloads = search rules in
     ap (λ (l : List (List ℕ)). slice_get l c.args.i) (sym view) ∙ payload_there ps c.self.inside.text.list c.self.inside.gates.items c.as_slice-text.result.now c.args.i c.index.result.now c.self.invariant (omega (arith, c.requires, ap length view)) c.index.ensures c.as_slice-text.ensures
-

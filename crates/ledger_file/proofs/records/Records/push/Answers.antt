@@ -1,5 +1,4 @@
-use Rattle.std.proofs.Common.{rules, arith, ◌≡◌, ℕ, ◌+◌, ◌-◌, ◌*◌, ◌/◌, ◌%◌, append_assoc, ◌<◌, ◌≤◌, List, [], ◌∷◌, ◌++◌, length, map, take, drop, get_or, refl, sym, ◌∙◌, ap, subst}
-use Rattle.std.proofs.lemmas.Grind.{common_steps}
+use Rattle.std.proofs.Common.{rules, arith, ◌≡◌, ℕ, ◌-◌, ◌/◌, ◌%◌, append_assoc, List, [], ◌∷◌, ◌++◌, length, map, take, sym, ◌∙◌, ap, subst}
 use Rattle.ledger_file.specs.Text.{record_of}
 use Rattle.ledger_file.specs.Records.{payload_at, IsText}
 use Rattle.ledger_file.proofs.RecordLemmas.{is_text-add, view_of}
@@ -44,4 +43,3 @@ returns-clause-added c =
     let is : IsText (ps ++ p ∷ []) c.put-3.new.text.list c.push_reserved.new.self.items = is_text-add ps text gates p gate c.put-3.new.text.list c.push_reserved.new.self.items c.self.invariant c.requires.size at texts gates_are in
     let seen = view_of (ps ++ p ∷ []) c.put-3.new.text.list c.push_reserved.new.self.items is in
     seen ∙ ap (λ (l : List (List ℕ)). l ++ p ∷ []) view
-

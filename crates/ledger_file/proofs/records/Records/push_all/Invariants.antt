@@ -1,4 +1,4 @@
-use Rattle.std.proofs.Common.{◌≡◌, ◌+◌, ◌-◌, ◌≤◌, ◌++◌, length, drop}
+use Rattle.std.proofs.Common.{◌≡◌, ◌+◌, ◌≤◌, ◌++◌, length, drop}
 use Rattle.ledger_file.specs.Text.{lists, records, ArePayloads}
 use Rattle.ledger_file.proofs.records.Records.push_all.Given as goal
 

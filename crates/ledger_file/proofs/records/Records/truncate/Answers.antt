@@ -1,4 +1,4 @@
-use Rattle.std.proofs.Common.{rules, arith, ◌≡◌, ℕ, ◌+◌, ◌-◌, ◌*◌, ◌<◌, ◌≤◌, List, [], ◌∷◌, ◌++◌, length, map, take, drop, get_or, refl, sym, ◌∙◌, ap, subst}
+use Rattle.std.proofs.Common.{rules, arith, ◌≡◌, ℕ, ◌<◌, List, [], ◌∷◌, ◌++◌, length, map, take, drop, get_or, sym, ◌∙◌, ap, subst}
 use Rattle.std.proofs.lemmas.List.{get_or_read}
 use Rattle.ledger_file.specs.Text.{records, gate_of}
 use Rattle.ledger_file.specs.Records.{payload_at, IsText}
@@ -60,4 +60,3 @@ returns-clause-front c =
     let is : IsText (take c.args.count ps) c.put.new.text.list c.truncate-2.new.self.items = is_text-take ps text gates c.args.count c.put.new.text.list c.truncate-2.new.self.items c.self.invariant few texts c.truncate-2.ensures.items in
     let seen = view_of (take c.args.count ps) c.put.new.text.list c.truncate-2.new.self.items is in
     seen ∙ ap (λ (l : List (List ℕ)). take c.args.count l) view
-
