@@ -1,0 +1,10 @@
+mod GateLemmas
+mod OwnLemmas
+mod Published
+mod RecordLemmas
+mod HeaderLemmas
+mod LedgerLemmas
+mod CountLemmas
+mod ReadLemmas
+mod OpenLemmas
+mod ReadingLaw

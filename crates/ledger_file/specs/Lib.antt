@@ -1,0 +1,5 @@
+pub mod Gate
+pub mod Ledger
+pub mod Reading
+pub mod Records
+pub mod Text
