@@ -38,24 +38,33 @@ fn addr(alloc: Global, net: u16, node: u16) -> Result<Addr, Fail> {
 #[test]
 fn an_example_is_read(rt: HostRuntime) -> Result<(), Fail> {
     let conf = read_conf(rt.alloc(), SAMPLE)?;
-    assert_eq!(rt; conf.addresses.len(), 1);
-    assert_eq!(rt; conf.sysname.as_slice(), b"Example Node".as_slice());
-    assert_eq!(rt; conf.sysop.as_slice(), b"Joe Doe".as_slice());
-    assert_eq!(rt; conf.base.as_slice(), b"/ftn/outbound".as_slice());
+    let texts: [(&[u8], &[u8]); 7] = [
+        (conf.sysname.as_slice(), b"Example Node"),
+        (conf.sysop.as_slice(), b"Joe Doe"),
+        (conf.location.as_slice(), b"Town"),
+        (conf.nodeinfo.as_slice(), b"115200,TCP,BINKP"),
+        (conf.base.as_slice(), b"/ftn/outbound"),
+        (conf.inbound.as_slice(), b"/ftn/in"),
+        (conf.inbound_nonsecure.as_slice(), b"/ftn/in.open"),
+    ];
+    for (set, wanted) in texts {
+        assert_eq!(rt; set, wanted);
+    }
     assert_eq!(rt;
-        conf.inbound_nonsecure.as_slice(),
-        b"/ftn/in.open".as_slice()
+        (conf.max_servers, conf.refuse_over, conf.session_limit),
+        (10, 100_000_000, 17_592_186_044_416)
     );
-    assert_eq!(rt; conf.max_servers, 10);
-    assert_eq!(rt; conf.refuse_over, 100_000_000);
-    assert_eq!(rt; conf.session_limit, 17_592_186_044_416);
-    assert_eq!(rt; conf.shares.len(), 1);
+    Ok(())
+}
+
+#[test]
+fn a_node_is_found_by_its_address(rt: HostRuntime) -> Result<(), Fail> {
+    let conf = read_conf(rt.alloc(), SAMPLE)?;
     let peer = conf.node(&addr(rt.alloc(), 5047, 13)?).ok_or("no node")?;
     assert_eq!(rt; peer.host.as_slice(), b"peer.example".as_slice());
     assert_eq!(rt; peer.password.as_slice(), b"Jefe".as_slice());
     let other = conf.node(&addr(rt.alloc(), 5020, 7)?).ok_or("no node")?;
-    assert!(rt; other.host.is_empty());
-    assert_eq!(rt; other.port, 24_554);
+    assert!(rt; other.host.is_empty() && other.port == 24_554);
     assert!(rt; conf.node(&addr(rt.alloc(), 5020, 8)?).is_none());
     Ok(())
 }
@@ -82,37 +91,24 @@ fn fault(alloc: Global, text: &[u8]) -> Option<ConfFault> {
 #[test]
 fn the_first_bad_line_is_told(rt: HostRuntime) -> Result<(), Fail> {
     let alloc = rt.alloc();
-    let told = |line, cause| Some(ConfFault { line, cause });
-    assert_eq!(rt; fault(alloc, b""), told(0, ConfCause::NoAddress));
-    assert_eq!(rt;
-        fault(alloc, b"adress 2:5020/1042"),
-        told(1, ConfCause::UnknownWord)
-    );
-    assert_eq!(rt;
-        fault(alloc, b"address 2:5020"),
-        told(1, ConfCause::BadAddress)
-    );
-    assert_eq!(rt;
-        fault(alloc, b"address 5020/1"),
-        told(1, ConfCause::BadAddress)
-    );
-    assert_eq!(rt; fault(alloc, b"iport x"), told(1, ConfCause::BadNumber));
-    assert_eq!(rt; fault(alloc, b"iport"), told(1, ConfCause::MissingWord));
-    assert_eq!(rt; fault(alloc, b"iport 0"), told(1, ConfCause::BadNumber));
-    assert_eq!(rt;
-        fault(alloc, b"sysop a\r\n\r\nSYSOP b"),
-        told(3, ConfCause::Twice)
-    );
-    assert_eq!(rt;
-        fault(alloc, b"node 2:1/1\nnode 2:1/1@FidoNet"),
-        told(2, ConfCause::Twice)
-    );
-    assert_eq!(rt;
-        fault(alloc, b"address 1/1\ndomain a!b x 2"),
-        told(2, ConfCause::BadAddress)
-    );
     let long = vec![in alloc; b'\n'; 1_048_577]?;
-    assert_eq!(rt; fault(alloc, long.as_slice()), told(0, ConfCause::TooLong));
+    let faults: [(&[u8], u32, ConfCause); 12] = [
+        (b"", 0, ConfCause::NoAddress),
+        (b"adress 2:5020/1042", 1, ConfCause::UnknownWord),
+        (b"address 2:5020", 1, ConfCause::BadAddress),
+        (b"address 5020/1", 1, ConfCause::BadAddress),
+        (b"iport x", 1, ConfCause::BadNumber),
+        (b"iport", 1, ConfCause::MissingWord),
+        (b"iport 0", 1, ConfCause::BadNumber),
+        (b"sysop a\r\n\r\nSYSOP b", 3, ConfCause::Twice),
+        (b"node 2:1/1\nnode 2:1/1@FidoNet", 2, ConfCause::Twice),
+        (b"address 1/1\ndomain a!b x 2", 2, ConfCause::BadAddress),
+        (b"node 1/1\ndomain a out 2", 0, ConfCause::NoAddress),
+        (long.as_slice(), 0, ConfCause::TooLong),
+    ];
+    for (text, line, cause) in faults {
+        assert_eq!(rt; fault(alloc, text), Some(ConfFault { line, cause }));
+    }
     Ok(())
 }
 
@@ -210,21 +206,28 @@ Kill-Old-Partial-Files 86400";
 #[test]
 fn every_word_is_read(rt: HostRuntime) -> Result<(), Fail> {
     let conf = read_conf(rt.alloc(), EVERY_WORD)?;
-    assert_eq!(rt; conf.domain.as_slice(), b"fidonet".as_slice());
-    assert_eq!(rt; conf.base.as_slice(), b"/ftn/out".as_slice());
-    assert_eq!(rt; conf.zone, 2);
-    assert_eq!(rt; conf.sysname.as_slice(), b"Example".as_slice());
-    assert_eq!(rt; conf.sysop.as_slice(), b"Joe Doe".as_slice());
-    assert_eq!(rt; conf.location.as_slice(), b"A\" and \"B".as_slice());
-    assert_eq!(rt; conf.nodeinfo.as_slice(), b"115200,TCP".as_slice());
-    assert_eq!(rt; conf.inbound.as_slice(), b"/ftn/in".as_slice());
+    let texts: [(&[u8], &[u8]); 8] = [
+        (conf.domain.as_slice(), b"fidonet"),
+        (conf.base.as_slice(), b"/ftn/out"),
+        (conf.sysname.as_slice(), b"Example"),
+        (conf.sysop.as_slice(), b"Joe Doe"),
+        (conf.location.as_slice(), b"A\" and \"B"),
+        (conf.nodeinfo.as_slice(), b"115200,TCP"),
+        (conf.inbound.as_slice(), b"/ftn/in"),
+        (conf.inbound_nonsecure.as_slice(), b"/ftn/in.open"),
+    ];
+    for (set, wanted) in texts {
+        assert_eq!(rt; set, wanted);
+    }
     assert_eq!(rt;
-        conf.inbound_nonsecure.as_slice(),
-        b"/ftn/in.open".as_slice()
-    );
-    assert_eq!(rt;
-        (conf.port, conf.max_servers, conf.max_clients, conf.block),
-        (24_555, 10, 4, 32_767)
+        (
+            conf.zone,
+            conf.port,
+            conf.max_servers,
+            conf.max_clients,
+            conf.block
+        ),
+        (2, 24_555, 10, 4, 32_767)
     );
     assert_eq!(rt; (conf.refuse_over, conf.session_limit), (0, 1));
     Ok(())
@@ -233,17 +236,17 @@ fn every_word_is_read(rt: HostRuntime) -> Result<(), Fail> {
 #[test]
 fn lines_of_a_list_add_up(rt: HostRuntime) -> Result<(), Fail> {
     let conf = read_conf(rt.alloc(), EVERY_WORD)?;
-    let at = |i: usize| conf.addresses.get(i).ok_or("no address");
-    assert_eq!(rt; conf.addresses.len(), 3);
-    assert_eq!(rt; (at(0)?.zone, at(0)?.net, at(0)?.node), (2, 5020, 1042));
-    assert_eq!(rt; at(1)?.point, 1);
-    assert_eq!(rt; at(2)?.domain.as_slice(), b"amiga".as_slice());
-    let name = |i: usize| conf.refuse_names.get(i).ok_or("no name");
-    assert_eq!(rt; name(0)?.as_slice(), b".exe".as_slice());
-    assert_eq!(rt; name(1)?.as_slice(), b".COM".as_slice());
-    let share = |i: usize| conf.shares.get(i).ok_or("no share");
-    assert_eq!(rt; share(0)?.as_slice(), b"/ftn/files".as_slice());
-    assert_eq!(rt; share(1)?.as_slice(), b"/ftn/more".as_slice());
+    let zones = [2, 2, 39];
+    assert!(rt; conf.addresses.iter().map(|addr| addr.zone).eq(zones));
+    let names: [&[u8]; 2] = [b".exe", b".COM"];
+    assert!(rt;
+        conf.refuse_names
+            .iter()
+            .map(|name| name.as_slice())
+            .eq(names)
+    );
+    let shares: [&[u8]; 2] = [b"/ftn/files", b"/ftn/more"];
+    assert!(rt; conf.shares.iter().map(|share| share.as_slice()).eq(shares));
     let peer = conf.node(&addr(rt.alloc(), 5047, 13)?).ok_or("no node")?;
     assert_eq!(rt; peer.host.as_slice(), b"peer.example".as_slice());
     Ok(())
