@@ -21,7 +21,9 @@ pub use tally::{Tally, look_up};
 /// The first word behind the program's name, a number.
 fn count_word<R: Env + AllocGlobal>(rt: &R) -> Result<u64> {
     let word = env::args(rt)?.nth(1).context("how many look-ups?")?;
-    word.as_str().parse::<u64>().context("reading the number of look-ups")
+    word.as_str()
+        .parse::<u64>()
+        .context("reading the number of look-ups")
 }
 
 /// All bytes of standard input.

@@ -25,7 +25,10 @@ impl fmt::Display for Tally {
             down,
             unknown,
         } = self;
-        write!(f, "{direct} direct, {via_host} via host, {down} down, {unknown} unknown")
+        write!(
+            f,
+            "{direct} direct, {via_host} via host, {down} down, {unknown} unknown"
+        )
     }
 }
 
@@ -79,20 +82,26 @@ fn address_of(alloc: Global, node: &Listed) -> Addr {
     }
 }
 
-/// How many places on the next node is that is looked up: a prime, so that each has its turn.
-const STRIDE: usize = 7_919;
+/// The next number of a sequence that looks random: Knuth's generator for 64 bits.
+fn next_number(number: u64) -> u64 {
+    number
+        .wrapping_mul(6_364_136_223_846_793_005)
+        .wrapping_add(1_442_695_040_888_963_407)
+}
 
-/// Looks so many nodes of an index up by their addresses, one after another in a scattered order.
+/// Looks so many nodes of an index up by their addresses, in an order that looks random, so that no part
+/// of a list is better remembered than another.
 pub fn look_up(alloc: Global, index: &Index, count: u64) -> Tally
     requires { 0 < length index.now }
     ensures { total result ≡ count }
 {
     let mut tally = Tally::new();
-    let mut at = 0;
+    let mut number = 0;
     for _ in 0..count {
+        number = next_number(number);
+        let at = (number >> 32) as usize % index.len();
         let addr = address_of(alloc, index.node(at));
         tally = tally.with(index.route(&addr));
-        at = at.wrapping_add(STRIDE) % index.len();
     }
     tally
 }
