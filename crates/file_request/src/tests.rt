@@ -93,14 +93,15 @@ fn is_found(alloc: Global, word: &[u8], shares: &[Share]) -> Result<bool, Fail> 
 #[test]
 fn names_in_order_find_what_the_shares_have(rt: HostRuntime) -> Result<(), Fail> {
     let alloc = rt.alloc();
-    let long = vec![in alloc; b'l'; 201]?;
+    let longest = vec![in alloc; b'l'; 200]?;
+    let longer = vec![in alloc; b'l'; 201]?;
     let shares = [
         share(alloc, b"a", &[b"m", b"Zz", b"b.ZIP"])?,
         share(alloc, b"", &[])?,
         share(
             alloc,
             b"b/c",
-            &[b"zz", b"a", b"", long.as_slice(), &long[..200]],
+            &[b"zz", b"a", b"", longer.as_slice(), longest.as_slice()],
         )?,
     ];
     let words: [&[u8]; 9] = [
@@ -111,8 +112,8 @@ fn names_in_order_find_what_the_shares_have(rt: HostRuntime) -> Result<(), Fail>
         b"A",
         b"n",
         b"a/m",
-        long.as_slice(),
-        &long[..200],
+        longer.as_slice(),
+        longest.as_slice(),
     ];
     for word in words {
         assert!(rt; is_found(alloc, word, &shares)?);

@@ -236,17 +236,20 @@ fn every_word_is_read(rt: HostRuntime) -> Result<(), Fail> {
 #[test]
 fn lines_of_a_list_add_up(rt: HostRuntime) -> Result<(), Fail> {
     let conf = read_conf(rt.alloc(), EVERY_WORD)?;
-    let zones = [2, 2, 39];
-    assert!(rt; conf.addresses.iter().map(|addr| addr.zone).eq(zones));
+    assert_eq!(rt; conf.addresses.len(), 3);
+    for (addr, zone) in conf.addresses.iter().zip([2, 2, 39]) {
+        assert_eq!(rt; addr.zone, zone);
+    }
     let names: [&[u8]; 2] = [b".exe", b".COM"];
-    assert!(rt;
-        conf.refuse_names
-            .iter()
-            .map(|name| name.as_slice())
-            .eq(names)
-    );
+    assert_eq!(rt; conf.refuse_names.len(), 2);
+    for (name, wanted) in conf.refuse_names.iter().zip(names) {
+        assert_eq!(rt; name.as_slice(), wanted);
+    }
     let shares: [&[u8]; 2] = [b"/ftn/files", b"/ftn/more"];
-    assert!(rt; conf.shares.iter().map(|share| share.as_slice()).eq(shares));
+    assert_eq!(rt; conf.shares.len(), 2);
+    for (share, wanted) in conf.shares.iter().zip(shares) {
+        assert_eq!(rt; share.as_slice(), wanted);
+    }
     let peer = conf.node(&addr(rt.alloc(), 5047, 13)?).ok_or("no node")?;
     assert_eq!(rt; peer.host.as_slice(), b"peer.example".as_slice());
     Ok(())
@@ -256,8 +259,10 @@ fn lines_of_a_list_add_up(rt: HostRuntime) -> Result<(), Fail> {
 fn cause_of(alloc: Global, lines: &[u8]) -> Result<Option<ConfCause>, Fail> {
     let mut text = Bytes::from_slice(alloc, b"address 2:1/1\n")?;
     text.push_slice(lines)?;
-    let fault = read_conf(alloc, text.as_slice()).err();
-    Ok(fault.map(|fault| fault.cause))
+    match read_conf(alloc, text.as_slice()) {
+        Ok(_) => Ok(None),
+        Err(fault) => Ok(Some(fault.cause)),
+    }
 }
 
 #[test]

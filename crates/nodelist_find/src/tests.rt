@@ -87,8 +87,14 @@ fn halves_find_what_the_list_has(rt: HostRuntime) -> Result<(), Fail> {
     for net in [2u16, 50, 51, 5020] {
         for node in 0..1100u16 {
             let addr = addr(alloc, 2, net, node)?;
-            let found = index.find(&addr).map(|i| host(&index, i));
-            let plain = listed(nodes.as_slice(), &addr).map(|n| n.host.as_slice());
+            let found = match index.find(&addr) {
+                Some(i) => Some(host(&index, i)),
+                None => None,
+            };
+            let plain = match listed(nodes.as_slice(), &addr) {
+                Some(n) => Some(n.host.as_slice()),
+                None => None,
+            };
             assert_eq!(rt; found, plain);
         }
     }
