@@ -1,1 +1,2 @@
+mod FilesByName
 pub mod OneLine

@@ -1,10 +1,11 @@
 -- One more line of a request, and the answer after the last.
-use Rattle.std.proofs.Common.{◌≡◌, ℕ, ◌+◌, ◌-◌, ◌<◌, ◌≤◌, Bool, false, not, eqb, List, [], ◌∷◌, ◌++◌, length, take, Option, None, refl, sym, ap, ◌∙◌, inl, inr, arith}
+use Rattle.std.proofs.Common.{◌≡◌, ℕ, ◌+◌, ◌-◌, ◌<◌, ◌≤◌, Bool, true, false, not, eqb, List, [], ◌∷◌, ◌++◌, length, take, Option, Some, None, refl, sym, ap, ◌∙◌, inl, inr, arith}
 use Rattle.std.specs.Prelude.{filter}
 use Rattle.std.specs.List.{filter_map, cons_option}
+use Rattle.std.specs.Option.{IsNone, is_some}
 use Rattle.std.specs.Str.Lines.{lines}
 use Rattle.std.proofs.lemmas.Bool.{cases_lt}
-use Rattle.std.proofs.lemmas.List.{take_all, take-append-le, append-nil}
+use Rattle.std.proofs.lemmas.List.{append_assoc, take_all, take-append-le, append-nil}
 use Rattle.file_request.specs.Answer.{all_asked, answer_short, asked_by, full_lines}
 use Rattle.file_request.specs.Share.{SharedFolder}
 
@@ -25,6 +26,18 @@ none_given paths more asked none =
       | inl below ↦ rw (none below) refl
       | inr full ↦ take-append-le 64 paths more full ∙ sym (take-append-le 64 paths (cons_option asked more) full)
     ]
+
+-- where a file is given, there is room for it
+pub room_for : {X : Type 0} (n : ℕ) (asked : Option X) (x : X) → asked ≡ Some x → (64 ≤ n → IsNone asked) → n < 64
+room_for n asked x is none =
+    elim (cases_lt n 64) as (λ _. n < 64) [
+      | inl below ↦ below
+      | inr full ↦ absurd (let clash : true ≡ false = sym (ap is_some is) ∙ none full in cc)
+    ]
+
+-- a line that gets a file adds it
+pub one_given : (paths more : List (List ℕ)) (path : List ℕ) (asked : Option (List ℕ)) → asked ≡ Some path → (paths ++ path ∷ []) ++ more ≡ paths ++ cons_option asked more
+one_given paths more path asked is = append_assoc paths (path ∷ []) more ∙ rw is refl
 
 pub after_last : (shares : List SharedFolder) (paths : List (List ℕ)) (passed : ℕ) (rest text : List ℕ) → lines rest ≡ [] → take 64 (paths ++ all_asked shares rest) ≡ take 64 (all_asked shares text) → length paths ≤ 64 → passed + length paths + length (full_lines rest) ≡ length (full_lines text) → record { files = paths; passed = passed } ≡ answer_short shares text
 unfolding answer_short

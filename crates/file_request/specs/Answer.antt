@@ -9,15 +9,15 @@ pub record AnswerText : Type 0 where
   pub files : List (List ℕ)
   pub passed : ℕ
 
--- one word asks for a file, and no other list of words does
-abbrev pub asked_word : List SharedFolder → List (List ℕ) → Option (List ℕ)
-asked_word shares [] = None
-asked_word shares (word ∷ []) = path_in word shares
-asked_word shares (word ∷ next ∷ words) = None
+-- one word asks for the path that it has, and no other list of words does
+abbrev pub asked_word : (List ℕ → Option (List ℕ)) → List (List ℕ) → Option (List ℕ)
+asked_word path [] = None
+asked_word path (word ∷ []) = path word
+asked_word path (word ∷ next ∷ words) = None
 
 -- the path of the file that a line asks for
 abbrev pub asked_by : List SharedFolder → List ℕ → Option (List ℕ)
-asked_by shares line = asked_word shares (words_of line)
+asked_by shares line = asked_word (λ word. path_in word shares) (words_of line)
 
 -- the lines that aren't empty
 abbrev pub full_lines : List ℕ → List (List ℕ)

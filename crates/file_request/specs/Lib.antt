@@ -1,3 +1,4 @@
 pub mod Answer
+pub mod Files
 pub mod Share
 pub mod Views

@@ -1,10 +1,12 @@
 //! The answer to a request.
 ghost use Rattle.std.specs.Prelude.{◌≡◌, ◌<◌, ◌≤◌, length, map, option_map, IsNone, IfOk};
-ghost use Rattle.file_request.specs.Answer.{answer_of, asked_by, answer_short};
+ghost use Rattle.text_lines.specs.Word.{words_of};
+ghost use Rattle.file_request.specs.Answer.{answer_of, asked_word, answer_short};
+ghost use Rattle.file_request.specs.Files.{found};
 ghost use Rattle.file_request.specs.Views.{answered, shared};
 
 use crate::Share;
-use crate::share::path_in;
+use crate::files::{Files, files_of, path_in};
 use ftn_addr::{Bytes, NoMemory};
 use std::alloc::Global;
 use text_lines::{first_line, words};
@@ -25,12 +27,12 @@ const MAX_REQUEST: usize = 65_536;
 const MAX_FILES: usize = 64;
 
 /// The path of the file that a line asks for, which a line of one word can do.
-fn asked_by(alloc: Global, line: &[u8], shares: &[Share]) -> Result<Option<Bytes>, NoMemory>
+fn asked_by(alloc: Global, line: &[u8], files: &Files<'_>) -> Result<Option<Bytes>, NoMemory>
     ensures { IfOk result (λ path. option_map (λ path. path.list) path
-        ≡ asked_by (map shared shares.now) line.now) }
+        ≡ asked_word (found files.now) (words_of line.now)) }
 {
     match words(alloc, line)?.as_slice() {
-        [word] => path_in(alloc, *word, shares),
+        [word] => path_in(alloc, *word, files),
         _ => Ok(None),
     }
 }
@@ -39,15 +41,15 @@ fn asked_by(alloc: Global, line: &[u8], shares: &[Share]) -> Result<Option<Bytes
 fn next_file(
     alloc: Global,
     line: &[u8],
-    shares: &[Share],
+    files: &Files<'_>,
     given: usize,
 ) -> Result<Option<Bytes>, NoMemory>
     ensures asked { given < 64 → IfOk result (λ path. option_map (λ path. path.list) path
-        ≡ asked_by (map shared shares.now) line.now) }
+        ≡ asked_word (found files.now) (words_of line.now)) }
     ensures full { 64 ≤ given → IfOk result (λ path. IsNone path) }
 {
     if given < MAX_FILES {
-        asked_by(alloc, line, shares)
+        asked_by(alloc, line, files)
     } else {
         Ok(None)
     }
@@ -58,12 +60,13 @@ fn answer_lines(alloc: Global, bytes: &[u8], shares: &[Share]) -> Result<Answer,
     requires { length bytes.now ≤ 65536 }
     ensures { IfOk result (λ answer. answered answer ≡ answer_short (map shared shares.now) bytes.now) }
 {
+    let known = files_of(alloc, shares)?;
     let mut files = Vec::new(alloc);
     let mut passed = 0;
     let mut rest = bytes;
     while let Some((line, after)) = first_line(rest) {
         if !line.is_empty() {
-            match next_file(alloc, line, shares, files.len())? {
+            match next_file(alloc, line, &known, files.len())? {
                 Some(path) => files.push(path)?,
                 None => passed += 1,
             }

@@ -8,6 +8,7 @@
 #![tactic(auto)]
 
 mod answer;
+mod files;
 mod share;
 #[cfg(test)]
 mod tests;

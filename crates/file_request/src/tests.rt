@@ -65,3 +65,58 @@ fn an_over_long_request_asks_for_nothing(rt: HostRuntime) -> Result<(), Fail> {
     assert_eq!(rt; answer.passed, 0);
     Ok(())
 }
+
+/// The plain look-up, through all names of all shares.
+fn asked_for<'a>(word: &[u8], shares: &'a [Share]) -> Option<(&'a [u8], &'a [u8])> {
+    for share in shares {
+        for name in &share.names {
+            if name.len() <= 200 && name.as_slice().eq_ignore_ascii_case(word) {
+                return Some((share.folder.as_slice(), name.as_slice()));
+            }
+        }
+    }
+    None
+}
+
+fn is_found(alloc: Global, word: &[u8], shares: &[Share]) -> Result<bool, Fail> {
+    let answer = answer_request(alloc, word, shares)?;
+    let Some((folder, name)) = asked_for(word, shares) else {
+        return Ok(answer.files.is_empty() && answer.passed == 1);
+    };
+    let path = [folder, b"/", name].concat(alloc)?;
+    match answer.files.as_slice() {
+        [file] => Ok(file.as_slice() == path.as_slice() && answer.passed == 0),
+        _ => Ok(false),
+    }
+}
+
+#[test]
+fn names_in_order_find_what_the_shares_have(rt: HostRuntime) -> Result<(), Fail> {
+    let alloc = rt.alloc();
+    let longest = vec![in alloc; b'l'; 200]?;
+    let longer = vec![in alloc; b'l'; 201]?;
+    let shares = [
+        share(alloc, b"a", &[b"m", b"Zz", b"b.ZIP"])?,
+        share(alloc, b"", &[])?,
+        share(
+            alloc,
+            b"b/c",
+            &[b"zz", b"a", b"", longer.as_slice(), longest.as_slice()],
+        )?,
+    ];
+    let words: [&[u8]; 9] = [
+        b"m",
+        b"M",
+        b"ZZ",
+        b"B.zip",
+        b"A",
+        b"n",
+        b"a/m",
+        longer.as_slice(),
+        longest.as_slice(),
+    ];
+    for word in words {
+        assert!(rt; is_found(alloc, word, &shares)?);
+    }
+    Ok(())
+}

@@ -1,5 +1,6 @@
 use crate::{FlowLine, read_flow};
-use ftn_addr::Action;
+use ftn_addr::{Action, Bytes};
+use std::alloc::Global;
 use std::test::Fail;
 
 #[test]
@@ -34,5 +35,42 @@ fn what_names_no_file_is_passed(rt: HostRuntime) -> Result<(), Fail> {
     for item in &items {
         assert!(rt; matches!(item, FlowLine::Passed));
     }
+    Ok(())
+}
+
+/// The action of a text of one line, where it sends the path `a`.
+fn action_of(alloc: Global, text: &[u8]) -> Result<Option<Action>, Fail> {
+    let items = read_flow(alloc, text)?;
+    match items.as_slice() {
+        [FlowLine::Send(action, path)] if path.as_slice() == b"a".as_slice() => Ok(Some(*action)),
+        _ => Ok(None),
+    }
+}
+
+#[test]
+fn each_mark_has_its_action(rt: HostRuntime) -> Result<(), Fail> {
+    let action = |text: &[u8]| action_of(rt.alloc(), text);
+    assert_eq!(rt; action(b"a")?, Some(Action::Leave));
+    assert_eq!(rt; action(b"@a")?, Some(Action::Leave));
+    assert_eq!(rt; action(b"#a")?, Some(Action::Cut));
+    assert_eq!(rt; action(b"^a")?, Some(Action::Delete));
+    assert_eq!(rt; action(b"-a\n")?, Some(Action::Delete));
+    assert_eq!(rt; action(b"~a")?, None);
+    assert_eq!(rt; action(b"!a")?, None);
+    assert_eq!(rt; action(b"")?, None);
+    Ok(())
+}
+
+#[test]
+fn a_line_has_at_most_1024_bytes(rt: HostRuntime) -> Result<(), Fail> {
+    let mut text = Bytes::from_slice(rt.alloc(), b" \t")?;
+    for _ in 0..1024 {
+        text.push_slice(b"a")?;
+    }
+    let items = read_flow(rt.alloc(), text.as_slice())?;
+    assert!(rt; matches!(items.as_slice(), [FlowLine::Send(..)]));
+    text.push_slice(b"a")?;
+    let items = read_flow(rt.alloc(), text.as_slice())?;
+    assert!(rt; matches!(items.as_slice(), [FlowLine::Passed]));
     Ok(())
 }

@@ -1,4 +1,5 @@
 use crate::{ListCause, ListTextFault, Listed, NodeKind, compile, index_bytes};
+use ftn_addr::{Bytes, NoMemory};
 use std::alloc::Global;
 use std::test::Fail;
 
@@ -109,5 +110,32 @@ fn an_index_has_its_nodes_in_order(rt: HostRuntime) -> Result<(), Fail> {
     let wanted =
         b"nodeidx1\0\0\0\x03\0\x02\0\x02\0\0\0\0\x5f\xea\0\x02\0\x02\0\x01\x06\0\x5f\xea\0\x02\0\x02\0\x03\x03\x01a\x01\x02";
     assert_eq!(rt; bytes.as_slice(), wanted.as_slice());
+    Ok(())
+}
+
+/// The lines of the hosts from 1 to 32,767 below a zone.
+fn push_zone(alloc: Global, zone: u64, text: &mut Bytes) -> Result<(), NoMemory> {
+    text.push_slice(b"Zone,")?;
+    text.push_number(alloc, zone)?;
+    for net in 1..32_768u64 {
+        text.push_slice(b"\nHost,")?;
+        text.push_number(alloc, net)?;
+    }
+    text.push_slice(b"\n")
+}
+
+#[test]
+fn a_list_has_at_most_65536_nodes(rt: HostRuntime) -> Result<(), Fail> {
+    let mut text = Bytes::new(rt.alloc());
+    push_zone(rt.alloc(), 1, &mut text)?;
+    push_zone(rt.alloc(), 2, &mut text)?;
+    text.push_slice(b"Zone,3\n,1\nZone,1\n")?;
+    assert_eq!(rt; compile(rt.alloc(), text.as_slice())?.len(), 65_536);
+    text.push_slice(b"Zone,4\n")?;
+    let told = ListTextFault {
+        line: 65_540,
+        cause: ListCause::TooMany,
+    };
+    assert_eq!(rt; fault(rt.alloc(), text.as_slice()), Some(told));
     Ok(())
 }

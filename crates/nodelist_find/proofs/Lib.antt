@@ -3,3 +3,4 @@ pub mod IndexLaw
 pub mod LookUp
 pub mod OneNode
 pub mod ReadBack
+pub mod Told

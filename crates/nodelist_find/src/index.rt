@@ -75,6 +75,7 @@ impl Index {
     {
         &self.nodes[i]
     }
+
     /// Where the node of an address stands. A point is looked up as its node, whatever the domain. It
     /// halves what is left at each step, and takes no memory.
     pub fn find(&self, addr: &Addr) -> Option<usize>
@@ -85,6 +86,7 @@ impl Index {
     }
 
     /// How the node of an address is reached. It takes no memory.
+    #[tactic(auto, using(crate::proofs::Told::own_host))]
     pub fn route(&self, addr: &Addr) -> Route
         ensures route { result ≡ route_of self.now (address addr.now) }
         ensures within { IsWithin result (length self.now) }
@@ -92,8 +94,13 @@ impl Index {
         let Some(i) = self.find(addr) else {
             return Route::Unknown;
         };
-        let net = found_at(self.nodes.as_slice(), place(addr.zone, addr.net, 0));
-        told(i, &self.nodes[i], net)
+        let node = &self.nodes[i];
+        // A node with a host of its own needs no search for that of its net.
+        if node.host.is_empty() {
+            let net = found_at(self.nodes.as_slice(), place(addr.zone, addr.net, 0));
+            return told(i, node, net);
+        }
+        told(i, node, None)
     }
 }
 

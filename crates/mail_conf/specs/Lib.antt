@@ -1,0 +1,12 @@
+pub mod Cause
+pub mod Conf
+pub mod ConfView
+pub mod Domain
+pub mod Draft
+pub mod Drafted
+pub mod Host
+pub mod Known
+pub mod Line
+pub mod Values
+pub mod Views
+pub mod Words

@@ -1,0 +1,26 @@
+//! The settings of the mailer, in the words of binkd's (own).
+//!
+//! [`read_conf`] reads a text into a [`Conf`], or gives its first bad line with the cause. A line is a
+//! word and what it sets; `#` begins a comment, within quotes too. Addresses that name no zone or no
+//! domain take those of the `domain` line, wherever it stands. [`Conf::node`] finds the settings of
+//! another node.
+//!
+//! Left out: reading the file.
+#![tactic(auto)]
+
+mod cause;
+mod conf;
+mod domain;
+mod draft;
+mod host;
+mod lines;
+mod nodes;
+mod reading;
+#[cfg(test)]
+mod tests;
+mod values;
+mod words;
+
+pub use cause::{ConfCause, ConfFault};
+pub use conf::{Conf, Node};
+pub use reading::read_conf;
