@@ -1,8 +1,8 @@
 -- The flags of a node that say where it answers binkp (FTS-5001).
-use Rattle.std.specs.Prelude.{ℕ, ◌+◌, ◌==◌, Bool, ◌&&◌, nat_lt, nat_eq, List, [], ◌∷◌, length, take, drop, position, codes, Option, Some, None, is_some, unwrap_or, if◌then◌else◌}
+use Rattle.std.specs.Prelude.{ℕ, ◌+◌, ◌==◌, ◌&&◌, nat_lt, nat_eq, List, [], ◌∷◌, length, take, drop, position, codes, Option, Some, None, is_some, unwrap_or, if◌then◌else◌}
 use Rattle.std.specs.Cmp.Lexicographic.{pointwise}
 use Rattle.std.specs.List.{starts_with}
-use Rattle.ftn_addr.specs.Digits.{saturated_number, is_numeral}
+use Rattle.ftn_addr.specs.Digits.{saturated_number}
 
 -- what stands behind the front
 abbrev pub after : List ℕ → List ℕ → Option (List ℕ)

@@ -1,5 +1,5 @@
 -- The nodes of a text (FTS-5000).
-use Rattle.std.specs.Prelude.{◌≡◌, ℕ, ◌+◌, ◌==◌, not, min, Bool, ◌||◌, nat_le, nat_eq, List, [], ◌∷◌, ◌++◌, length, take, position, codes, Option, Some, None, Result, Ok, Err, if◌then◌else◌}
+use Rattle.std.specs.Prelude.{◌≡◌, ℕ, ◌+◌, ◌==◌, min, Bool, ◌||◌, nat_le, nat_eq, List, [], ◌∷◌, ◌++◌, length, take, position, codes, Option, Some, None, Result, Ok, Err, if◌then◌else◌}
 use Rattle.std.specs.List.{slice_split, starts_with}
 use Rattle.std.specs.Str.Lines.{lines}
 use Rattle.nodelist_comp.specs.Fields.{Area, node_of, ◌>>=◌}

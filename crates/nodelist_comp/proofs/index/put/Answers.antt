@@ -1,9 +1,9 @@
 use Rattle.std.proofs.Common.{◌≡◌, false, true, sym, ap, ◌∙◌}
 use Rattle.std.proofs.lemmas.Bool.{cond-false, cond-true}
 use Rattle.nodelist_comp.proofs.InOrder.{has_seen, seen-insert}
-use Rattle.nodelist_comp.specs.Index.{insert_node, with_node}
+use Rattle.nodelist_comp.specs.Index.{insert_node}
 use Rattle.nodelist_comp.specs.Keyed.{seen}
-use Rattle.nodelist_comp.specs.Node.{has_place, place_of}
+use Rattle.nodelist_comp.specs.Node.{has_place}
 use Rattle.nodelist_comp.specs.Views.{listed}
 use Rattle.nodelist_comp.proofs.index.put.Goals as goal
 
