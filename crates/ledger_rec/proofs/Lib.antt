@@ -1,1 +1,5 @@
+mod Canonical
+mod Fronts
 mod Joining
+mod Lengths
+mod ReadBack

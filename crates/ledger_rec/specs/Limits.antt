@@ -1,8 +1,16 @@
 -- What a record's fields may be.
 use Rattle.std.specs.Prelude.{ℕ, ◌<◌, ◌≤◌, ◌^◌, length}
+use Rattle.ftn_addr.specs.Address.{Address}
 use Rattle.ftn_addr.specs.Key.{Key}
 use Rattle.ftn_addr.specs.Limits.{IsAddress, IsKey}
 use Rattle.ledger_rec.specs.Record.{NewFileText, ReceivedText, RefusedText, MarkText, RecordText, Queue, Done, Received, Refused, Mark, Taken, Acted, Answered}
+
+-- numbers of two bytes
+pub record HasShortNumbers (a : Address) : Type 0 where
+  pub zone : a.zone < 2 ^ 16
+  pub net : a.net < 2 ^ 16
+  pub node : a.node < 2 ^ 16
+  pub point : a.point < 2 ^ 16
 
 -- a path of at most 1024 bytes; actions from 0 to 2, flavours from 0 to 4
 pub record IsNewFile (r : NewFileText) : Type 0 where

@@ -7,6 +7,10 @@ use Rattle.ftn_addr.specs.Writing.{canonical}
 use Rattle.ledger_rec.specs.Limits.{Fits, HasNumbers}
 use Rattle.ledger_rec.specs.Record.{NewFileText, ReceivedText, RefusedText, MarkText, RecordText, Queue, Done, Received, Refused, Mark, Taken, Acted, Answered}
 
+-- two bytes
+abbrev pub short_bytes : ℕ → List ℕ
+short_bytes n = to_be_bytes w16 n
+
 -- four bytes
 abbrev pub number_bytes : ℕ → List ℕ
 number_bytes n = to_be_bytes w32 n
@@ -25,7 +29,7 @@ key_bytes k = length k.name ∷ k.name ++ wide_bytes k.size ++ wide_bytes k.time
 
 -- two bytes of length, and the path
 abbrev pub path_bytes : List ℕ → List ℕ
-path_bytes path = to_be_bytes w16 (length path) ++ path
+path_bytes path = short_bytes (length path) ++ path
 
 -- 0 or 1
 abbrev pub flag_byte : Bool → ℕ
@@ -57,12 +61,11 @@ field_bytes (Answered receipt) = number_bytes receipt
 abbrev pub spelling : RecordText → List ℕ
 spelling r = kind_byte r ∷ field_bytes r
 
--- these bytes are the record's
+-- these bytes are the record's, whose fields keep their limits
 pub record Spells (r : RecordText) (payload : List ℕ) : Type 0 where
   pub text : payload ≡ spelling r
   pub fits : Fits r
-  pub numbers : HasNumbers r
 
 -- no record has these bytes
 abbrev pub SpellsNone : List ℕ → Type 0
-SpellsNone payload = (r : RecordText) → Spells r payload → ⊥
+SpellsNone payload = (r : RecordText) → HasNumbers r → Spells r payload → ⊥

@@ -2,9 +2,14 @@
 #![tactic(auto)]
 
 mod fault;
+mod fields;
+mod laws;
+mod reading;
 mod record;
 mod writing;
 
 pub use fault::{FoldFault, RecFault};
 pub use record::{MarkRec, NewFileRec, ReceivedRec, Record, RefusedRec};
 pub use writing::write_record;
+pub use laws::{fits_a_payload, one_record_at_most};
+pub use reading::read_record;
