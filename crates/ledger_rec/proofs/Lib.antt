@@ -2,4 +2,5 @@ mod Canonical
 mod Fronts
 mod Joining
 mod Lengths
+mod Mapped
 mod ReadBack

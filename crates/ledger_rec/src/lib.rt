@@ -3,9 +3,12 @@
 
 mod fault;
 mod fields;
+mod items;
 mod laws;
+mod lists;
 mod reading;
 mod record;
+mod rules;
 mod writing;
 
 pub use fault::{FoldFault, RecFault};
