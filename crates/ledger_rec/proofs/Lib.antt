@@ -1,4 +1,5 @@
 mod Canonical
+mod Changing
 mod Fronts
 mod Joining
 mod Lengths

@@ -1,6 +1,7 @@
 //! The records of a ledger.
 #![tactic(auto)]
 
+mod changes;
 mod fault;
 mod fields;
 mod items;

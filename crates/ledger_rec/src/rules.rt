@@ -30,7 +30,7 @@ pub(crate) fn is_numbered(rec: &Record) -> bool
 }
 
 /// Whether a file of one address has the key and address of another.
-fn is_same(from: &Addr, key: &FileKey, addr: &Addr, other: &FileKey) -> bool
+pub(crate) fn is_same(from: &Addr, key: &FileKey, addr: &Addr, other: &FileKey) -> bool
     ensures { result ≡ is_same (address from.now) (key_of key.now) (address addr.now) (key_of other.now) }
 {
     is_same_address(from, addr) && is_same_key(key, other)
