@@ -1,5 +1,6 @@
 mod Canonical
 mod Changing
+mod Folding
 mod Fronts
 mod Joining
 mod Lengths

@@ -1,5 +1,5 @@
 -- The fold of a ledger's records: the state that they leave, one record after another (own).
-use Rattle.std.specs.Prelude.{ℕ, ◌-◌, ◌==◌, Bool, true, false, not, ◌&&◌, ◌||◌, nat_lt, nat_le, nat_eq, List, [], ◌∷◌, ◌++◌, length, map, drop, filter, codes, Option, Some, None, option_map, if◌then◌else◌}
+use Rattle.std.specs.Prelude.{ℕ, ◌-◌, ◌==◌, Bool, true, false, not, ◌&&◌, ◌||◌, nat_lt, nat_le, nat_eq, IsTrue, List, [], ◌∷◌, ◌++◌, length, map, drop, filter, codes, Option, Some, None, option_map, if◌then◌else◌}
 use Rattle.std.specs.Char.{to_ascii_lowercase}
 use Rattle.std.specs.Cmp.Lexicographic.{pointwise}
 use Rattle.std.specs.List.{list_all, list_any}
@@ -174,3 +174,25 @@ fold_step s r = if list_all (λ n. nat_lt 0 n) (numbers r) then after s r else N
 
 abbrev pub is_held : Address → Key → List Hold → Bool
 is_held from key holds = list_any (λ (h : Hold). is_same from key h.from h.key) holds
+
+-- one hold of the sender and key less, where there is one
+abbrev pub without_hold : Address → Key → List Hold → List Hold
+without_hold from key [] = []
+without_hold from key (h ∷ hs) = if is_same from key h.from h.key then hs else h ∷ without_hold from key hs
+
+-- a record that is folded without new memory where there is room
+abbrev pub IsPrepared : RecordText → List Hold → Type 0
+IsPrepared (Queue r) holds = ⊥
+IsPrepared (Done number session) holds = Unit {0}
+IsPrepared (Received r) holds = IsTrue (is_held r.from r.key holds)
+IsPrepared (Refused r) holds = ⊥
+IsPrepared (Mark r) holds = IsTrue (is_held r.from r.key holds)
+IsPrepared (Taken take) holds = Unit {0}
+IsPrepared (Acted number) holds = Unit {0}
+IsPrepared (Answered number) holds = Unit {0}
+
+-- the state of the records so far, what is held, and how many more records fit
+pub record Folding : Type 0 where
+  pub state : State
+  pub holds : List Hold
+  pub room : ℕ

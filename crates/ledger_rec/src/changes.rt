@@ -1,11 +1,12 @@
 //! What each record changes, once it keeps the rules.
-ghost use Rattle.std.specs.Prelude.{◌≡◌, ◌+◌, ◌<◌, ◌≤◌, ℕ, nat_lt, [], ◌∷◌, ◌++◌, not, filter, length, map, position, unwrap_or, vec_len, vec_capacity, IsOk, OnOk};
+ghost use Rattle.std.specs.Prelude.{◌≡◌, ◌+◌, ◌-◌, ◌<◌, ◌≤◌, ℕ, nat_lt, [], ◌∷◌, ◌++◌, not, filter, length, map, position, unwrap_or, vec_len, vec_capacity, IfErr, IsOk, OnOk};
 ghost use Rattle.ftn_addr.specs.Address.{address};
 ghost use Rattle.ftn_addr.specs.Key.{key_of};
 ghost use Rattle.ledger_rec.specs.Fold.{is_live, settled, waits_for_action, acted_on, waits_for_answer, answered, changed, is_same, unmarked, in_place, with_number, with_queued, with_receipt, with_refusal, with_mark, with_take};
 ghost use Rattle.ledger_rec.specs.Items.{entry, receipt, refusal, part_mark};
 ghost use Rattle.ledger_rec.specs.Lists.{state_of, HasRoom, Steps};
 ghost use Rattle.ledger_rec.specs.Record.{new_file, received, refused, mark};
+ghost use Rattle.ledger_rec.specs.declared.fault.FoldFault.TheVariants.{BadFold as BreaksRule};
 
 use crate::items::{InboxItem, MarkItem, QueueItem, RefusedItem};
 use crate::lists::Lists;
@@ -15,7 +16,8 @@ use ftn_addr::{Addr, FileKey, NoMemory};
 
 /// The live file with that number is done.
 pub(crate) fn settle(number: u32, queue: &mut [QueueItem]) -> Result<(), FoldFault>
-    ensures { Steps result (changed (is_live number) settled (map entry queue.old)) (map entry queue.old) (map entry queue.new) }
+    ensures step { Steps result (changed (is_live number) settled (map entry queue.old)) (map entry queue.old) (map entry queue.new) }
+    ensures cause { IfErr result (λ fault. fault ≡ BreaksRule) }
 {
     match live_at(number, queue) {
         Some(i) => {
@@ -28,7 +30,8 @@ pub(crate) fn settle(number: u32, queue: &mut [QueueItem]) -> Result<(), FoldFau
 
 /// The action of the file with that number is done.
 pub(crate) fn act(number: u32, queue: &mut [QueueItem]) -> Result<(), FoldFault>
-    ensures { Steps result (changed (waits_for_action number) acted_on (map entry queue.old)) (map entry queue.old) (map entry queue.new) }
+    ensures step { Steps result (changed (waits_for_action number) acted_on (map entry queue.old)) (map entry queue.old) (map entry queue.new) }
+    ensures cause { IfErr result (λ fault. fault ≡ BreaksRule) }
 {
     match action_at(number, queue) {
         Some(i) => {
@@ -41,7 +44,8 @@ pub(crate) fn act(number: u32, queue: &mut [QueueItem]) -> Result<(), FoldFault>
 
 /// The request with that receipt is answered.
 pub(crate) fn answer(number: u32, inbox: &mut [InboxItem]) -> Result<(), FoldFault>
-    ensures { Steps result (changed (waits_for_answer number) answered (map receipt inbox.old)) (map receipt inbox.old) (map receipt inbox.new) }
+    ensures step { Steps result (changed (waits_for_answer number) answered (map receipt inbox.old)) (map receipt inbox.old) (map receipt inbox.new) }
+    ensures cause { IfErr result (λ fault. fault ≡ BreaksRule) }
 {
     match request_at(number, inbox) {
         Some(i) => {
@@ -126,7 +130,7 @@ fn insert(item: MarkItem, marks: &mut Vec<MarkItem>)
 pub(crate) fn put_queued(rec: NewFileRec, lists: &mut Lists)
     requires { HasRoom 1 lists.old }
     ensures state { state_of lists.new ≡ with_queued (new_file rec) (state_of lists.old) }
-    ensures room { (n : ℕ) → HasRoom (n + 1) lists.old → HasRoom n lists.new }
+    ensures room { (n : ℕ) → HasRoom n lists.old → HasRoom (n - 1) lists.new }
 {
     let item = QueueItem {
         number: rec.number,
@@ -144,7 +148,7 @@ pub(crate) fn put_queued(rec: NewFileRec, lists: &mut Lists)
 pub(crate) fn put_receipt(rec: ReceivedRec, lists: &mut Lists)
     requires { HasRoom 1 lists.old }
     ensures state { state_of lists.new ≡ with_receipt (received rec) (state_of lists.old) }
-    ensures room { (n : ℕ) → HasRoom (n + 1) lists.old → HasRoom n lists.new }
+    ensures room { (n : ℕ) → HasRoom n lists.old → HasRoom (n - 1) lists.new }
 {
     unmark(&rec.from, &rec.key, &mut lists.marks);
     use_number(rec.receipt, &mut lists.parts);
@@ -161,7 +165,7 @@ pub(crate) fn put_receipt(rec: ReceivedRec, lists: &mut Lists)
 pub(crate) fn put_refusal(rec: RefusedRec, lists: &mut Lists)
     requires { HasRoom 1 lists.old }
     ensures state { state_of lists.new ≡ with_refusal (refused rec) (state_of lists.old) }
-    ensures room { (n : ℕ) → HasRoom (n + 1) lists.old → HasRoom n lists.new }
+    ensures room { (n : ℕ) → HasRoom n lists.old → HasRoom (n - 1) lists.new }
 {
     unmark(&rec.from, &rec.key, &mut lists.marks);
     let item = RefusedItem {
@@ -174,7 +178,7 @@ pub(crate) fn put_refusal(rec: RefusedRec, lists: &mut Lists)
 pub(crate) fn put_mark(rec: MarkRec, lists: &mut Lists)
     requires { HasRoom 1 lists.old }
     ensures state { state_of lists.new ≡ with_mark (mark rec) (state_of lists.old) }
-    ensures room { (n : ℕ) → HasRoom (n + 1) lists.old → HasRoom n lists.new }
+    ensures room { (n : ℕ) → HasRoom n lists.old → HasRoom (n - 1) lists.new }
 {
     unmark(&rec.from, &rec.key, &mut lists.marks);
     use_number(rec.part, &mut lists.parts);
@@ -190,7 +194,7 @@ pub(crate) fn put_mark(rec: MarkRec, lists: &mut Lists)
 pub(crate) fn put_take(take: u32, lists: &mut Lists)
     requires { HasRoom 1 lists.old }
     ensures state { state_of lists.new ≡ with_take take (state_of lists.old) }
-    ensures room { (n : ℕ) → HasRoom (n + 1) lists.old → HasRoom n lists.new }
+    ensures room { (n : ℕ) → HasRoom n lists.old → HasRoom (n - 1) lists.new }
 {
     push(take, &mut lists.takes);
 }

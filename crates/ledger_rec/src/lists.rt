@@ -1,10 +1,8 @@
-//! The lists that records leave, and what each record does to them.
-ghost use Rattle.std.specs.Prelude.{◌≡◌};
-
+//! The lists that records leave.
 use crate::items::{InboxItem, MarkItem, QueueItem, RefusedItem};
 
 /// The lists of a fold.
-#[derive(Drop)]
+#[derive(Debug, Drop)]
 pub(crate) struct Lists {
     pub queue: Vec<QueueItem>,
     pub inbox: Vec<InboxItem>,

@@ -1,5 +1,8 @@
 //! The records of a ledger.
-use ftn_addr::{Addr, Bytes, FileKey};
+ghost use Rattle.std.specs.Prelude.{◌≡◌, IfOk};
+
+use ftn_addr::{Addr, Bytes, FileKey, NoMemory};
+use std::alloc::Global;
 
 /// A file is queued.
 #[derive(Debug, Drop)]
@@ -70,4 +73,86 @@ pub enum Record {
     Acted(u32),
     /// The received request with this receipt is answered.
     Answered(u32),
+}
+
+impl NewFileRec {
+    ghost use Rattle.ledger_rec.specs.Record.{new_file};
+
+    pub fn copy(&self, alloc: Global) -> Result<NewFileRec, NoMemory>
+        ensures { IfOk result (λ copy. new_file copy ≡ new_file self.now) }
+    {
+        Ok(NewFileRec {
+            number: self.number,
+            dest: self.dest.copy(alloc)?,
+            key: self.key.copy(alloc)?,
+            source: self.source.copy(alloc)?,
+            action: self.action,
+            flavour: self.flavour,
+        })
+    }
+}
+
+impl ReceivedRec {
+    ghost use Rattle.ledger_rec.specs.Record.{received};
+
+    pub fn copy(&self, alloc: Global) -> Result<ReceivedRec, NoMemory>
+        ensures { IfOk result (λ copy. received copy ≡ received self.now) }
+    {
+        Ok(ReceivedRec {
+            receipt: self.receipt,
+            from: self.from.copy(alloc)?,
+            key: self.key.copy(alloc)?,
+            session: self.session,
+            secure: self.secure,
+        })
+    }
+}
+
+impl RefusedRec {
+    ghost use Rattle.ledger_rec.specs.Record.{refused};
+
+    pub fn copy(&self, alloc: Global) -> Result<RefusedRec, NoMemory>
+        ensures { IfOk result (λ copy. refused copy ≡ refused self.now) }
+    {
+        Ok(RefusedRec {
+            from: self.from.copy(alloc)?,
+            key: self.key.copy(alloc)?,
+            session: self.session,
+            reason: self.reason,
+        })
+    }
+}
+
+impl MarkRec {
+    ghost use Rattle.ledger_rec.specs.Record.{mark};
+
+    pub fn copy(&self, alloc: Global) -> Result<MarkRec, NoMemory>
+        ensures { IfOk result (λ copy. mark copy ≡ mark self.now) }
+    {
+        Ok(MarkRec {
+            part: self.part,
+            from: self.from.copy(alloc)?,
+            key: self.key.copy(alloc)?,
+            length: self.length,
+        })
+    }
+}
+
+impl Record {
+    ghost use Rattle.ledger_rec.specs.Record.{record_of};
+
+    pub fn copy(&self, alloc: Global) -> Result<Record, NoMemory>
+        ensures { IfOk result (λ copy. record_of copy ≡ record_of self.now) }
+    {
+        match self {
+            Record::Queue(rec) => Ok(Record::Queue(rec.copy(alloc)?)),
+            Record::Done(number, session) => Ok(Record::Done(*number, *session)),
+            Record::Received(rec) => Ok(Record::Received(rec.copy(alloc)?)),
+            Record::Refused(rec) => Ok(Record::Refused(rec.copy(alloc)?)),
+            Record::Mark(rec) => Ok(Record::Mark(rec.copy(alloc)?)),
+            Record::Taken(take) => Ok(Record::Taken(*take)),
+            Record::Acted(number) => Ok(Record::Acted(*number)),
+            Record::Answered(receipt) => Ok(Record::Answered(*receipt)),
+        }
+    }
 }
