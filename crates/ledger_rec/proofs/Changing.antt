@@ -32,7 +32,7 @@ none_before view p f (x ∷ xs) all =
       | inr fails ↦ (let more : length (x ∷ xs) ≤ 1 + position_or_len (λ x. p (view x)) xs = rw fails at all in rw (fails, none_before view p f xs (omega arith)) refl)
     ]
 
-past_end : (i len : ℕ) → cond (nat_lt i len) (Some i) None ≡ None → len ≤ i
+pub past_end : (i len : ℕ) → cond (nat_lt i len) (Some i) None ≡ None → len ≤ i
 past_end i len none =
     elim (cases_Bool (nat_lt i len)) as (λ _. len ≤ i) [
       | inl low ↦ absurd (let clash : Some i ≡ None = rw low at none in cc)

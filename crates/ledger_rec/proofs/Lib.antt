@@ -2,6 +2,7 @@ mod Canonical
 mod Changing
 mod Folding
 mod Fronts
+mod Holds
 mod Joining
 mod Lengths
 mod Mapped

@@ -3,7 +3,7 @@ ghost use Rattle.std.specs.Prelude.{◌≡◌, ◌+◌, ◌<◌, ◌≤◌, [], 
 ghost use Rattle.ftn_addr.specs.Address.{address};
 ghost use Rattle.ftn_addr.specs.Key.{key_of};
 ghost use Rattle.ledger_rec.specs.Fold.{fold_step, is_same, nothing_folded, without_hold, IsPrepared};
-ghost use Rattle.ledger_rec.specs.Items.{entry, receipt, refusal, part_mark};
+ghost use Rattle.ledger_rec.specs.Items.{entry, receipt, refusal, part_mark, hold};
 ghost use Rattle.ledger_rec.specs.Record.{record_of};
 ghost use Rattle.ledger_rec.specs.declared.fault.FoldFault.TheVariants.{BadFold as BreaksRule, NoMemory as OutOfMemory};
 
@@ -47,6 +47,15 @@ fn held_at(from: &Addr, key: &FileKey, holds: &[Held]) -> Option<usize>
     holds
         .iter()
         .position(|held| is_same(from, key, &held.from, &held.key))
+}
+
+// Ends the first hold of the sender and key.
+fn release(from: &Addr, key: &FileKey, holds: &mut Vec<Held>)
+    ensures { map hold holds.new.items ≡ without_hold (address from.now) (key_of key.now) (map hold holds.old.items) }
+{
+    if let Some(i) = held_at(from, key, holds.as_slice()) {
+        drop(holds.remove(i));
+    }
 }
 
 impl Folded {
@@ -129,9 +138,7 @@ impl Folded {
     pub fn unhold(&mut self, from: &Addr, key: &FileKey)
         ensures { self.new ≡ record self.old { holds = without_hold (address from.now) (key_of key.now) self.old.holds } }
     {
-        if let Some(i) = held_at(from, key, self.holds.as_slice()) {
-            drop(self.holds.remove(i));
-        }
+        release(from, key, &mut self.holds);
     }
 
     /// The files queued, rising by number.
