@@ -12,6 +12,8 @@ mod reading;
 mod record;
 mod rules;
 mod steps;
+#[cfg(test)]
+mod tests;
 mod writing;
 
 pub use fault::{FoldFault, RecFault};
