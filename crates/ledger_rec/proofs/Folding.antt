@@ -1,5 +1,5 @@
 -- One step of the fold, and its room.
-use Rattle.std.proofs.Common.{◌≡◌, ℕ, ◌≤◌, true, max, List, refl, arith}
+use Rattle.std.proofs.Common.{◌≡◌, ℕ, true, max, refl, arith}
 use Rattle.std.specs.Prelude.{nat_lt}
 use Rattle.std.specs.List.{list_all}
 use Rattle.ledger_rec.specs.Fold.{State, after, fold_step, numbers}

@@ -1,5 +1,5 @@
 -- Fields that are read from the front of bytes (own).
-use Rattle.std.specs.Prelude.{◌≡◌, ℕ, ◌==◌, Bool, ◌&&◌, nat_lt, nat_le, nat_eq, List, [], ◌∷◌, length, take, drop, Result, Ok, Err, if◌then◌else◌}
+use Rattle.std.specs.Prelude.{◌≡◌, ℕ, ◌==◌, ◌&&◌, nat_lt, nat_le, nat_eq, List, [], ◌∷◌, length, take, drop, Result, Ok, Err, if◌then◌else◌}
 use Rattle.std.specs.Int.{w16, w32, w64, from_be_bytes}
 use Rattle.std.specs.Cmp.Lexicographic.{pointwise}
 use Rattle.ftn_addr.specs.Address.{Address}

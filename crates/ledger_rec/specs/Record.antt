@@ -1,8 +1,7 @@
 -- What contracts see of a `Record`.
-use Rattle.std.specs.Prelude.{◌≡◌, ℕ, Bool, ◌<◌, ◌≤◌, ◌^◌, List, length}
+use Rattle.std.specs.Prelude.{ℕ, Bool, List}
 use Rattle.ftn_addr.specs.Address.{Address, address}
 use Rattle.ftn_addr.specs.Key.{Key, key_of}
-use Rattle.ftn_addr.specs.Limits.{IsAddress, IsKey}
 use Rattle.ledger_rec.specs.declared.record.MarkRec.{MarkRec}
 use Rattle.ledger_rec.specs.declared.record.NewFileRec.{NewFileRec}
 use Rattle.ledger_rec.specs.declared.record.ReceivedRec.{ReceivedRec}

@@ -5,7 +5,7 @@ use Rattle.ftn_addr.specs.Address.{Address}
 use Rattle.ftn_addr.specs.Key.{Key}
 use Rattle.ftn_addr.specs.Writing.{canonical}
 use Rattle.ledger_rec.specs.Limits.{Fits, HasNumbers}
-use Rattle.ledger_rec.specs.Record.{NewFileText, ReceivedText, RefusedText, MarkText, RecordText, Queue, Done, Received, Refused, Mark, Taken, Acted, Answered}
+use Rattle.ledger_rec.specs.Record.{RecordText, Queue, Done, Received, Refused, Mark, Taken, Acted, Answered}
 
 -- two bytes
 abbrev pub short_bytes : ℕ → List ℕ

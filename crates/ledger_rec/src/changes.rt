@@ -150,8 +150,6 @@ pub(crate) fn put_receipt(rec: ReceivedRec, lists: &mut Lists)
     ensures state { state_of lists.new ≡ with_receipt (received rec) (state_of lists.old) }
     ensures room { (n : ℕ) → HasRoom n lists.old → HasRoom (n - 1) lists.new }
 {
-    unmark(&rec.from, &rec.key, &mut lists.marks);
-    use_number(rec.receipt, &mut lists.parts);
     let item = InboxItem {
         receipt: rec.receipt,
         from: rec.from,
@@ -159,6 +157,8 @@ pub(crate) fn put_receipt(rec: ReceivedRec, lists: &mut Lists)
         secure: rec.secure,
         answered: false,
     };
+    unmark(&item.from, &item.key, &mut lists.marks);
+    use_number(item.receipt, &mut lists.parts);
     push(item, &mut lists.inbox);
 }
 

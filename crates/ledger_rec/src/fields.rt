@@ -143,10 +143,7 @@ pub(crate) fn address_at<'a>(
 
 /// One byte of length, a name of 1 to 200 bytes, the size and the time.
 #[tactic(auto, unfolding(crate::specs::Reading::key_at))]
-pub(crate) fn key_at<'a>(
-    alloc: Global,
-    bytes: &'a [u8],
-) -> Result<(FileKey, &'a [u8]), RecFault>
+pub(crate) fn key_at<'a>(alloc: Global, bytes: &'a [u8]) -> Result<(FileKey, &'a [u8]), RecFault>
     ensures gives { Gives (λ x. (key_of x.0, x.1.now)) result (key_at bytes.now) }
     ensures spelled { IfOk result (λ x. bytes.now ≡ key_bytes (key_of x.0) ++ x.1.now) }
     ensures limits { IfOk result (λ x. IsKey (key_of x.0)) }

@@ -19,7 +19,8 @@ use std::marker::Model;
 
 /// The state that the records so far leave, and the senders and keys that are held.
 ///
-/// Every call walks its lists: one record takes time as they are long.
+/// It has lists, and walks them: folding one more record, or ending a hold, takes time in proportion to
+/// the items and holds that are there.
 #[derive(Debug, Drop)]
 pub struct Folded {
     lists: Lists,

@@ -45,13 +45,17 @@ pub(crate) fn is_among(number: u32, numbers: &[u32]) -> bool
 fn is_received(from: &Addr, key: &FileKey, inbox: &[InboxItem]) -> bool
     ensures { result ≡ list_any (λ i. is_same (address from.now) (key_of key.now) (address i.from) (key_of i.key)) inbox.now }
 {
-    inbox.iter().any(|item| is_same(from, key, &item.from, &item.key))
+    inbox
+        .iter()
+        .any(|item| is_same(from, key, &item.from, &item.key))
 }
 
 fn is_refused(from: &Addr, key: &FileKey, refused: &[RefusedItem]) -> bool
     ensures { result ≡ list_any (λ i. is_same (address from.now) (key_of key.now) (address i.from) (key_of i.key)) refused.now }
 {
-    refused.iter().any(|item| is_same(from, key, &item.from, &item.key))
+    refused
+        .iter()
+        .any(|item| is_same(from, key, &item.from, &item.key))
 }
 
 /// Whether every queued file has a lower number.
@@ -65,13 +69,17 @@ fn are_below(number: u32, queue: &[QueueItem]) -> bool
 fn is_queued(dest: &Addr, key: &FileKey, queue: &[QueueItem]) -> bool
     ensures { result ≡ list_any (λ i. is_same (address dest.now) (key_of key.now) (address i.dest) (key_of i.key)) queue.now }
 {
-    queue.iter().any(|item| is_same(dest, key, &item.dest, &item.key))
+    queue
+        .iter()
+        .any(|item| is_same(dest, key, &item.dest, &item.key))
 }
 
 fn is_marked(from: &Addr, key: &FileKey, marks: &[MarkItem]) -> bool
     ensures { result ≡ list_any (λ i. is_same (address from.now) (key_of key.now) (address i.from) (key_of i.key)) marks.now }
 {
-    marks.iter().any(|item| is_same(from, key, &item.from, &item.key))
+    marks
+        .iter()
+        .any(|item| is_same(from, key, &item.from, &item.key))
 }
 
 /// Whether the number is that of a marked part of the sender and key.
@@ -104,9 +112,7 @@ pub(crate) fn live_at(number: u32, queue: &[QueueItem]) -> Option<usize>
 pub(crate) fn action_at(number: u32, queue: &[QueueItem]) -> Option<usize>
     ensures { result ≡ position (λ e. waits_for_action number (entry e)) queue.now }
 {
-    queue
-        .iter()
-        .position(|item| item.number == number && (item.action > 0 && !item.acted))
+    queue.iter().position(|item| item.number == number && (item.action > 0 && !item.acted))
 }
 
 /// Whether a file of that name is a request.

@@ -32,9 +32,7 @@ fn peer(alloc: Global) -> Result<Addr, Fail>
 }
 
 fn key(alloc: Global, name: &[u8]) -> Result<FileKey, Fail>
-    requires some { 0 < length name.now }
-    requires short { length name.now ≤ 200 }
-    ensures { IfOk result (λ key. IsKey (key_of key)) }
+    ensures { 0 < length name.now → length name.now ≤ 200 → IfOk result (λ key. IsKey (key_of key)) }
 {
     Ok(FileKey {
         name: bytes(alloc, name)?,
@@ -44,9 +42,7 @@ fn key(alloc: Global, name: &[u8]) -> Result<FileKey, Fail>
 }
 
 fn queued(alloc: Global, number: u32, name: &[u8]) -> Result<Record, Fail>
-    requires some { 0 < length name.now }
-    requires short { length name.now ≤ 200 }
-    ensures { IfOk result (λ rec. Fits (record_of rec)) }
+    ensures { 0 < length name.now → length name.now ≤ 200 → IfOk result (λ rec. Fits (record_of rec)) }
 {
     Ok(Record::Queue(NewFileRec {
         number,
@@ -59,9 +55,7 @@ fn queued(alloc: Global, number: u32, name: &[u8]) -> Result<Record, Fail>
 }
 
 fn received(alloc: Global, receipt: u32, name: &[u8], session: u32) -> Result<Record, Fail>
-    requires some { 0 < length name.now }
-    requires short { length name.now ≤ 200 }
-    ensures { IfOk result (λ rec. Fits (record_of rec)) }
+    ensures { 0 < length name.now → length name.now ≤ 200 → IfOk result (λ rec. Fits (record_of rec)) }
 {
     Ok(Record::Received(ReceivedRec {
         receipt,
@@ -73,9 +67,7 @@ fn received(alloc: Global, receipt: u32, name: &[u8], session: u32) -> Result<Re
 }
 
 fn refused(alloc: Global, name: &[u8], session: u32) -> Result<Record, Fail>
-    requires some { 0 < length name.now }
-    requires short { length name.now ≤ 200 }
-    ensures { IfOk result (λ rec. Fits (record_of rec)) }
+    ensures { 0 < length name.now → length name.now ≤ 200 → IfOk result (λ rec. Fits (record_of rec)) }
 {
     Ok(Record::Refused(RefusedRec {
         from: peer(alloc)?,
@@ -86,9 +78,7 @@ fn refused(alloc: Global, name: &[u8], session: u32) -> Result<Record, Fail>
 }
 
 fn mark(alloc: Global, part: u32, name: &[u8], len: u64) -> Result<Record, Fail>
-    requires some { 0 < length name.now }
-    requires short { length name.now ≤ 200 }
-    ensures { IfOk result (λ rec. Fits (record_of rec)) }
+    ensures { 0 < length name.now → length name.now ≤ 200 → IfOk result (λ rec. Fits (record_of rec)) }
 {
     Ok(Record::Mark(MarkRec {
         part,
@@ -98,13 +88,24 @@ fn mark(alloc: Global, part: u32, name: &[u8], len: u64) -> Result<Record, Fail>
     }))
 }
 
-const QUEUE: &[u8] = b"\x01\x00\x00\x00\x07\x112:5047/13@fidonet\x05a.txt\x00\x00\x00\x00\x00\x00\x00\x05\x00\x00\x00\x00\x3b\x9a\xca\x00\x00\x0a/out/a.txt\x01\x03";
+const QUEUE: &[u8] =
+    b"\x01\x00\x00\x00\x07\x112:5047/13@fidonet\x05a.txt\x00\x00\x00\x00\x00\x00\x00\x05\x00\x00\x00\x00\x3b\x9a\xca\x00\x00\x0a/out/a.txt\x01\x03";
+
 const DONE: &[u8] = b"\x02\x00\x00\x00\x07\x00\x00\x01\x02";
-const RECEIVED: &[u8] = b"\x03\x00\x00\x01\x02\x112:5047/13@fidonet\x05a.txt\x00\x00\x00\x00\x00\x00\x00\x05\x00\x00\x00\x00\x3b\x9a\xca\x00\x00\x00\x00\x03\x01";
-const REFUSED: &[u8] = b"\x04\x112:5047/13@fidonet\x05a.txt\x00\x00\x00\x00\x00\x00\x00\x05\x00\x00\x00\x00\x3b\x9a\xca\x00\x00\x00\x00\x03\x02";
-const MARK: &[u8] = b"\x05\x00\x00\x00\x01\x112:5047/13@fidonet\x05a.txt\x00\x00\x00\x00\x00\x00\x00\x05\x00\x00\x00\x00\x3b\x9a\xca\x00\x00\x00\x00\x00\x00\x00\x00\x03";
+
+const RECEIVED: &[u8] =
+    b"\x03\x00\x00\x01\x02\x112:5047/13@fidonet\x05a.txt\x00\x00\x00\x00\x00\x00\x00\x05\x00\x00\x00\x00\x3b\x9a\xca\x00\x00\x00\x00\x03\x01";
+
+const REFUSED: &[u8] =
+    b"\x04\x112:5047/13@fidonet\x05a.txt\x00\x00\x00\x00\x00\x00\x00\x05\x00\x00\x00\x00\x3b\x9a\xca\x00\x00\x00\x00\x03\x02";
+
+const MARK: &[u8] =
+    b"\x05\x00\x00\x00\x01\x112:5047/13@fidonet\x05a.txt\x00\x00\x00\x00\x00\x00\x00\x05\x00\x00\x00\x00\x3b\x9a\xca\x00\x00\x00\x00\x00\x00\x00\x00\x03";
+
 const TAKEN: &[u8] = b"\x06\x00\x00\x00\x01";
+
 const ACTED: &[u8] = b"\x07\x00\x00\x00\x07";
+
 const ANSWERED: &[u8] = b"\x08\x00\x00\x01\x02";
 
 fn written(alloc: Global, rec: &Record) -> Result<Bytes, Fail>
@@ -120,14 +121,50 @@ fn read_and_written(alloc: Global, payload: &[u8]) -> Result<Bytes, Fail> {
     written(alloc, &rec)
 }
 
-// Whether the record is folded.
-fn folds(folded: &mut Folded, rec: Record) -> bool {
-    folded.add_owned(rec).is_ok()
+/// A record of the peer, in few words.
+#[derive(Clone, Copy)]
+enum Says<'a> {
+    Queue(u32, &'a [u8]),
+    Done(u32, u32),
+    Received(u32, &'a [u8], u32),
+    Refused(&'a [u8], u32),
+    Mark(u32, &'a [u8], u64),
+    Taken(u32),
+    Acted(u32),
+    Answered(u32),
 }
 
-// Whether the record breaks a rule.
-fn breaks(folded: &mut Folded, rec: Record) -> bool {
-    matches!(folded.add_owned(rec), Err(FoldFault::BadFold))
+fn record_of_words(alloc: Global, says: Says<'_>) -> Result<Record, Fail> {
+    match says {
+        Says::Queue(number, name) => queued(alloc, number, name),
+        Says::Done(number, session) => Ok(Record::Done(number, session)),
+        Says::Received(receipt, name, session) => received(alloc, receipt, name, session),
+        Says::Refused(name, session) => refused(alloc, name, session),
+        Says::Mark(part, name, len) => mark(alloc, part, name, len),
+        Says::Taken(take) => Ok(Record::Taken(take)),
+        Says::Acted(number) => Ok(Record::Acted(number)),
+        Says::Answered(receipt) => Ok(Record::Answered(receipt)),
+    }
+}
+
+// The first row whose record isn't folded, or isn't refused, as the row says.
+fn first_other(
+    alloc: Global,
+    folded: &mut Folded,
+    rows: &[(Says<'_>, bool)],
+) -> Result<Option<usize>, Fail> {
+    for (i, (says, folds)) in rows.iter().enumerate() {
+        let fault = folded.add_owned(record_of_words(alloc, *says)?).err();
+        let wanted = if *folds {
+            None
+        } else {
+            Some(FoldFault::BadFold)
+        };
+        if fault != wanted {
+            return Ok(Some(i));
+        }
+    }
+    Ok(None)
 }
 
 #[test]
@@ -144,7 +181,10 @@ fn each_kind_is_written(rt: HostRuntime) -> Result<(), Fail> {
     assert_eq!(rt; written(alloc, &part)?.as_slice(), MARK);
     assert_eq!(rt; written(alloc, &Record::Taken(1))?.as_slice(), TAKEN);
     assert_eq!(rt; written(alloc, &Record::Acted(7))?.as_slice(), ACTED);
-    assert_eq!(rt; written(alloc, &Record::Answered(258))?.as_slice(), ANSWERED);
+    assert_eq!(rt;
+        written(alloc, &Record::Answered(258))?.as_slice(),
+        ANSWERED
+    );
     Ok(())
 }
 
@@ -198,18 +238,21 @@ fn payloads_that_spell_no_record(rt: HostRuntime) -> Result<(), Fail> {
 fn a_queued_file_is_acted_on_and_done_once(rt: HostRuntime) -> Result<(), Fail> {
     let alloc = rt.alloc();
     let mut folded = Folded::new(alloc);
-    assert!(rt; breaks(&mut folded, Record::Done(7, 1)));
-    assert!(rt; breaks(&mut folded, queued(alloc, 0, b"a.txt")?));
-    folded.add(alloc, &queued(alloc, 2, b"a.txt")?)?;
-    assert!(rt; breaks(&mut folded, queued(alloc, 2, b"b.txt")?));
-    assert!(rt; breaks(&mut folded, queued(alloc, 3, b"a.txt")?));
-    assert!(rt; breaks(&mut folded, Record::Acted(3)));
-    assert!(rt; folds(&mut folded, Record::Acted(2)));
-    assert!(rt; breaks(&mut folded, Record::Acted(2)));
-    assert!(rt; breaks(&mut folded, Record::Done(2, 0)));
-    assert!(rt; folds(&mut folded, Record::Done(2, 1)));
-    assert!(rt; breaks(&mut folded, Record::Done(2, 1)));
-    assert!(rt; breaks(&mut folded, queued(alloc, 3, b"a.txt")?));
+    let rows = [
+        (Says::Done(7, 1), false),
+        (Says::Queue(0, b"a.txt"), false),
+        (Says::Queue(2, b"a.txt"), true),
+        (Says::Queue(2, b"b.txt"), false),
+        (Says::Queue(3, b"a.txt"), false),
+        (Says::Acted(3), false),
+        (Says::Acted(2), true),
+        (Says::Acted(2), false),
+        (Says::Done(2, 0), false),
+        (Says::Done(2, 1), true),
+        (Says::Done(2, 1), false),
+        (Says::Queue(3, b"a.txt"), false),
+    ];
+    assert_eq!(rt; first_other(alloc, &mut folded, &rows)?, None);
     assert_eq!(rt; folded.queue().len(), 1);
     assert!(rt; folded.queue().iter().all(|item| item.acted && !item.live));
     Ok(())
@@ -219,19 +262,25 @@ fn a_queued_file_is_acted_on_and_done_once(rt: HostRuntime) -> Result<(), Fail> 
 fn a_mark_only_grows_and_a_receipt_takes_it_away(rt: HostRuntime) -> Result<(), Fail> {
     let alloc = rt.alloc();
     let mut folded = Folded::new(alloc);
-    assert!(rt; breaks(&mut folded, mark(alloc, 0, b"p.txt", 3)?));
-    assert!(rt; breaks(&mut folded, mark(alloc, 1, b"p.txt", 0)?));
-    assert!(rt; breaks(&mut folded, mark(alloc, 1, b"p.txt", 6)?));
-    assert!(rt; folds(&mut folded, mark(alloc, 1, b"p.txt", 3)?));
-    assert!(rt; breaks(&mut folded, mark(alloc, 1, b"p.txt", 2)?));
-    assert!(rt; breaks(&mut folded, mark(alloc, 2, b"p.txt", 4)?));
-    assert!(rt; breaks(&mut folded, mark(alloc, 1, b"q.txt", 4)?));
-    assert!(rt; folds(&mut folded, mark(alloc, 1, b"p.txt", 5)?));
-    assert!(rt; breaks(&mut folded, received(alloc, 1, b"q.txt", 1)?));
+    let rows = [
+        (Says::Mark(0, b"p.txt", 3), false),
+        (Says::Mark(1, b"p.txt", 0), false),
+        (Says::Mark(1, b"p.txt", 6), false),
+        (Says::Mark(1, b"p.txt", 3), true),
+        (Says::Mark(1, b"p.txt", 2), false),
+        (Says::Mark(2, b"p.txt", 4), false),
+        (Says::Mark(1, b"q.txt", 4), false),
+        (Says::Mark(1, b"p.txt", 5), true),
+        (Says::Received(1, b"q.txt", 1), false),
+    ];
+    assert_eq!(rt; first_other(alloc, &mut folded, &rows)?, None);
     assert_eq!(rt; folded.marks().len(), 1);
-    assert!(rt; folds(&mut folded, received(alloc, 1, b"p.txt", 1)?));
+    let rows = [
+        (Says::Received(1, b"p.txt", 1), true),
+        (Says::Mark(2, b"p.txt", 5), false),
+    ];
+    assert_eq!(rt; first_other(alloc, &mut folded, &rows)?, None);
     assert_eq!(rt; folded.marks().len(), 0);
-    assert!(rt; breaks(&mut folded, mark(alloc, 2, b"p.txt", 5)?));
     Ok(())
 }
 
@@ -239,18 +288,23 @@ fn a_mark_only_grows_and_a_receipt_takes_it_away(rt: HostRuntime) -> Result<(), 
 fn a_key_is_settled_once(rt: HostRuntime) -> Result<(), Fail> {
     let alloc = rt.alloc();
     let mut folded = Folded::new(alloc);
-    assert!(rt; breaks(&mut folded, received(alloc, 0, b"a.txt", 1)?));
-    assert!(rt; breaks(&mut folded, received(alloc, 1, b"a.txt", 0)?));
-    assert!(rt; breaks(&mut folded, refused(alloc, b"r.txt", 0)?));
-    assert!(rt; folds(&mut folded, received(alloc, 1, b"a.txt", 1)?));
-    assert!(rt; breaks(&mut folded, received(alloc, 2, b"a.txt", 1)?));
-    assert!(rt; breaks(&mut folded, refused(alloc, b"a.txt", 1)?));
-    assert!(rt; folds(&mut folded, mark(alloc, 2, b"r.txt", 5)?));
-    assert!(rt; folds(&mut folded, refused(alloc, b"r.txt", 1)?));
-    assert!(rt; breaks(&mut folded, refused(alloc, b"r.txt", 1)?));
-    assert!(rt; breaks(&mut folded, received(alloc, 3, b"r.txt", 1)?));
-    assert!(rt; breaks(&mut folded, received(alloc, 2, b"s.txt", 1)?));
-    assert_eq!(rt; (folded.inbox().len(), folded.refused().len(), folded.marks().len()), (1, 1, 0));
+    let rows = [
+        (Says::Received(0, b"a.txt", 1), false),
+        (Says::Received(1, b"a.txt", 0), false),
+        (Says::Refused(b"r.txt", 0), false),
+        (Says::Received(1, b"a.txt", 1), true),
+        (Says::Received(2, b"a.txt", 1), false),
+        (Says::Refused(b"a.txt", 1), false),
+        (Says::Mark(2, b"r.txt", 5), true),
+        (Says::Refused(b"r.txt", 1), true),
+        (Says::Refused(b"r.txt", 1), false),
+        (Says::Received(3, b"r.txt", 1), false),
+        (Says::Received(2, b"s.txt", 1), false),
+    ];
+    assert_eq!(rt; first_other(alloc, &mut folded, &rows)?, None);
+    assert_eq!(rt; folded.inbox().len(), 1);
+    assert_eq!(rt; folded.refused().len(), 1);
+    assert_eq!(rt; folded.marks().len(), 0);
     Ok(())
 }
 
@@ -258,16 +312,19 @@ fn a_key_is_settled_once(rt: HostRuntime) -> Result<(), Fail> {
 fn takes_and_answers_are_recorded_once(rt: HostRuntime) -> Result<(), Fail> {
     let alloc = rt.alloc();
     let mut folded = Folded::new(alloc);
-    assert!(rt; breaks(&mut folded, Record::Taken(0)));
-    assert!(rt; folds(&mut folded, Record::Taken(2)));
-    assert!(rt; breaks(&mut folded, Record::Taken(2)));
-    assert!(rt; folds(&mut folded, Record::Taken(1)));
-    assert!(rt; folds(&mut folded, received(alloc, 1, b"a.txt", 1)?));
-    assert!(rt; folds(&mut folded, received(alloc, 2, b"W.REQ", 1)?));
-    assert!(rt; breaks(&mut folded, Record::Answered(1)));
-    assert!(rt; breaks(&mut folded, Record::Answered(3)));
-    assert!(rt; folds(&mut folded, Record::Answered(2)));
-    assert!(rt; breaks(&mut folded, Record::Answered(2)));
+    let rows = [
+        (Says::Taken(0), false),
+        (Says::Taken(2), true),
+        (Says::Taken(2), false),
+        (Says::Taken(1), true),
+        (Says::Received(1, b"a.txt", 1), true),
+        (Says::Received(2, b"W.REQ", 1), true),
+        (Says::Answered(1), false),
+        (Says::Answered(3), false),
+        (Says::Answered(2), true),
+        (Says::Answered(2), false),
+    ];
+    assert_eq!(rt; first_other(alloc, &mut folded, &rows)?, None);
     Ok(())
 }
 
@@ -275,10 +332,13 @@ fn takes_and_answers_are_recorded_once(rt: HostRuntime) -> Result<(), Fail> {
 fn marks_rise_by_part(rt: HostRuntime) -> Result<(), Fail> {
     let alloc = rt.alloc();
     let mut folded = Folded::new(alloc);
-    assert!(rt; folds(&mut folded, mark(alloc, 5, b"e.txt", 1)?));
-    assert!(rt; folds(&mut folded, mark(alloc, 9, b"i.txt", 1)?));
-    assert!(rt; folds(&mut folded, mark(alloc, 2, b"b.txt", 1)?));
-    assert!(rt; folds(&mut folded, mark(alloc, 5, b"e.txt", 2)?));
+    let rows = [
+        (Says::Mark(5, b"e.txt", 1), true),
+        (Says::Mark(9, b"i.txt", 1), true),
+        (Says::Mark(2, b"b.txt", 1), true),
+        (Says::Mark(5, b"e.txt", 2), true),
+    ];
+    assert_eq!(rt; first_other(alloc, &mut folded, &rows)?, None);
     let mut parts = Vec::new(alloc);
     for item in folded.marks() {
         parts.push(item.part)?;
@@ -293,10 +353,9 @@ fn a_held_mark_is_folded_with_room(rt: HostRuntime) -> Result<(), Fail> {
     let mut folded = Folded::new(alloc);
     let (from, key) = (peer(alloc)?, key(alloc, b"a.txt")?);
     folded.hold(alloc, &from, &key)?;
-    folded.reserve(2)?;
-    assert!(rt; folds(&mut folded, mark(alloc, 1, b"a.txt", 3)?));
-    assert!(rt; folds(&mut folded, received(alloc, 1, b"a.txt", 1)?));
+    folded.reserve(1)?;
+    folded.add(alloc, &mark(alloc, 1, b"a.txt", 3)?)?;
     folded.unhold(&from, &key);
-    assert_eq!(rt; folded.inbox().len(), 1);
+    assert_eq!(rt; folded.marks().len(), 1);
     Ok(())
 }

@@ -1,4 +1,4 @@
-use Rattle.std.proofs.Common.{ℕ, max, subst, sym, rules}
+use Rattle.std.proofs.Common.{ℕ, subst, rules}
 use Rattle.ledger_rec.proofs.Folding.{room_for_both}
 use Rattle.ledger_rec.specs.Lists.{HasRoom}
 use Rattle.ledger_rec.proofs.folded.Folded.reserve.Goals as goal
