@@ -1,0 +1,9 @@
+mod Canonical
+mod Changing
+mod Folding
+mod Fronts
+mod Holds
+mod Joining
+mod Lengths
+mod Mapped
+mod ReadBack

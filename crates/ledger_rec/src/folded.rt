@@ -1,0 +1,172 @@
+//! The fold of a ledger's records.
+ghost use Rattle.std.specs.Prelude.{◌≡◌, ◌+◌, ◌<◌, ◌≤◌, [], ◌∷◌, ◌++◌, map, position, Some, None, OnOk, OnErr, IsErrOf};
+ghost use Rattle.ftn_addr.specs.Address.{address};
+ghost use Rattle.ftn_addr.specs.Key.{key_of};
+ghost use Rattle.ledger_rec.specs.Fold.{fold_step, is_same, nothing_folded, without_hold, IsPrepared};
+ghost use Rattle.ledger_rec.specs.Items.{entry, receipt, refusal, part_mark, hold};
+ghost use Rattle.ledger_rec.specs.Record.{record_of};
+ghost use Rattle.ledger_rec.specs.declared.fault.FoldFault.TheVariants.{BadFold as BreaksRule, NoMemory as OutOfMemory};
+
+use crate::changes::make_room;
+use crate::items::{Held, InboxItem, MarkItem, QueueItem, RefusedItem};
+use crate::lists::Lists;
+use crate::rules::is_same;
+use crate::steps::add;
+use crate::{FoldFault, Record};
+use ftn_addr::{Addr, FileKey, NoMemory};
+use std::alloc::Global;
+use std::marker::Model;
+
+/// The state that the records so far leave, and the senders and keys that are held.
+///
+/// It has lists, and walks them: folding one more record, or ending a hold, takes time in proportion to
+/// the items and holds that are there.
+#[derive(Debug, Drop)]
+pub struct Folded {
+    lists: Lists,
+    holds: Vec<Held>,
+    room: u32,
+}
+
+impl Model for Folded {
+    ghost use Rattle.std.specs.Prelude.{map};
+    ghost use Rattle.ledger_rec.specs.Fold.{Folding};
+    ghost use Rattle.ledger_rec.specs.Items.{hold};
+    ghost use Rattle.ledger_rec.specs.Lists.{state_of, HasRoom};
+
+    ghost Value = { Folding };
+
+    ghost view = { λ f. record { state = state_of f.lists; holds = map hold f.holds.items; room = f.room } };
+
+    ghost invariant = { λ f. HasRoom f.room f.lists };
+}
+
+// Where the first hold of the sender and key stands.
+fn held_at(from: &Addr, key: &FileKey, holds: &[Held]) -> Option<usize>
+    ensures { result ≡ position (λ h. is_same (address from.now) (key_of key.now) (address h.from) (key_of h.key)) holds.now }
+{
+    holds
+        .iter()
+        .position(|held| is_same(from, key, &held.from, &held.key))
+}
+
+// Ends the first hold of the sender and key.
+fn release(from: &Addr, key: &FileKey, holds: &mut Vec<Held>)
+    ensures { map hold holds.new.items ≡ without_hold (address from.now) (key_of key.now) (map hold holds.old.items) }
+{
+    if let Some(i) = held_at(from, key, holds.as_slice()) {
+        drop(holds.remove(i));
+    }
+}
+
+impl Folded {
+    /// Nothing folded and nothing held, which takes no memory.
+    pub fn new(alloc: Global) -> Folded
+        ensures { result ≡ record { state = nothing_folded; holds = []; room = 0 } }
+    {
+        Folded {
+            lists: Lists {
+                queue: Vec::new(alloc),
+                inbox: Vec::new(alloc),
+                refused: Vec::new(alloc),
+                marks: Vec::new(alloc),
+                parts: Vec::new(alloc),
+                takes: Vec::new(alloc),
+            },
+            holds: Vec::new(alloc),
+            room: 0,
+        }
+    }
+
+    /// Folds one more record in. After an error all is as before.
+    ///
+    /// [`FoldFault::BadFold`] comes exactly where the record breaks a rule of the fold after those before.
+    pub fn add(&mut self, alloc: Global, rec: &Record) -> Result<(), FoldFault>
+        ensures ok { OnOk result (fold_step self.old.state (record_of rec.now) ≡ Some self.new.state) }
+        ensures bad { IsErrOf result BreaksRule → fold_step self.old.state (record_of rec.now) ≡ None }
+        ensures err { OnErr result (self.new ≡ self.old) }
+        ensures holds { self.new.holds ≡ self.old.holds }
+        ensures room { self.old.room ≤ self.new.room + 1 }
+    {
+        let rec = rec.copy(alloc)?;
+        self.add_owned(rec)
+    }
+
+    /// Folds one more record in, which is given away. After an error all is as before.
+    ///
+    /// With room, no memory is taken for a record that is Done, Taken, Acted or Answered, nor for one that
+    /// is a Mark or Received and whose sender and key are held. A record that is folded uses one place.
+    pub fn add_owned(&mut self, rec: Record) -> Result<(), FoldFault>
+        ensures ok { OnOk result (fold_step self.old.state (record_of rec) ≡ Some self.new.state) }
+        ensures bad { IsErrOf result BreaksRule → fold_step self.old.state (record_of rec) ≡ None }
+        ensures err { OnErr result (self.new ≡ self.old) }
+        ensures holds { self.new.holds ≡ self.old.holds }
+        ensures room { self.old.room ≤ self.new.room + 1 }
+        ensures within { 0 < self.old.room → IsPrepared (record_of rec) self.old.holds → IsErrOf result OutOfMemory → ⊥ }
+    {
+        add(rec, &mut self.lists)?;
+        self.room = self.room.saturating_sub(1);
+        Ok(())
+    }
+
+    /// Makes room for `n` records.
+    pub fn reserve(&mut self, n: u32) -> Result<(), NoMemory>
+        ensures state { self.new.state ≡ self.old.state }
+        ensures holds { self.new.holds ≡ self.old.holds }
+        ensures ok { OnOk result (n ≤ self.new.room) }
+        ensures kept { self.old.room ≤ self.new.room }
+        ensures err { OnErr result (self.new ≡ self.old) }
+    {
+        make_room(&mut self.lists, n as usize)?;
+        self.room = self.room.max(n);
+        Ok(())
+    }
+
+    /// Begins a hold of a sender and key.
+    pub fn hold(&mut self, alloc: Global, from: &Addr, key: &FileKey) -> Result<(), NoMemory>
+        ensures ok { OnOk result (self.new ≡ record self.old { holds = self.old.holds ++ record { from = address from.now; key = key_of key.now } ∷ [] }) }
+        ensures err { OnErr result (self.new ≡ self.old) }
+    {
+        let held = Held {
+            from: from.copy(alloc)?,
+            key: key.copy(alloc)?,
+        };
+        self.holds.push(held)?;
+        Ok(())
+    }
+
+    /// Ends one hold of a sender and key, where there is one. It takes no memory.
+    pub fn unhold(&mut self, from: &Addr, key: &FileKey)
+        ensures { self.new ≡ record self.old { holds = without_hold (address from.now) (key_of key.now) self.old.holds } }
+    {
+        release(from, key, &mut self.holds);
+    }
+
+    /// The files queued, rising by number.
+    pub fn queue(&self) -> &[QueueItem]
+        ensures { map entry result.now ≡ self.now.state.queue }
+    {
+        self.lists.queue.as_slice()
+    }
+
+    /// The files received, in the order of their records.
+    pub fn inbox(&self) -> &[InboxItem]
+        ensures { map receipt result.now ≡ self.now.state.inbox }
+    {
+        self.lists.inbox.as_slice()
+    }
+
+    /// The files refused, in the order of their records.
+    pub fn refused(&self) -> &[RefusedItem]
+        ensures { map refusal result.now ≡ self.now.state.refused }
+    {
+        self.lists.refused.as_slice()
+    }
+
+    /// The files that came in part, rising by part.
+    pub fn marks(&self) -> &[MarkItem]
+        ensures { map part_mark result.now ≡ self.now.state.marks }
+    {
+        self.lists.marks.as_slice()
+    }
+}

@@ -1,0 +1,132 @@
+//! One step of the fold.
+ghost use Rattle.std.specs.Prelude.{◌≡◌, ◌-◌, ℕ, OnOk, OnErr, IsErrOf};
+ghost use Rattle.ledger_rec.specs.Fold.{after, fold_step};
+ghost use Rattle.ledger_rec.specs.Lists.{state_of, HasRoom, Steps};
+ghost use Rattle.ledger_rec.specs.Record.{record_of, new_file, received, refused, mark, Queue, Done, Received, Refused, Mark, Taken, Acted, Answered};
+ghost use Rattle.ledger_rec.specs.declared.fault.FoldFault.TheVariants.{NoMemory as OutOfMemory};
+
+use crate::changes::{
+    act, answer, make_room, put_mark, put_queued, put_receipt, put_refusal, put_take, settle,
+};
+use crate::lists::Lists;
+use crate::rules::{is_among, is_numbered, may_mark, may_queue, may_receive, may_refuse};
+use crate::{FoldFault, MarkRec, NewFileRec, ReceivedRec, Record, RefusedRec};
+
+fn add_queued(rec: NewFileRec, lists: &mut Lists) -> Result<(), FoldFault>
+    ensures step { Steps result (after (state_of lists.old) (Queue (new_file rec))) (state_of lists.old) (state_of lists.new) }
+    ensures used { OnOk result ((n : ℕ) → HasRoom n lists.old → HasRoom (n - 1) lists.new) }
+    ensures kept { OnErr result ((n : ℕ) → HasRoom n lists.old → HasRoom n lists.new) }
+    ensures within { HasRoom 1 lists.old → IsErrOf result OutOfMemory → ⊥ }
+{
+    if !may_queue(&rec, lists.queue.as_slice()) {
+        return Err(FoldFault::BadFold);
+    }
+    make_room(lists, 1)?;
+    put_queued(rec, lists);
+    Ok(())
+}
+
+fn add_received(rec: ReceivedRec, lists: &mut Lists) -> Result<(), FoldFault>
+    ensures step { Steps result (after (state_of lists.old) (Received (received rec))) (state_of lists.old) (state_of lists.new) }
+    ensures used { OnOk result ((n : ℕ) → HasRoom n lists.old → HasRoom (n - 1) lists.new) }
+    ensures kept { OnErr result ((n : ℕ) → HasRoom n lists.old → HasRoom n lists.new) }
+    ensures within { HasRoom 1 lists.old → IsErrOf result OutOfMemory → ⊥ }
+{
+    if !may_receive(&rec, lists) {
+        return Err(FoldFault::BadFold);
+    }
+    make_room(lists, 1)?;
+    put_receipt(rec, lists);
+    Ok(())
+}
+
+fn add_refused(rec: RefusedRec, lists: &mut Lists) -> Result<(), FoldFault>
+    ensures step { Steps result (after (state_of lists.old) (Refused (refused rec))) (state_of lists.old) (state_of lists.new) }
+    ensures used { OnOk result ((n : ℕ) → HasRoom n lists.old → HasRoom (n - 1) lists.new) }
+    ensures kept { OnErr result ((n : ℕ) → HasRoom n lists.old → HasRoom n lists.new) }
+    ensures within { HasRoom 1 lists.old → IsErrOf result OutOfMemory → ⊥ }
+{
+    if !may_refuse(&rec, lists) {
+        return Err(FoldFault::BadFold);
+    }
+    make_room(lists, 1)?;
+    put_refusal(rec, lists);
+    Ok(())
+}
+
+fn add_mark(rec: MarkRec, lists: &mut Lists) -> Result<(), FoldFault>
+    ensures step { Steps result (after (state_of lists.old) (Mark (mark rec))) (state_of lists.old) (state_of lists.new) }
+    ensures used { OnOk result ((n : ℕ) → HasRoom n lists.old → HasRoom (n - 1) lists.new) }
+    ensures kept { OnErr result ((n : ℕ) → HasRoom n lists.old → HasRoom n lists.new) }
+    ensures within { HasRoom 1 lists.old → IsErrOf result OutOfMemory → ⊥ }
+{
+    if !may_mark(&rec, lists) {
+        return Err(FoldFault::BadFold);
+    }
+    make_room(lists, 1)?;
+    put_mark(rec, lists);
+    Ok(())
+}
+
+fn add_take(take: u32, lists: &mut Lists) -> Result<(), FoldFault>
+    ensures step { Steps result (after (state_of lists.old) (Taken take)) (state_of lists.old) (state_of lists.new) }
+    ensures used { OnOk result ((n : ℕ) → HasRoom n lists.old → HasRoom (n - 1) lists.new) }
+    ensures kept { OnErr result ((n : ℕ) → HasRoom n lists.old → HasRoom n lists.new) }
+    ensures within { HasRoom 1 lists.old → IsErrOf result OutOfMemory → ⊥ }
+{
+    if is_among(take, lists.takes.as_slice()) {
+        return Err(FoldFault::BadFold);
+    }
+    make_room(lists, 1)?;
+    put_take(take, lists);
+    Ok(())
+}
+
+fn add_done(number: u32, lists: &mut Lists) -> Result<(), FoldFault>
+    ensures step { (session : ℕ) → Steps result (after (state_of lists.old) (Done number session)) (state_of lists.old) (state_of lists.new) }
+    ensures used { OnOk result ((n : ℕ) → HasRoom n lists.old → HasRoom (n - 1) lists.new) }
+    ensures kept { OnErr result ((n : ℕ) → HasRoom n lists.old → HasRoom n lists.new) }
+    ensures within { HasRoom 1 lists.old → IsErrOf result OutOfMemory → ⊥ }
+{
+    settle(number, lists.queue.as_mut_slice())
+}
+
+fn add_acted(number: u32, lists: &mut Lists) -> Result<(), FoldFault>
+    ensures step { Steps result (after (state_of lists.old) (Acted number)) (state_of lists.old) (state_of lists.new) }
+    ensures used { OnOk result ((n : ℕ) → HasRoom n lists.old → HasRoom (n - 1) lists.new) }
+    ensures kept { OnErr result ((n : ℕ) → HasRoom n lists.old → HasRoom n lists.new) }
+    ensures within { HasRoom 1 lists.old → IsErrOf result OutOfMemory → ⊥ }
+{
+    act(number, lists.queue.as_mut_slice())
+}
+
+fn add_answered(number: u32, lists: &mut Lists) -> Result<(), FoldFault>
+    ensures step { Steps result (after (state_of lists.old) (Answered number)) (state_of lists.old) (state_of lists.new) }
+    ensures used { OnOk result ((n : ℕ) → HasRoom n lists.old → HasRoom (n - 1) lists.new) }
+    ensures kept { OnErr result ((n : ℕ) → HasRoom n lists.old → HasRoom n lists.new) }
+    ensures within { HasRoom 1 lists.old → IsErrOf result OutOfMemory → ⊥ }
+{
+    answer(number, lists.inbox.as_mut_slice())
+}
+
+/// Folds one record into the lists.
+pub(crate) fn add(rec: Record, lists: &mut Lists) -> Result<(), FoldFault>
+    ensures step { Steps result (fold_step (state_of lists.old) (record_of rec)) (state_of lists.old) (state_of lists.new) }
+    ensures used { OnOk result ((n : ℕ) → HasRoom n lists.old → HasRoom (n - 1) lists.new) }
+    ensures kept { OnErr result ((n : ℕ) → HasRoom n lists.old → HasRoom n lists.new) }
+    ensures within { HasRoom 1 lists.old → IsErrOf result OutOfMemory → ⊥ }
+{
+    if !is_numbered(&rec) {
+        return Err(FoldFault::BadFold);
+    }
+    match rec {
+        Record::Queue(rec) => add_queued(rec, lists),
+        Record::Done(number, _) => add_done(number, lists),
+        Record::Received(rec) => add_received(rec, lists),
+        Record::Refused(rec) => add_refused(rec, lists),
+        Record::Mark(rec) => add_mark(rec, lists),
+        Record::Taken(take) => add_take(take, lists),
+        Record::Acted(number) => add_acted(number, lists),
+        Record::Answered(receipt) => add_answered(receipt, lists),
+    }
+}

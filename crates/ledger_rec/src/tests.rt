@@ -1,0 +1,361 @@
+ghost use Rattle.std.specs.Prelude.{◌≡◌, ◌<◌, ◌≤◌, length, IfOk};
+ghost use Rattle.ftn_addr.specs.Address.{address};
+ghost use Rattle.ftn_addr.specs.Key.{key_of};
+ghost use Rattle.ftn_addr.specs.Limits.{IsAddress, IsKey};
+ghost use Rattle.ledger_rec.specs.Limits.{Fits};
+ghost use Rattle.ledger_rec.specs.Record.{record_of};
+
+use crate::{
+    FoldFault, Folded, MarkRec, NewFileRec, RecFault, ReceivedRec, Record, RefusedRec,
+    fits_a_payload, one_record_at_most, read_record, write_record,
+};
+use ftn_addr::{Addr, Bytes, FileKey};
+use std::alloc::Global;
+use std::test::Fail;
+
+fn bytes(alloc: Global, text: &[u8]) -> Result<Bytes, Fail>
+    ensures { IfOk result (λ b. b.list ≡ text.now) }
+{
+    Ok(Bytes::from_slice(alloc, text)?)
+}
+
+fn peer(alloc: Global) -> Result<Addr, Fail>
+    ensures { IfOk result (λ addr. IsAddress (address addr)) }
+{
+    Ok(Addr {
+        zone: 2,
+        net: 5047,
+        node: 13,
+        point: 0,
+        domain: bytes(alloc, b"fidonet")?,
+    })
+}
+
+fn key(alloc: Global, name: &[u8]) -> Result<FileKey, Fail>
+    ensures { 0 < length name.now → length name.now ≤ 200 → IfOk result (λ key. IsKey (key_of key)) }
+{
+    Ok(FileKey {
+        name: bytes(alloc, name)?,
+        size: 5,
+        time: 1_000_000_000,
+    })
+}
+
+fn queued(alloc: Global, number: u32, name: &[u8]) -> Result<Record, Fail>
+    ensures { 0 < length name.now → length name.now ≤ 200 → IfOk result (λ rec. Fits (record_of rec)) }
+{
+    Ok(Record::Queue(NewFileRec {
+        number,
+        dest: peer(alloc)?,
+        key: key(alloc, name)?,
+        source: bytes(alloc, b"/out/a.txt")?,
+        action: 1,
+        flavour: 3,
+    }))
+}
+
+fn received(alloc: Global, receipt: u32, name: &[u8], session: u32) -> Result<Record, Fail>
+    ensures { 0 < length name.now → length name.now ≤ 200 → IfOk result (λ rec. Fits (record_of rec)) }
+{
+    Ok(Record::Received(ReceivedRec {
+        receipt,
+        from: peer(alloc)?,
+        key: key(alloc, name)?,
+        session,
+        secure: true,
+    }))
+}
+
+fn refused(alloc: Global, name: &[u8], session: u32) -> Result<Record, Fail>
+    ensures { 0 < length name.now → length name.now ≤ 200 → IfOk result (λ rec. Fits (record_of rec)) }
+{
+    Ok(Record::Refused(RefusedRec {
+        from: peer(alloc)?,
+        key: key(alloc, name)?,
+        session,
+        reason: 2,
+    }))
+}
+
+fn mark(alloc: Global, part: u32, name: &[u8], len: u64) -> Result<Record, Fail>
+    ensures { 0 < length name.now → length name.now ≤ 200 → IfOk result (λ rec. Fits (record_of rec)) }
+{
+    Ok(Record::Mark(MarkRec {
+        part,
+        from: peer(alloc)?,
+        key: key(alloc, name)?,
+        length: len,
+    }))
+}
+
+const QUEUE: &[u8] =
+    b"\x01\x00\x00\x00\x07\x112:5047/13@fidonet\x05a.txt\x00\x00\x00\x00\x00\x00\x00\x05\x00\x00\x00\x00\x3b\x9a\xca\x00\x00\x0a/out/a.txt\x01\x03";
+
+const DONE: &[u8] = b"\x02\x00\x00\x00\x07\x00\x00\x01\x02";
+
+const RECEIVED: &[u8] =
+    b"\x03\x00\x00\x01\x02\x112:5047/13@fidonet\x05a.txt\x00\x00\x00\x00\x00\x00\x00\x05\x00\x00\x00\x00\x3b\x9a\xca\x00\x00\x00\x00\x03\x01";
+
+const REFUSED: &[u8] =
+    b"\x04\x112:5047/13@fidonet\x05a.txt\x00\x00\x00\x00\x00\x00\x00\x05\x00\x00\x00\x00\x3b\x9a\xca\x00\x00\x00\x00\x03\x02";
+
+const MARK: &[u8] =
+    b"\x05\x00\x00\x00\x01\x112:5047/13@fidonet\x05a.txt\x00\x00\x00\x00\x00\x00\x00\x05\x00\x00\x00\x00\x3b\x9a\xca\x00\x00\x00\x00\x00\x00\x00\x00\x03";
+
+const TAKEN: &[u8] = b"\x06\x00\x00\x00\x01";
+
+const ACTED: &[u8] = b"\x07\x00\x00\x00\x07";
+
+const ANSWERED: &[u8] = b"\x08\x00\x00\x01\x02";
+
+fn written(alloc: Global, rec: &Record) -> Result<Bytes, Fail>
+    requires { Fits (record_of rec.now) }
+{
+    let mut out = Bytes::new(alloc);
+    write_record(rec, &mut out)?;
+    Ok(out)
+}
+
+fn read_and_written(alloc: Global, payload: &[u8]) -> Result<Bytes, Fail> {
+    let rec = read_record(alloc, payload, &peer(alloc)?)?;
+    written(alloc, &rec)
+}
+
+/// A record of the peer, in few words.
+#[derive(Clone, Copy)]
+enum Says<'a> {
+    Queue(u32, &'a [u8]),
+    Done(u32, u32),
+    Received(u32, &'a [u8], u32),
+    Refused(&'a [u8], u32),
+    Mark(u32, &'a [u8], u64),
+    Taken(u32),
+    Acted(u32),
+    Answered(u32),
+}
+
+fn record_of_words(alloc: Global, says: Says<'_>) -> Result<Record, Fail> {
+    match says {
+        Says::Queue(number, name) => queued(alloc, number, name),
+        Says::Done(number, session) => Ok(Record::Done(number, session)),
+        Says::Received(receipt, name, session) => received(alloc, receipt, name, session),
+        Says::Refused(name, session) => refused(alloc, name, session),
+        Says::Mark(part, name, len) => mark(alloc, part, name, len),
+        Says::Taken(take) => Ok(Record::Taken(take)),
+        Says::Acted(number) => Ok(Record::Acted(number)),
+        Says::Answered(receipt) => Ok(Record::Answered(receipt)),
+    }
+}
+
+// The first row whose record isn't folded, or isn't refused, as the row says.
+fn first_other(
+    alloc: Global,
+    folded: &mut Folded,
+    rows: &[(Says<'_>, bool)],
+) -> Result<Option<usize>, Fail> {
+    for (i, (says, folds)) in rows.iter().enumerate() {
+        let fault = folded.add_owned(record_of_words(alloc, *says)?).err();
+        let wanted = if *folds {
+            None
+        } else {
+            Some(FoldFault::BadFold)
+        };
+        if fault != wanted {
+            return Ok(Some(i));
+        }
+    }
+    Ok(None)
+}
+
+#[test]
+fn each_kind_is_written(rt: HostRuntime) -> Result<(), Fail> {
+    let alloc = rt.alloc();
+    let queue = queued(alloc, 7, b"a.txt")?;
+    assert_eq!(rt; written(alloc, &queue)?.as_slice(), QUEUE);
+    assert_eq!(rt; written(alloc, &Record::Done(7, 258))?.as_slice(), DONE);
+    let receipt = received(alloc, 258, b"a.txt", 3)?;
+    assert_eq!(rt; written(alloc, &receipt)?.as_slice(), RECEIVED);
+    let refusal = refused(alloc, b"a.txt", 3)?;
+    assert_eq!(rt; written(alloc, &refusal)?.as_slice(), REFUSED);
+    let part = mark(alloc, 1, b"a.txt", 3)?;
+    assert_eq!(rt; written(alloc, &part)?.as_slice(), MARK);
+    assert_eq!(rt; written(alloc, &Record::Taken(1))?.as_slice(), TAKEN);
+    assert_eq!(rt; written(alloc, &Record::Acted(7))?.as_slice(), ACTED);
+    assert_eq!(rt;
+        written(alloc, &Record::Answered(258))?.as_slice(),
+        ANSWERED
+    );
+    Ok(())
+}
+
+#[test]
+fn each_kind_is_read(rt: HostRuntime) -> Result<(), Fail> {
+    for payload in [QUEUE, DONE, RECEIVED, REFUSED, MARK, TAKEN, ACTED, ANSWERED] {
+        assert_eq!(rt; read_and_written(rt.alloc(), payload)?.as_slice(), payload);
+    }
+    fits_a_payload();
+    one_record_at_most();
+    Ok(())
+}
+
+#[test]
+fn a_new_ledgers_first_record_is_taken_one(rt: HostRuntime) -> Result<(), Fail> {
+    let alloc = rt.alloc();
+    let row = b"\x01\x00\x05\x06\x00\x00\x00\x01\x00";
+    let rec = read_record(alloc, &row[3..8], &peer(alloc)?)?;
+    let Record::Taken(take) = rec else {
+        return Err(Fail::from("another kind"));
+    };
+    assert_eq!(rt; take, 1);
+    Ok(())
+}
+
+#[test]
+fn payloads_that_spell_no_record(rt: HostRuntime) -> Result<(), Fail> {
+    let home = peer(rt.alloc())?;
+    for payload in [
+        b"".as_slice(),
+        b"\x00".as_slice(),
+        b"\x09".as_slice(),
+        b"\x06\x00\x00\x00".as_slice(),
+        b"\x06\x00\x00\x00\x01\x00".as_slice(),
+        b"\x01\x00\x00\x00\x07\x112:5047/13@fidonet\x05a.txt\x00\x00\x00\x00\x00\x00\x00\x05\x00\x00\x00\x00\x3b\x9a\xca\x00\x00\x0a/out/a.txt\x03\x03".as_slice(),
+        b"\x01\x00\x00\x00\x07\x112:5047/13@fidonet\x05a.txt\x00\x00\x00\x00\x00\x00\x00\x05\x00\x00\x00\x00\x3b\x9a\xca\x00\x00\x0a/out/a.txt\x01\x05".as_slice(),
+        b"\x03\x00\x00\x01\x02\x112:5047/13@fidonet\x05a.txt\x00\x00\x00\x00\x00\x00\x00\x05\x00\x00\x00\x00\x3b\x9a\xca\x00\x00\x00\x00\x03\x02".as_slice(),
+        b"\x04\x112:5047/13@fidonet\x05a.txt\x00\x00\x00\x00\x00\x00\x00\x05\x00\x00\x00\x00\x3b\x9a\xca\x00\x00\x00\x00\x03\x00".as_slice(),
+        b"\x04\x112:5047/13@Fidonet\x05a.txt\x00\x00\x00\x00\x00\x00\x00\x05\x00\x00\x00\x00\x3b\x9a\xca\x00\x00\x00\x00\x03\x02".as_slice(),
+        b"\x04\x122:05047/13@fidonet\x05a.txt\x00\x00\x00\x00\x00\x00\x00\x05\x00\x00\x00\x00\x3b\x9a\xca\x00\x00\x00\x00\x03\x02".as_slice(),
+        b"\x04\x0f5047/13@fidonet\x05a.txt\x00\x00\x00\x00\x00\x00\x00\x05\x00\x00\x00\x00\x3b\x9a\xca\x00\x00\x00\x00\x03\x02".as_slice(),
+        b"\x04\x112:5047/13@fidonet\x00\x00\x00\x00\x00\x00\x00\x00\x05\x00\x00\x00\x00\x3b\x9a\xca\x00\x00\x00\x00\x03\x02".as_slice(),
+    ] {
+        let fault = read_record(rt.alloc(), payload, &home).err();
+        assert_eq!(rt; fault, Some(RecFault::BadRecord));
+    }
+    Ok(())
+}
+
+#[test]
+fn a_queued_file_is_acted_on_and_done_once(rt: HostRuntime) -> Result<(), Fail> {
+    let alloc = rt.alloc();
+    let mut folded = Folded::new(alloc);
+    let rows = [
+        (Says::Done(7, 1), false),
+        (Says::Queue(0, b"a.txt"), false),
+        (Says::Queue(2, b"a.txt"), true),
+        (Says::Queue(2, b"b.txt"), false),
+        (Says::Queue(3, b"a.txt"), false),
+        (Says::Acted(3), false),
+        (Says::Acted(2), true),
+        (Says::Acted(2), false),
+        (Says::Done(2, 0), false),
+        (Says::Done(2, 1), true),
+        (Says::Done(2, 1), false),
+        (Says::Queue(3, b"a.txt"), false),
+    ];
+    assert_eq!(rt; first_other(alloc, &mut folded, &rows)?, None);
+    assert_eq!(rt; folded.queue().len(), 1);
+    assert!(rt; folded.queue().iter().all(|item| item.acted && !item.live));
+    Ok(())
+}
+
+#[test]
+fn a_mark_only_grows_and_a_receipt_takes_it_away(rt: HostRuntime) -> Result<(), Fail> {
+    let alloc = rt.alloc();
+    let mut folded = Folded::new(alloc);
+    let rows = [
+        (Says::Mark(0, b"p.txt", 3), false),
+        (Says::Mark(1, b"p.txt", 0), false),
+        (Says::Mark(1, b"p.txt", 6), false),
+        (Says::Mark(1, b"p.txt", 3), true),
+        (Says::Mark(1, b"p.txt", 2), false),
+        (Says::Mark(2, b"p.txt", 4), false),
+        (Says::Mark(1, b"q.txt", 4), false),
+        (Says::Mark(1, b"p.txt", 5), true),
+        (Says::Received(1, b"q.txt", 1), false),
+    ];
+    assert_eq!(rt; first_other(alloc, &mut folded, &rows)?, None);
+    assert_eq!(rt; folded.marks().len(), 1);
+    let rows = [
+        (Says::Received(1, b"p.txt", 1), true),
+        (Says::Mark(2, b"p.txt", 5), false),
+    ];
+    assert_eq!(rt; first_other(alloc, &mut folded, &rows)?, None);
+    assert_eq!(rt; folded.marks().len(), 0);
+    Ok(())
+}
+
+#[test]
+fn a_key_is_settled_once(rt: HostRuntime) -> Result<(), Fail> {
+    let alloc = rt.alloc();
+    let mut folded = Folded::new(alloc);
+    let rows = [
+        (Says::Received(0, b"a.txt", 1), false),
+        (Says::Received(1, b"a.txt", 0), false),
+        (Says::Refused(b"r.txt", 0), false),
+        (Says::Received(1, b"a.txt", 1), true),
+        (Says::Received(2, b"a.txt", 1), false),
+        (Says::Refused(b"a.txt", 1), false),
+        (Says::Mark(2, b"r.txt", 5), true),
+        (Says::Refused(b"r.txt", 1), true),
+        (Says::Refused(b"r.txt", 1), false),
+        (Says::Received(3, b"r.txt", 1), false),
+        (Says::Received(2, b"s.txt", 1), false),
+    ];
+    assert_eq!(rt; first_other(alloc, &mut folded, &rows)?, None);
+    assert_eq!(rt; folded.inbox().len(), 1);
+    assert_eq!(rt; folded.refused().len(), 1);
+    assert_eq!(rt; folded.marks().len(), 0);
+    Ok(())
+}
+
+#[test]
+fn takes_and_answers_are_recorded_once(rt: HostRuntime) -> Result<(), Fail> {
+    let alloc = rt.alloc();
+    let mut folded = Folded::new(alloc);
+    let rows = [
+        (Says::Taken(0), false),
+        (Says::Taken(2), true),
+        (Says::Taken(2), false),
+        (Says::Taken(1), true),
+        (Says::Received(1, b"a.txt", 1), true),
+        (Says::Received(2, b"W.REQ", 1), true),
+        (Says::Answered(1), false),
+        (Says::Answered(3), false),
+        (Says::Answered(2), true),
+        (Says::Answered(2), false),
+    ];
+    assert_eq!(rt; first_other(alloc, &mut folded, &rows)?, None);
+    Ok(())
+}
+
+#[test]
+fn marks_rise_by_part(rt: HostRuntime) -> Result<(), Fail> {
+    let alloc = rt.alloc();
+    let mut folded = Folded::new(alloc);
+    let rows = [
+        (Says::Mark(5, b"e.txt", 1), true),
+        (Says::Mark(9, b"i.txt", 1), true),
+        (Says::Mark(2, b"b.txt", 1), true),
+        (Says::Mark(5, b"e.txt", 2), true),
+    ];
+    assert_eq!(rt; first_other(alloc, &mut folded, &rows)?, None);
+    let mut parts = Vec::new(alloc);
+    for item in folded.marks() {
+        parts.push(item.part)?;
+    }
+    assert_eq!(rt; parts.as_slice(), [2, 5, 9].as_slice());
+    Ok(())
+}
+
+#[test]
+fn a_held_mark_is_folded_with_room(rt: HostRuntime) -> Result<(), Fail> {
+    let alloc = rt.alloc();
+    let mut folded = Folded::new(alloc);
+    let (from, key) = (peer(alloc)?, key(alloc, b"a.txt")?);
+    folded.hold(alloc, &from, &key)?;
+    folded.reserve(1)?;
+    folded.add(alloc, &mark(alloc, 1, b"a.txt", 3)?)?;
+    folded.unhold(&from, &key);
+    assert_eq!(rt; folded.marks().len(), 1);
+    Ok(())
+}
