@@ -1,5 +1,6 @@
 //! What a caller gets whose line, or whose node's store, fails or is silent.
-ghost use Rattle.std.specs.Prelude.{◌≡◌, IfOk};
+ghost use Rattle.std.specs.Prelude.{◌≡◌, map, IfOk, OnOk};
+ghost use Rattle.binkp_link.specs.Scripts.{AllGiveSome, act_of};
 ghost use Rattle.binkp_link.specs.MemLines.{mem_state};
 
 use super::{END, GREETING, LOGIN, OFFER, WELCOME, answer, fast_line, joined};
@@ -12,19 +13,26 @@ use std::test::Fail;
 
 const DATA: &[u8] = b"\x00\x05hello";
 
+// So many reads that wait for nothing.
+fn push_quiets(reads: &mut Vec<ReadAct>, many: u32) -> Result<(), NoMemory>
+    requires { AllGiveSome (map act_of reads.old.items) }
+    ensures { OnOk result (AllGiveSome (map act_of reads.new.items)) }
+{
+    for _ in 0..many {
+        reads.push(ReadAct::Quiet)?;
+    }
+    Ok(())
+}
+
 // Behind the login so many reads that wait for nothing, a byte, and so many again, and then the end.
-fn silent_line(alloc: Global, first: u32, then: u32) -> Result<MemLine, NoMemory>
+fn silent_line(alloc: Global, first: u32, last: u32) -> Result<MemLine, NoMemory>
     ensures { IfOk result (λ line. (mem_state line).calm ≡ 0) }
 {
     let mut reads = Vec::new(alloc);
     reads.push(ReadAct::Bytes(Bytes::from_slice(alloc, LOGIN)?))?;
-    for _ in 0..first {
-        reads.push(ReadAct::Quiet)?;
-    }
+    push_quiets(&mut reads, first)?;
     reads.push(ReadAct::Bytes(Bytes::from_slice(alloc, b"\x80")?))?;
-    for _ in 0..then {
-        reads.push(ReadAct::Quiet)?;
-    }
+    push_quiets(&mut reads, last)?;
     Ok(MemLine::new(alloc, reads, Vec::new(alloc)))
 }
 
@@ -60,30 +68,29 @@ fn a_read_or_a_write_that_fails_is_a_line_fault(rt: HostRuntime) -> Result<(), F
     Ok(())
 }
 
+// One session over a store whose call with that number is to fail.
+fn answer_failing(alloc: Global, call: u64) -> Result<(Status, ListStore, MemLine), NoMemory> {
+    let bytes = joined(alloc, &[LOGIN, OFFER, DATA, END])?;
+    let mut line = fast_line(alloc, bytes.as_slice())?;
+    let mut store = ListStore::new(alloc);
+    store.fail_at(call)?;
+    let (status, store) = answer(alloc, store, &mut line)?;
+    Ok((status, store, line))
+}
+
 #[test]
 fn a_file_whose_commit_failed_is_not_acknowledged(rt: HostRuntime) -> Result<(), Fail> {
     let alloc = rt.alloc();
-    let call = joined(alloc, &[LOGIN, OFFER, DATA, END])?;
-    let mut acknowledged = 0;
+    let refused: &[u8] = b"\x80\x0b\x07disk fault";
+    let wanted = joined(alloc, &[GREETING, WELCOME, refused])?;
     // A file takes four calls of the store: places, a part, its data and the commit.
-    for fails in 1..6 {
-        let mut line = fast_line(alloc, call.as_slice())?;
-        let mut store = ListStore::new(alloc);
-        store.fail_at(fails)?;
-        let (status, store) = answer(alloc, store, &mut line)?;
-        match status {
-            Status::Done => {
-                acknowledged += 1;
-                assert_eq!(rt; store.receipts().len(), 1);
-            }
-            other => {
-                assert_eq!(rt; other, Status::DiskFault(1));
-                let refused: &[u8] = b"\x80\x0b\x07disk fault";
-                let wanted = joined(alloc, &[GREETING, WELCOME, refused])?;
-                assert_eq!(rt; line.written(), wanted.as_slice());
-            }
-        }
+    for call in 1..5 {
+        let (status, _, line) = answer_failing(alloc, call)?;
+        assert_eq!(rt; status, Status::DiskFault(1));
+        assert_eq!(rt; line.written(), wanted.as_slice());
     }
-    assert_eq!(rt; acknowledged, 1);
+    let (status, store, _) = answer_failing(alloc, 5)?;
+    assert_eq!(rt; status, Status::Done);
+    assert_eq!(rt; store.receipts().len(), 1);
     Ok(())
 }
