@@ -1,8 +1,0 @@
-//! A folder of the file system.
-mod calls;
-mod outside;
-mod own;
-mod paths;
-mod system;
-
-pub use calls::RealFolder;
