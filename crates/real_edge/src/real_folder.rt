@@ -1,0 +1,8 @@
+//! A folder of the file system.
+mod calls;
+mod outside;
+mod own;
+mod paths;
+mod system;
+
+pub use calls::RealFolder;

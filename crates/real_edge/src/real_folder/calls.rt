@@ -1,0 +1,194 @@
+//! The calls of a disk and a yard, each counted where the system failed.
+ghost use Rattle.ftn_addr.specs.Counts.{risen};
+ghost use Rattle.std.specs.Prelude.{◌≡◌, IfOk, OnOk, OnErr};
+ghost use Rattle.disk_model.specs.Causes.{HasCause, ListsWithCause};
+
+use super::own::Folder;
+use disk_model::{Copied, Disk, Giving, Hit, ListFault, Made, Marking, Moved, Name, OutStat, Yard};
+use ftn_addr::{Bytes, Failed, NoMemory};
+use std::io;
+use std::rt::Files;
+
+/// The mailer's own folder in the file system, and the folders beside it.
+///
+/// It counts a fault at each call of the system that fails, and tells no content.
+#[derive(Drop)]
+pub struct RealFolder<R: Files> {
+    folder: Folder<R>,
+    faults: u64,
+}
+
+impl<R: Files + AllocGlobal + Clone + Drop> RealFolder<R> {
+    /// The folder of that path, which should be there. Nothing is called yet.
+    pub fn new(files: R, path: &str) -> Result<RealFolder<R>, NoMemory>
+        ensures { IfOk result (λ folder. folder.faults ≡ 0) }
+    {
+        let folder = Folder::new(files.alloc(), files, path)?;
+        Ok(RealFolder { folder, faults: 0 })
+    }
+
+    fn add_fault(&mut self)
+        ensures { self.new.faults ≡ risen self.old.faults }
+    {
+        self.faults = self.faults.saturating_add(1);
+    }
+
+    // Counts an answer where it is an error.
+    fn count<T>(&mut self, answer: io::Result<T>) -> Result<T, Failed>
+        ensures ok { OnOk result (self.new.faults ≡ self.old.faults) }
+        ensures err { OnErr result (self.new.faults ≡ risen self.old.faults) }
+        ensures cause { HasCause self.old.faults self.new.faults result }
+    {
+        match answer {
+            Ok(it) => Ok(it),
+            Err(_) => {
+                self.add_fault();
+                Err(Failed)
+            }
+        }
+    }
+
+    // The same of a list.
+    fn count_list<T>(&mut self, answer: Result<Vec<T>, ListFault>) -> Result<Vec<T>, ListFault>
+        ensures cause { ListsWithCause self.old.faults self.new.faults result }
+    {
+        match answer {
+            Ok(names) => Ok(names),
+            Err(ListFault::NoMemory) => Err(ListFault::NoMemory),
+            Err(ListFault::Failed) => {
+                self.add_fault();
+                Err(ListFault::Failed)
+            }
+        }
+    }
+}
+
+impl<R: Files + AllocGlobal + Clone + Drop> Disk for RealFolder<R> {
+    ghost files = { λ _ _. ⊥ };
+
+    ghost images = { λ _ _ _. ⊥ };
+
+    ghost moment = { λ _. 0 };
+
+    ghost fault_count = { λ d. d.faults };
+
+    ghost as_read = { λ _ _ none. absurd none };
+
+    fn faults(&self) -> u64 {
+        self.faults
+    }
+
+    fn stat(&mut self, name: &Name) -> Result<Option<u64>, Failed> {
+        let answer = self.folder.len_of(name);
+        let len = self.count(answer)?;
+        Ok(len)
+    }
+
+    fn list(&mut self) -> Result<Vec<Name>, ListFault> {
+        let answer = self.folder.list();
+        match self.count_list(answer) {
+            Ok(names) => Ok(names),
+            Err(e) => Err(e),
+        }
+    }
+
+    fn read_at(&mut self, name: &Name, at: u64, out: &mut [u8]) -> Result<(), Failed> {
+        let answer = self.folder.read(name, at, out);
+        self.count(answer)?;
+        Ok(())
+    }
+
+    fn create(&mut self, name: &Name) -> Result<Made, Failed> {
+        let answer = self.folder.create(name);
+        let made = self.count(answer)?;
+        Ok(made)
+    }
+
+    fn write_at(&mut self, name: &Name, at: u64, bytes: &[u8]) -> Result<(), Failed> {
+        let answer = self.folder.write(name, at, bytes);
+        self.count(answer)?;
+        Ok(())
+    }
+
+    fn cut(&mut self, name: &Name, len: u64) -> Result<(), Failed> {
+        let answer = self.folder.cut(name, len);
+        self.count(answer)?;
+        Ok(())
+    }
+
+    fn sync(&mut self, name: &Name) -> Result<(), Failed> {
+        let answer = self.folder.sync(name);
+        self.count(answer)?;
+        Ok(())
+    }
+
+    fn rename(&mut self, from: &Name, to: &Name) -> Result<(), Failed> {
+        let answer = self.folder.rename(from, to);
+        self.count(answer)?;
+        Ok(())
+    }
+
+    fn remove(&mut self, name: &Name) -> Result<(), Failed> {
+        let answer = self.folder.remove(name);
+        self.count(answer)?;
+        Ok(())
+    }
+}
+
+impl<R: Files + AllocGlobal + Clone + Drop> Yard for RealFolder<R> {
+    fn look(&mut self, path: &Bytes) -> Result<Option<OutStat>, Failed> {
+        let answer = self.folder.look(path);
+        let stat = self.count(answer)?;
+        Ok(stat)
+    }
+
+    fn names(&mut self, folder: &Bytes) -> Result<Vec<Bytes>, ListFault> {
+        let answer = self.folder.names(folder);
+        match self.count_list(answer) {
+            Ok(names) => Ok(names),
+            Err(e) => Err(e),
+        }
+    }
+
+    fn take(&mut self, path: &Bytes, own: &Name) -> Result<Moved, Failed> {
+        let answer = self.folder.take(path, own);
+        let moved = self.count(answer)?;
+        Ok(moved)
+    }
+
+    fn copy(&mut self, path: &Bytes, own: &Name, most: u64) -> Result<Copied, Failed> {
+        let answer = self.folder.copy(path, own, most);
+        let copied = self.count(answer)?;
+        Ok(copied)
+    }
+
+    fn remove_if(&mut self, path: &Bytes, was: &OutStat) -> Result<Hit, Failed> {
+        let answer = self.folder.remove_if(path, was);
+        let hit = self.count(answer)?;
+        Ok(hit)
+    }
+
+    fn cut_if(&mut self, path: &Bytes, was: &OutStat) -> Result<Hit, Failed> {
+        let answer = self.folder.cut_if(path, was);
+        let hit = self.count(answer)?;
+        Ok(hit)
+    }
+
+    fn mark(&mut self, path: &Bytes, text: &Bytes) -> Result<Marking, Failed> {
+        let answer = self.folder.mark(path, text);
+        let marking = self.count(answer)?;
+        Ok(marking)
+    }
+
+    fn unmark(&mut self, path: &Bytes, text: &Bytes) -> Result<Hit, Failed> {
+        let answer = self.folder.unmark(path, text);
+        let hit = self.count(answer)?;
+        Ok(hit)
+    }
+
+    fn give(&mut self, own: &Name, folder: &Bytes, name: &Bytes) -> Result<Giving, Failed> {
+        let answer = self.folder.give(own, folder, name);
+        let giving = self.count(answer)?;
+        Ok(giving)
+    }
+}

@@ -1,0 +1,171 @@
+//! The own folder.
+use super::paths::Paths;
+use super::system::{make_new, open_plain, plain_len, sync_folder};
+use disk_model::{ListFault, Made, Name};
+use ftn_addr::NoMemory;
+use std::alloc::Global;
+use std::fs::{DirEntry, OpenFile};
+use std::io::{Read, Seek, SeekFrom, Write};
+use std::rt::Files;
+use std::{fs, io};
+
+/// The file that was used last.
+#[derive(Drop)]
+pub struct Held<F> {
+    name: Name,
+    file: F,
+}
+
+/// The own folder, as the system has it.
+#[derive(Drop)]
+pub struct Folder<R: Files> {
+    pub(super) files: R,
+    pub(super) paths: Paths,
+    held: Option<Held<R::File>>,
+    // A file was made by a copy, and the folder wasn't synced since.
+    pub(super) has_copy: bool,
+}
+
+impl<R: Files + Drop> Folder<R> {
+    pub fn new(alloc: Global, files: R, path: &str) -> Result<Folder<R>, NoMemory> {
+        Ok(Folder {
+            files,
+            paths: Paths::new(alloc, path)?,
+            held: None,
+            has_copy: false,
+        })
+    }
+
+    /// The length of a file.
+    pub fn len_of(&mut self, name: &Name) -> io::Result<Option<u64>> {
+        plain_len(&self.files, self.paths.own(name)?)
+    }
+
+    pub fn read(&mut self, name: &Name, at: u64, out: &mut [u8]) -> io::Result<()> {
+        let mut file = self.open(name)?;
+        file.seek(SeekFrom::Start(at))?;
+        file.read_exact(out)?;
+        self.hold(name, file);
+        Ok(())
+    }
+
+    pub fn create(&mut self, name: &Name) -> io::Result<Made> {
+        self.forget(name);
+        match make_new(&self.files, self.paths.own(name)?) {
+            Ok(file) => {
+                self.hold(name, file);
+                sync_folder(&self.files, self.paths.folder())?;
+                Ok(Made::New)
+            }
+            Err(e) if e.kind() == io::ErrorKind::AlreadyExists => match self.len_of(name)? {
+                Some(_) => Ok(Made::Exists),
+                None => Err(e),
+            },
+            Err(e) => Err(e),
+        }
+    }
+
+    pub fn write(&mut self, name: &Name, at: u64, bytes: &[u8]) -> io::Result<()> {
+        let mut file = self.open(name)?;
+        if file.metadata()?.len() < at {
+            return Err(io::ErrorKind::InvalidInput.into());
+        }
+        file.seek(SeekFrom::Start(at))?;
+        file.write_all(bytes)?;
+        self.hold(name, file);
+        Ok(())
+    }
+
+    pub fn cut(&mut self, name: &Name, len: u64) -> io::Result<()> {
+        let file = self.open(name)?;
+        if file.metadata()?.len() < len {
+            return Err(io::ErrorKind::InvalidInput.into());
+        }
+        file.set_len(len)?;
+        self.hold(name, file);
+        Ok(())
+    }
+
+    pub fn sync(&mut self, name: &Name) -> io::Result<()> {
+        let file = self.open(name)?;
+        file.sync_all()?;
+        if self.has_copy {
+            sync_folder(&self.files, self.paths.folder())?;
+            self.has_copy = false;
+        }
+        self.hold(name, file);
+        Ok(())
+    }
+
+    pub fn rename(&mut self, from: &Name, to: &Name) -> io::Result<()> {
+        self.forget(from);
+        self.forget(to);
+        let (old, new) = self.paths.two(from, to)?;
+        fs::rename(&self.files, old, new)?;
+        sync_folder(&self.files, self.paths.folder())
+    }
+
+    pub fn remove(&mut self, name: &Name) -> io::Result<()> {
+        self.forget(name);
+        fs::remove_file(&self.files, self.paths.own(name)?)?;
+        sync_folder(&self.files, self.paths.folder())
+    }
+
+    /// Drops the handle of a file that will not be that one.
+    pub(super) fn forget(&mut self, name: &Name) {
+        if let Some(held) = self.held.take()
+            && held.name != *name
+        {
+            self.held = Some(held);
+        }
+    }
+
+    pub(super) fn hold(&mut self, name: &Name, file: R::File) {
+        self.held = Some(Held { name: *name, file });
+    }
+
+    // The file that is held, or else it is opened.
+    fn open(&mut self, name: &Name) -> io::Result<R::File> {
+        match self.held.take() {
+            Some(held) if held.name == *name => Ok(held.file),
+            _ => open_plain(&self.files, self.paths.own(name)?),
+        }
+    }
+}
+
+impl<R: Files + AllocGlobal + Clone + Drop> Folder<R> {
+    /// The names of own files that regular files have, in the order of their bytes.
+    pub fn list(&self) -> Result<Vec<Name>, ListFault> {
+        let Ok(entries) = fs::read_dir(&self.files, self.paths.folder()) else {
+            return Err(ListFault::Failed);
+        };
+        let mut names = Vec::new(self.files.alloc());
+        for entry in entries {
+            let Ok(name) = own_name(entry) else {
+                return Err(ListFault::Failed);
+            };
+            if let Some(name) = name
+                && names.push(name).is_err()
+            {
+                return Err(ListFault::NoMemory);
+            }
+        }
+        match names.sort() {
+            Ok(()) => Ok(names),
+            Err(_) => Err(ListFault::NoMemory),
+        }
+    }
+}
+
+// The name of an own file. What has no such name, or is no regular file, is passed over.
+fn own_name<R: Files + Drop>(entry: io::Result<DirEntry<R>>) -> io::Result<Option<Name>> {
+    let entry = match entry {
+        Ok(entry) => entry,
+        Err(e) if e.kind() == io::ErrorKind::InvalidFilename => return Ok(None),
+        Err(e) => return Err(e),
+    };
+    match Name::new(entry.file_name().as_bytes()) {
+        Some(name) if entry.file_type()?.is_file() => Ok(Some(name)),
+        _ => Ok(None),
+    }
+}
