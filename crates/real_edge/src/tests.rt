@@ -31,10 +31,10 @@ fn write_and_rename<R: Files + AllocGlobal + Clone + Drop>(
 
 #[test]
 fn a_file_is_written_renamed_listed_and_read_back(rt: HostRuntime) -> Result<(), Fail> {
-    fs::create_dir(&rt, "own")?;
-    fs::write(&rt, "own/Other_", b"no name".as_slice())?;
+    fs::create_dir(&rt, "renamed")?;
+    fs::write(&rt, "renamed/Other_", b"no name".as_slice())?;
     let (a, b) = (name(b"a")?, name(b"b.1-")?);
-    let mut disk = RealFolder::new(rt, "own")?;
+    let mut disk = RealFolder::new(rt, "renamed")?;
     write_and_rename(&mut disk, &a, &b)?;
     assert_eq!(rt; disk.create(&a), Ok(Made::New));
     assert_eq!(rt; disk.create(&a), Ok(Made::Exists));
@@ -50,10 +50,10 @@ fn a_file_is_written_renamed_listed_and_read_back(rt: HostRuntime) -> Result<(),
 
 #[test]
 fn past_the_end_of_a_file_calls_fail(rt: HostRuntime) -> Result<(), Fail> {
-    fs::create_dir(&rt, "own")?;
-    fs::write(&rt, "own/a", b"abc".as_slice())?;
+    fs::create_dir(&rt, "short")?;
+    fs::write(&rt, "short/a", b"abc".as_slice())?;
     let a = name(b"a")?;
-    let mut disk = RealFolder::new(rt, "own")?;
+    let mut disk = RealFolder::new(rt, "short")?;
     for call in 0..3 {
         let failed = match call {
             0 => disk.read_at(&a, 2, &mut [0; 2]).is_err(),
@@ -69,11 +69,11 @@ fn past_the_end_of_a_file_calls_fail(rt: HostRuntime) -> Result<(), Fail> {
 
 #[test]
 fn a_link_in_the_own_folder_is_not_opened(rt: HostRuntime) -> Result<(), Fail> {
-    fs::create_dir(&rt, "own")?;
+    fs::create_dir(&rt, "linked")?;
     fs::write(&rt, "secret", b"kept".as_slice())?;
-    symlink(&rt, "../secret", "own/a")?;
+    symlink(&rt, "../secret", "linked/a")?;
     let a = name(b"a")?;
-    let mut disk = RealFolder::new(rt, "own")?;
+    let mut disk = RealFolder::new(rt, "linked")?;
     assert_eq!(rt; disk.create(&a), Err(Failed));
     assert_eq!(rt; disk.write_at(&a, 0, b"lost"), Err(Failed));
     let path = bytes(rt.alloc(), b"secret")?;
@@ -86,11 +86,11 @@ fn a_link_in_the_own_folder_is_not_opened(rt: HostRuntime) -> Result<(), Fail> {
 #[test]
 fn an_outside_file_is_copied_and_taken(rt: HostRuntime) -> Result<(), Fail> {
     let alloc = rt.alloc();
-    fs::create_dir(&rt, "own")?;
-    fs::write(&rt, "x", b"abc".as_slice())?;
+    fs::create_dir(&rt, "taken")?;
+    fs::write(&rt, "copied", b"abc".as_slice())?;
     let (a, b) = (name(b"a")?, name(b"b")?);
-    let x = bytes(alloc, b"x")?;
-    let mut yard = RealFolder::new(rt, "own")?;
+    let x = bytes(alloc, b"copied")?;
+    let mut yard = RealFolder::new(rt, "taken")?;
     assert_eq!(rt; yard.copy(&x, &a, 2), Ok(Copied::Over));
     assert_eq!(rt; yard.stat(&a), Ok(None));
     assert!(rt;
@@ -103,19 +103,19 @@ fn an_outside_file_is_copied_and_taken(rt: HostRuntime) -> Result<(), Fail> {
     assert_eq!(rt; yard.take(&x, &a), Err(Failed));
     assert_eq!(rt; yard.take(&x, &b), Ok(Moved::Done));
     assert_eq!(rt; yard.take(&x, &b), Ok(Moved::Absent));
-    assert_eq!(rt; fs::read(&rt, "own/b")?.as_slice(), b"abc".as_slice());
+    assert_eq!(rt; fs::read(&rt, "taken/b")?.as_slice(), b"abc".as_slice());
     Ok(())
 }
 
 #[test]
 fn a_file_is_given_once_under_a_name(rt: HostRuntime) -> Result<(), Fail> {
     let alloc = rt.alloc();
-    fs::create_dir(&rt, "own")?;
-    fs::create_dir(&rt, "in")?;
-    fs::write(&rt, "own/a", b"abc".as_slice())?;
-    fs::write(&rt, "own/b", b"def".as_slice())?;
-    let (folder, y) = (bytes(alloc, b"in")?, bytes(alloc, b"y")?);
-    let mut yard = RealFolder::new(rt, "own")?;
+    fs::create_dir(&rt, "given")?;
+    fs::create_dir(&rt, "inbox")?;
+    fs::write(&rt, "given/a", b"abc".as_slice())?;
+    fs::write(&rt, "given/b", b"def".as_slice())?;
+    let (folder, y) = (bytes(alloc, b"inbox")?, bytes(alloc, b"y")?);
+    let mut yard = RealFolder::new(rt, "given")?;
     assert_eq!(rt; yard.give(&name(b"a")?, &folder, &y), Ok(Giving::Given));
     assert_eq!(rt; yard.give(&name(b"b")?, &folder, &y), Ok(Giving::Taken));
     for bad in [
@@ -129,21 +129,21 @@ fn a_file_is_given_once_under_a_name(rt: HostRuntime) -> Result<(), Fail> {
     }
     let names = yard.names(&folder).ok().expect(&rt, "the names");
     assert_eq!(rt; names.len(), 1);
-    assert_eq!(rt; fs::read(&rt, "in/y")?.as_slice(), b"abc".as_slice());
+    assert_eq!(rt; fs::read(&rt, "inbox/y")?.as_slice(), b"abc".as_slice());
     Ok(())
 }
 
 #[test]
 fn a_mark_is_made_once_and_removed_by_its_text(rt: HostRuntime) -> Result<(), Fail> {
     let alloc = rt.alloc();
-    fs::create_dir(&rt, "own")?;
+    fs::create_dir(&rt, "marked")?;
     let (x, y) = (bytes(alloc, b"x.bsy")?, bytes(alloc, b"y.bsy")?);
     let text = bytes(alloc, b"binkp 2:5020/1042\n")?;
-    let mut yard = RealFolder::new(rt, "own")?;
+    let mut yard = RealFolder::new(rt, "marked")?;
     assert_eq!(rt; yard.mark(&x, &text), Ok(Marking::Made));
     assert_eq!(rt; yard.mark(&x, &text), Ok(Marking::Exists));
     // What a power cut leaves behind: the mark under both of its names.
-    fs::hard_link(&rt, "x.bsy", "own/MARK_")?;
+    fs::hard_link(&rt, "x.bsy", "marked/MARK_")?;
     assert_eq!(rt; yard.mark(&y, &x), Ok(Marking::Made));
     assert_eq!(rt; fs::read(&rt, "x.bsy")?.as_slice(), text.as_slice());
     assert_eq!(rt; yard.unmark(&y, &text), Ok(Hit::Other));
@@ -153,8 +153,8 @@ fn a_mark_is_made_once_and_removed_by_its_text(rt: HostRuntime) -> Result<(), Fa
 
 #[test]
 fn a_file_is_cut_and_removed_as_it_was(rt: HostRuntime) -> Result<(), Fail> {
-    fs::write(&rt, "x", b"abc".as_slice())?;
-    let x = bytes(rt.alloc(), b"x")?;
+    fs::write(&rt, "cut", b"abc".as_slice())?;
+    let x = bytes(rt.alloc(), b"cut")?;
     let mut yard = RealFolder::new(rt, "own")?;
     let was = yard.look(&x)?.ok_or(Failed)?;
     let other = OutStat { size: 4, ..was };
