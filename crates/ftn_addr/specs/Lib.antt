@@ -2,6 +2,7 @@ pub mod Address
 pub mod Content
 pub mod Counts
 pub mod Digits
+pub mod Files
 pub mod Frames
 pub mod Key
 pub mod Limits

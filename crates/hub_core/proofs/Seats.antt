@@ -6,7 +6,7 @@ use Rattle.ftn_addr.specs.Address.{Address}
 use Rattle.ftn_addr.specs.Key.{Key}
 use Rattle.node_model.specs.declared.words.Known.TheVariants.{New, Received, Refused}
 use Rattle.node_model.specs.Items.{Mark}
-use Rattle.node_model.specs.Durable.{Durable, is_same, is_received, is_refused, is_known, marked, bytes_of_mark, with_receipt}
+use Rattle.node_model.specs.Durable.{Durable, is_received, is_refused, is_known, marked, bytes_of_mark, with_receipt}
 use Rattle.node_model.specs.Lists.{first_that}
 use Rattle.node_model.specs.Calls.{Counts}
 use Rattle.node_model.specs.Node.{Hold, Node, Session, Seat, Logged, session_at, hold_in}
@@ -15,6 +15,7 @@ use Rattle.node_model.specs.Images.{OpensTo}
 use Rattle.node_model.specs.Stores.{Stored, StoreState, StoreStand, StoreTied, IfTold, IsPartNumber, known_in}
 use Rattle.std.specs.Prelude.{Result, Err}
 use Rattle.ftn_addr.specs.Counts.{Rose}
+use Rattle.ftn_addr.specs.Files.{is_same}
 use Rattle.node_model.specs.declared.store.StoreFault.{StoreFault}
 use Rattle.node_model.specs.declared.store.StoreFault.TheVariants as D
 use Rattle.hub_core.specs.declared.desk.FileIn.{FileIn}

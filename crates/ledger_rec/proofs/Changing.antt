@@ -5,8 +5,9 @@ use Rattle.std.specs.List.{position_or_len, insert}
 use Rattle.std.proofs.lemmas.Bool.{cases_Bool, ltb-false}
 use Rattle.std.proofs.lemmas.List.Quantifiers.{position-Some}
 use Rattle.ftn_addr.specs.Address.{Address, address}
+use Rattle.ftn_addr.specs.Files.{is_same}
 use Rattle.ftn_addr.specs.Key.{Key, key_of}
-use Rattle.ledger_rec.specs.Fold.{changed, is_same, unmarked, in_place}
+use Rattle.ledger_rec.specs.Fold.{changed, unmarked, in_place}
 use Rattle.ledger_rec.specs.Items.{PartMark, part_mark}
 use Rattle.ledger_rec.specs.declared.items.MarkItem.{MarkItem}
 

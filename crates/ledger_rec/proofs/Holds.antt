@@ -5,9 +5,10 @@ use Rattle.std.specs.List.{position_or_len, remove}
 use Rattle.std.proofs.lemmas.Bool.{cases_Bool}
 use Rattle.std.proofs.lemmas.List.Quantifiers.{position-Some}
 use Rattle.ftn_addr.specs.Address.{Address, address}
+use Rattle.ftn_addr.specs.Files.{is_same}
 use Rattle.ftn_addr.specs.Key.{Key, key_of}
 use Rattle.ledger_rec.proofs.Changing.{past_end}
-use Rattle.ledger_rec.specs.Fold.{is_same, without_hold}
+use Rattle.ledger_rec.specs.Fold.{without_hold}
 use Rattle.ledger_rec.specs.Items.{hold}
 use Rattle.ledger_rec.specs.declared.items.Held.{Held}
 

@@ -3,8 +3,9 @@ use Rattle.std.specs.Prelude.{ℕ, ◌-◌, ◌==◌, Bool, true, false, not, �
 use Rattle.std.specs.Char.{to_ascii_lowercase}
 use Rattle.std.specs.Cmp.Lexicographic.{pointwise}
 use Rattle.std.specs.List.{list_all, list_any}
-use Rattle.ftn_addr.specs.Address.{Address, same_address}
-use Rattle.ftn_addr.specs.Key.{Key, same_key}
+use Rattle.ftn_addr.specs.Address.{Address}
+use Rattle.ftn_addr.specs.Files.{is_same}
+use Rattle.ftn_addr.specs.Key.{Key}
 use Rattle.ledger_rec.specs.Items.{Entry, Receipt, Refusal, PartMark, Hold}
 use Rattle.ledger_rec.specs.Record.{NewFileText, ReceivedText, RefusedText, MarkText, RecordText, Queue, Done, Received, Refused, Mark, Taken, Acted, Answered}
 
@@ -20,10 +21,6 @@ pub record State : Type 0 where
 
 abbrev pub nothing_folded : State
 nothing_folded = record { queue = []; inbox = []; refused = []; marks = []; parts = []; takes = [] }
-
--- the same sender, or receiver, and the same key
-abbrev pub is_same : Address → Key → Address → Key → Bool
-is_same from key a k = same_address from a && same_key key k
 
 abbrev pub is_among : ℕ → List ℕ → Bool
 is_among number numbers = list_any (λ n. n == number) numbers

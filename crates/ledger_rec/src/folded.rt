@@ -1,8 +1,9 @@
 //! The fold of a ledger's records.
 ghost use Rattle.std.specs.Prelude.{◌≡◌, ◌+◌, ◌<◌, ◌≤◌, [], ◌∷◌, ◌++◌, map, position, Some, None, OnOk, OnErr, IsErrOf};
 ghost use Rattle.ftn_addr.specs.Address.{address};
+ghost use Rattle.ftn_addr.specs.Files.{is_same};
 ghost use Rattle.ftn_addr.specs.Key.{key_of};
-ghost use Rattle.ledger_rec.specs.Fold.{fold_step, is_same, nothing_folded, without_hold, IsPrepared};
+ghost use Rattle.ledger_rec.specs.Fold.{fold_step, nothing_folded, without_hold, IsPrepared};
 ghost use Rattle.ledger_rec.specs.Items.{entry, receipt, refusal, part_mark, hold};
 ghost use Rattle.ledger_rec.specs.Record.{record_of};
 ghost use Rattle.ledger_rec.specs.declared.fault.FoldFault.TheVariants.{BadFold as BreaksRule, NoMemory as OutOfMemory};

@@ -2,10 +2,11 @@
 use Rattle.std.proofs.Common.{◌≡◌, ◌∙◌, ℕ, Bool, true, false, List, [], ◌∷◌, ◌++◌, Option, Some, None, refl, sym, ap, subst, inl, inr}
 use Rattle.std.proofs.lemmas.Bool.{both_ways, or_parts}
 use Rattle.ftn_addr.specs.Address.{Address}
+use Rattle.ftn_addr.specs.Files.{is_same}
 use Rattle.ftn_addr.specs.Key.{Key}
 use Rattle.node_model.specs.Items.{Receipt}
 use Rattle.node_model.specs.Lists.{Each}
-use Rattle.node_model.specs.Durable.{Durable, is_same, is_received, is_refused, is_known, with_receipt}
+use Rattle.node_model.specs.Durable.{Durable, is_received, is_refused, is_known, with_receipt}
 use Rattle.node_model.specs.Node.{Hold, Session, Node, session_at, with_session}
 use Rattle.node_model.specs.Rows.{FileAnswer, Have, Refuse, Elsewhere, Go, Whole, From, Late, Answered, unheld, released, DataWhole, LeaveRow}
 use Rattle.node_model.specs.Calls.{Call, Answer, Fault, Event, Knock_call, Open_call, File_call, Data_call, Leave_call, Let_in, Begun, Settled, Filed, More, Whole_now, Refused, Disk, Read, Full, No_memory, Made, Passes, Before_it, After_it, NotMade, NodeStep, KnownStep, Knows, Tells, Counts_alone, DeskState, Calls, Chain}

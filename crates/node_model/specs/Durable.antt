@@ -1,7 +1,8 @@
 -- Durable state: what a node keeps over a stop (own).
 use Rattle.std.specs.Prelude.{ℕ, Bool, ◌&&◌, ◌||◌, List, [], ◌∷◌, ◌++◌, Option, Some, None}
-use Rattle.ftn_addr.specs.Address.{Address, same_address}
-use Rattle.ftn_addr.specs.Key.{Key, same_key}
+use Rattle.ftn_addr.specs.Address.{Address}
+use Rattle.ftn_addr.specs.Files.{is_same}
+use Rattle.ftn_addr.specs.Key.{Key}
 use Rattle.node_model.specs.Items.{Entry, Receipt, Refusal, Mark}
 use Rattle.node_model.specs.Lists.{some_passes, without, first_that}
 
@@ -14,10 +15,6 @@ pub record Durable : Type 0 where
 
 abbrev pub nothing_kept : Durable
 nothing_kept = record { queue = []; inbox = []; refused = []; marks = [] }
-
--- the same sender, or receiver, and the same key
-abbrev pub is_same : Address → Key → Address → Key → Bool
-is_same from key a k = same_address from a && same_key key k
 
 abbrev pub is_received : Address → Key → Durable → Bool
 is_received from key d = some_passes (λ (r : Receipt). is_same from key r.from r.key) d.inbox

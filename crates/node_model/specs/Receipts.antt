@@ -1,8 +1,9 @@
 -- Receipts of their own: no sender and key has two (own).
 use Rattle.std.specs.Prelude.{◌≡◌, false, List, [], ◌∷◌}
+use Rattle.ftn_addr.specs.Files.{is_same}
 use Rattle.node_model.specs.Items.{Receipt}
 use Rattle.node_model.specs.Lists.{Each}
-use Rattle.node_model.specs.Durable.{Durable, is_same}
+use Rattle.node_model.specs.Durable.{Durable}
 use Rattle.node_model.specs.Node.{Node}
 use Rattle.node_model.specs.Calls.{Knows, Tells}
 

@@ -3,12 +3,13 @@ use Rattle.std.specs.Prelude.{◌≡◌, ◌≢◌, ◌⊎◌, ℕ, Bool, true, 
 use Rattle.std.specs.Char.{to_ascii_lowercase}
 use Rattle.std.specs.Cmp.Lexicographic.{pointwise}
 use Rattle.ftn_addr.specs.Address.{Address}
+use Rattle.ftn_addr.specs.Files.{is_same}
 use Rattle.ftn_addr.specs.Key.{Key}
 use Rattle.node_model.specs.declared.words.Role.{Role}
 use Rattle.node_model.specs.declared.words.Role.TheVariants.{Calls, Answers}
 use Rattle.node_model.specs.Items.{Receipt, Mark}
 use Rattle.node_model.specs.Lists.{Member, Each, some_passes}
-use Rattle.node_model.specs.Durable.{Durable, is_same, is_known, mark_of, marked, with_receipt, with_refusal}
+use Rattle.node_model.specs.Durable.{Durable, is_known, mark_of, marked, with_receipt, with_refusal}
 use Rattle.node_model.specs.Node.{Hold, Session, Seat, Settings, Node, session_at, hold_in, with_session, Logged, Record, Received_record, Refused_record}
 
 -- one record of a seat

@@ -33,7 +33,7 @@ impl<R: Files + Drop> Folder<R> {
         }
         open_plain(&self.files, path)?.sync_all()?;
         fs::rename(&self.files, path, new)?;
-        sync_folder(&self.files, self.paths.folder())?;
+        self.sync_names()?;
         sync_folder(&self.files, folder_of(path))?;
         Ok(Moved::Done)
     }
@@ -48,7 +48,7 @@ impl<R: Files + Drop> Folder<R> {
         self.forget(own);
         let new = self.paths.own(own)?;
         remove_any(&self.files, new)?;
-        self.has_copy = true;
+        self.has_new_names = true;
         if metadata.len() > most {
             return Ok(Copied::Over);
         }
@@ -115,7 +115,7 @@ impl<R: Files + Drop> Folder<R> {
             Err(e) => return Err(e),
         };
         fs::remove_file(&self.files, written)?;
-        sync_folder(&self.files, self.paths.folder())?;
+        self.sync_names()?;
         Ok(marking)
     }
 
@@ -134,8 +134,9 @@ impl<R: Files + Drop> Folder<R> {
             return Err(io::ErrorKind::NotFound.into());
         }
         fs::rename(&self.files, old, new)?;
+        self.has_new_names = true;
         sync_folder(&self.files, folder)?;
-        sync_folder(&self.files, self.paths.folder())?;
+        self.sync_names()?;
         Ok(Giving::Given)
     }
 

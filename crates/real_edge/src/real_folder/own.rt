@@ -22,8 +22,8 @@ pub struct Folder<R: Files> {
     pub(super) files: R,
     pub(super) paths: Paths,
     held: Option<Held<R::File>>,
-    // A file was made by a copy, and the folder wasn't synced since.
-    pub(super) has_copy: bool,
+    // A name was made or taken away, and the folder wasn't synced since.
+    pub(super) has_new_names: bool,
 }
 
 impl<R: Files + Drop> Folder<R> {
@@ -32,7 +32,7 @@ impl<R: Files + Drop> Folder<R> {
             files,
             paths: Paths::new(alloc, path)?,
             held: None,
-            has_copy: false,
+            has_new_names: false,
         })
     }
 
@@ -54,7 +54,7 @@ impl<R: Files + Drop> Folder<R> {
         match make_new(&self.files, self.paths.own(name)?) {
             Ok(file) => {
                 self.hold(name, file);
-                sync_folder(&self.files, self.paths.folder())?;
+                self.sync_names()?;
                 Ok(Made::New)
             }
             Err(e) if e.kind() == io::ErrorKind::AlreadyExists => match self.len_of(name)? {
@@ -89,11 +89,18 @@ impl<R: Files + Drop> Folder<R> {
     pub fn sync(&mut self, name: &Name) -> io::Result<()> {
         let file = self.open(name)?;
         file.sync_all()?;
-        if self.has_copy {
-            sync_folder(&self.files, self.paths.folder())?;
-            self.has_copy = false;
+        if self.has_new_names {
+            self.sync_names()?;
         }
         self.hold(name, file);
+        Ok(())
+    }
+
+    /// Makes the names in the folder durable. Where that fails, the next [`Folder::sync`] does it.
+    pub(super) fn sync_names(&mut self) -> io::Result<()> {
+        self.has_new_names = true;
+        sync_folder(&self.files, self.paths.folder())?;
+        self.has_new_names = false;
         Ok(())
     }
 
@@ -102,13 +109,13 @@ impl<R: Files + Drop> Folder<R> {
         self.forget(to);
         let (old, new) = self.paths.two(from, to)?;
         fs::rename(&self.files, old, new)?;
-        sync_folder(&self.files, self.paths.folder())
+        self.sync_names()
     }
 
     pub fn remove(&mut self, name: &Name) -> io::Result<()> {
         self.forget(name);
         fs::remove_file(&self.files, self.paths.own(name)?)?;
-        sync_folder(&self.files, self.paths.folder())
+        self.sync_names()
     }
 
     /// Drops the handle of a file that will not be that one.

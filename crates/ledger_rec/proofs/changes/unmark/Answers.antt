@@ -1,9 +1,9 @@
 use Rattle.std.proofs.Common.{ap, ◌∙◌, map, not, rules}
 use Rattle.std.proofs.lemmas.Fn.{filter_same}
 use Rattle.ftn_addr.specs.Address.{address}
+use Rattle.ftn_addr.specs.Files.{is_same}
 use Rattle.ftn_addr.specs.Key.{key_of}
 use Rattle.ledger_rec.proofs.Changing.{unmarked_map}
-use Rattle.ledger_rec.specs.Fold.{is_same}
 use Rattle.ledger_rec.specs.Items.{part_mark}
 use Rattle.ledger_rec.specs.declared.items.MarkItem.{MarkItem}
 use Rattle.ledger_rec.proofs.changes.unmark.Goals as goal
