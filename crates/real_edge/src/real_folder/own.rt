@@ -22,7 +22,8 @@ pub struct Folder<R: Files> {
     pub(super) files: R,
     pub(super) paths: Paths,
     held: Option<Held<R::File>>,
-    // A name was made or taken away, and the folder wasn't synced since.
+    // A name was made or taken away, perhaps by a program that was stopped, and the folder wasn't synced
+    // since.
     pub(super) has_new_names: bool,
 }
 
@@ -32,7 +33,7 @@ impl<R: Files + Drop> Folder<R> {
             files,
             paths: Paths::new(alloc, path)?,
             held: None,
-            has_new_names: false,
+            has_new_names: true,
         })
     }
 
