@@ -3,9 +3,10 @@ use Rattle.std.proofs.Common.{◌≡◌, ◌⊎◌, ◌∙◌, ℕ, ◌+◌, ◌
 use Rattle.ftn_addr.specs.Address.{Address}
 use Rattle.node_model.specs.Calls.{Counts, counts_of, DeskState, Knows, Tells}
 use Rattle.node_model.specs.Node.{Node}
-use Rattle.node_model.specs.Receipts.{HasOnce, TellsOnce}
+use Rattle.node_model.specs.Receipts.{HasOnce, TellsOnce, KnownStays}
 use Rattle.node_model.specs.Stores.{Stored, StoreState}
 use Rattle.node_model.proofs.OneReceipt.{chain_once}
+use Rattle.node_model.proofs.ReceiptsStay.{chain_stays}
 use Rattle.session_core.specs.declared.ending.End.{End}
 use Rattle.session_core.specs.declared.ending.End.TheVariants as E
 use Rattle.binkp_mailer.specs.declared.status.Status.{Status}
@@ -19,7 +20,7 @@ use Rattle.session_run.specs.Laws.{IsSession, Facts, OwnCause, OwnCauseAt, EndCo
 use Rattle.hub_core.specs.Seats.{node_of, told}
 use Rattle.binkp_mailer.specs.Statuses.{status_after}
 use Rattle.binkp_mailer.specs.declared.status.Status.TheVariants as S
-use Rattle.binkp_mailer.specs.TopCall.{Calls_in_turn, none_yet, one_more, ReachesLimit, HeldSession, HasOnceTold, StatusCause, Answers_line, Turned_away, Held_one, one_seat, lent}
+use Rattle.binkp_mailer.specs.TopCall.{Calls_in_turn, none_yet, one_more, ReachesLimit, HeldSession, HasOnceTold, StaysTold, StatusCause, Answers_line, Turned_away, Held_one, one_seat, lent}
 
 -- Endless comes only where the limit was reached
 abbrev pub LimitCause : End → Option LineBytes → Option LineBytes → Type 0
@@ -92,6 +93,22 @@ held_once home moment line store status line' store' h once =
 pub answers_once : (words : List (List ℕ)) (moment : ℕ) (line : LineState) (store : StoreState) (status : Status) (line' : LineState) (store' : StoreState) → Answers_line words moment line store status line' store' → HasOnceTold store.content → HasOnceTold store'.content
 answers_once words moment line store status line' store' (Turned_away why line_is store_is) once = subst (λ (x : StoreState). HasOnceTold x.content) (sym store_is) once
 answers_once words moment line store status line' store' (Held_one home are h) once = held_once home moment line store status line' store' h once
+
+-- what was received stays received
+pub held_stays : (home : Address) (moment : ℕ) (line : LineState) (store : StoreState) (status : Status) (line' : LineState) (store' : StoreState) → HeldSession home moment line store status line' store' → StaysTold store.content store'.content
+held_stays home moment line store status line' store' h =
+    let s = h.session in
+    let stays : KnownStays (Tells (node_of store 0 None)) s.last.desk.knows = chain_stays true (one_seat store 0 None) s.last.events s.last.desk s.facts.chain in
+    subst (λ (x : DeskState). KnownStays (Tells (node_of store 0 None)) x.knows) s.desk_is stays
+
+pub answers_stay : (words : List (List ℕ)) (moment : ℕ) (line : LineState) (store : StoreState) (status : Status) (line' : LineState) (store' : StoreState) → Answers_line words moment line store status line' store' → StaysTold store.content store'.content
+answers_stay words moment line store status line' store' (Turned_away why line_is store_is) = subst (λ (x : StoreState). StaysTold store.content x.content) (sym store_is) (λ from key has. has)
+answers_stay words moment line store status line' store' (Held_one home are h) = held_stays home moment line store status line' store' h
+
+pub calls_stay : (store new : StoreState) → Calls_in_turn store new → StaysTold store.content new.content
+calls_stay store new none_yet = λ from key has. has
+calls_stay store new (one_more {old} before words moment status line line' answers) =
+    λ from key has. answers_stay words moment line old status line' new answers from key (calls_stay store old before from key has)
 
 -- whatever the statuses, and however many calls
 pub calls_once : (store new : StoreState) → Calls_in_turn store new → HasOnceTold store.content → HasOnceTold new.content

@@ -3,7 +3,7 @@ use Rattle.std.specs.Prelude.{◌≡◌, ◌⊎◌, ℕ, ◌+◌, ◌-◌, ◌�
 use Rattle.ftn_addr.specs.Address.{Address}
 use Rattle.ftn_addr.specs.Counts.{Rose, risen}
 use Rattle.node_model.specs.Calls.{Counts, DeskState, Tells}
-use Rattle.node_model.specs.Receipts.{HasOnce}
+use Rattle.node_model.specs.Receipts.{HasOnce, StaysReceived}
 use Rattle.node_model.specs.Stores.{Stored, StoreState, IfTold}
 use Rattle.session_core.specs.declared.ending.End.{End}
 use Rattle.binkp_mailer.specs.declared.status.Status.{Status}
@@ -11,7 +11,7 @@ use Rattle.binkp_mailer.specs.declared.status.Status.TheVariants as S
 use Rattle.binkp_link.specs.Lines.{LineBytes, LineState}
 use Rattle.session_core.specs.Sessions.{Setting}
 use Rattle.session_run.specs.Laws.{IsSession}
-use Rattle.hub_core.specs.Seats.{Sitting, node_of}
+use Rattle.hub_core.specs.Seats.{Sitting, node_of, told}
 use Rattle.binkp_mailer.specs.Statuses.{status_after}
 use Rattle.binkp_mailer.specs.Words.{AreWords}
 
@@ -58,6 +58,10 @@ StatusCause status line line' counts counts' = line'.ends ≡ line.ends
 -- no sender and key has two receipts
 abbrev pub HasOnceTold : Option Stored → Type 0
 HasOnceTold content = IfTold content (λ kept. HasOnce kept.state)
+
+-- what is received in the store before is received in it after
+abbrev pub StaysTold : Option Stored → Option Stored → Type 0
+StaysTold old new = StaysReceived (told old).state (told new).state
 
 -- calls of the program over one store, one after another: each begins with what the one before it left
 pub data Calls_in_turn (store : StoreState) : StoreState → Type 0 where

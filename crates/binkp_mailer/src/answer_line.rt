@@ -3,7 +3,7 @@ ghost use Rattle.std.specs.Prelude.{◌≡◌, ℕ, None};
 ghost use Rattle.ftn_addr.specs.Address.{Address};
 ghost use Rattle.node_model.specs.Stores.{StoreState};
 ghost use Rattle.hub_core.specs.Seats.{IsMarkFree, IsSettled, told};
-ghost use Rattle.binkp_mailer.specs.TopCall.{Answers_line, Calls_in_turn, HasOnceTold, StatusCause};
+ghost use Rattle.binkp_mailer.specs.TopCall.{Answers_line, Calls_in_turn, HasOnceTold, StatusCause, StaysTold};
 ghost use Rattle.binkp_mailer.specs.Words.{AreWords, texts};
 ghost use Rattle.binkp_mailer.specs.declared.status.Status.TheVariants.{Usage};
 
@@ -39,9 +39,11 @@ pub fn run_line<S: Store, L: Line, O: Sink>(
     ensures usage { result.0 ≡ Usage → (home : Address) → AreWords (texts words.now) home → ⊥ }
     ensures session { Answers_line (texts words.now) now (L.state line.old) (S.stand store).state result.0 (L.state line.new) (S.stand result.1).state }
     ensures cause { StatusCause result.0 (L.state line.old) (L.state line.new) (S.stand store).state.counts (S.stand result.1).state.counts }
+    ensures silent { O.state _out.new ≡ O.state _out.old }
     ensures free { IsMarkFree (S.stand result.1).state.content }
     ensures settled { (S.stand result.1).state.counts.broken ≡ None → IsSettled (told (S.stand result.1).state.content).state (S.stand result.1) }
     ensures once { HasOnceTold (S.stand store).state.content → HasOnceTold (S.stand result.1).state.content }
+    ensures stays { StaysTold (S.stand store).state.content (S.stand result.1).state.content }
 {
     let home = match read_words(alloc, words) {
         Ok(home) => home,
@@ -61,6 +63,11 @@ pub fn run_line<S: Store, L: Line, O: Sink>(
 /// No sender and key gets two receipts over any number of calls over one store, whatever their statuses.
 pub fn one_receipt_over_calls()
     ensures { (store new : StoreState) → Calls_in_turn store new → HasOnceTold store.content → HasOnceTold new.content }
+{}
+
+/// What is received stays received over any number of calls over one store, whatever their statuses.
+pub fn receipts_stay_over_calls()
+    ensures { (store new : StoreState) → Calls_in_turn store new → StaysTold store.content new.content }
 {}
 
 #[cfg(test)]

@@ -9,7 +9,7 @@ mod answer_line;
 mod status;
 mod words;
 
-pub use answer_line::{SESSION_LIMIT, one_receipt_over_calls, run_line};
+pub use answer_line::{SESSION_LIMIT, one_receipt_over_calls, receipts_stay_over_calls, run_line};
 use binkp_link::{MemSink, StdLine};
 use ftn_addr::{Bytes, NoMemory};
 use node_model::ListStore;

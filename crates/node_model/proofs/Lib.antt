@@ -6,5 +6,6 @@ pub mod SameFiles
 pub mod SeatSessions
 pub mod OneReceipt
 pub mod ReceiptsAlong
+pub mod ReceiptsStay
 pub mod RisingCounts
 pub mod RisingFaults

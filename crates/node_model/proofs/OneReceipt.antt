@@ -173,8 +173,14 @@ refused_once seat old call (Disk count) new (inl same) s = subst (λ (n : Node).
 refused_once seat old call (Disk count) new (inr b) s = passes_once seat old call new.state b.passes s
 refused_once seat old call (Read count) new r s = absurd r
 refused_once seat old (File_call key offset) Full new r s = same_once old.state new.state (ap (λ (n : Node). n.state) r.1.after) s.once
+refused_once seat old (Knock_call role) Full new r s = absurd r
+refused_once seat old (Data_call bytes) Full new r s = absurd r
+refused_once seat old Leave_call Full new r s = absurd r
 refused_once seat old call Full new r s = same_once old.state new.state (ap (λ (n : Node). n.state) r.1) s.once
 refused_once seat old (File_call key offset) No_memory new r s = same_once old.state new.state (ap (λ (n : Node). n.state) r.1.after) s.once
+refused_once seat old (Knock_call role) No_memory new r s = absurd r
+refused_once seat old (Data_call bytes) No_memory new r s = absurd r
+refused_once seat old Leave_call No_memory new r s = absurd r
 refused_once seat old call No_memory new r s = same_once old.state new.state (ap (λ (n : Node). n.state) r.1) s.once
 
 refused_sound : (seat : ℕ) (old : Node) (call : Call) (fault : Fault) (new : Node) → NotMade seat old call fault new → Sound seat old → new.broken ≡ None → HoldsNew seat new
@@ -182,8 +188,14 @@ refused_sound seat old call (Disk count) new (inl same) s none = never_broken ne
 refused_sound seat old call (Disk count) new (inr b) s none = never_broken new.broken count b.broken none
 refused_sound seat old call (Read count) new r s none = absurd r
 refused_sound seat old (File_call key offset) Full new r s none = unheld_new seat r.1.session old new (ap (λ (n : Node). n.seats) r.1.after)
+refused_sound seat old (Knock_call role) Full new r s none = absurd r
+refused_sound seat old (Data_call bytes) Full new r s none = absurd r
+refused_sound seat old Leave_call Full new r s none = absurd r
 refused_sound seat old call Full new r s none = subst (HoldsNew seat) (sym r.1) (s.fresh r.0)
 refused_sound seat old (File_call key offset) No_memory new r s none = unheld_new seat r.1.session old new (ap (λ (n : Node). n.seats) r.1.after)
+refused_sound seat old (Knock_call role) No_memory new r s none = absurd r
+refused_sound seat old (Data_call bytes) No_memory new r s none = absurd r
+refused_sound seat old Leave_call No_memory new r s none = absurd r
 refused_sound seat old call No_memory new r s none = subst (HoldsNew seat) (sym r.1) (s.fresh r.0)
 
 pub step_sound : (seat : ℕ) (old : Node) (call : Call) (answer : Answer) (new : Node) → NodeStep seat old call answer new → Sound seat old → Sound seat new

@@ -38,8 +38,14 @@ refused_faults seat old call (Disk count) new (inr b) =
     subst (NoLess old.faults) (sym b.faults) (no_less-rose old.faults count b.rose)
 refused_faults seat old call (Read count) new r = absurd r
 refused_faults seat old (File_call key offset) Full new r = faults_is old new _ r.1.after refl
+refused_faults seat old (Knock_call role) Full new r = absurd r
+refused_faults seat old (Data_call bytes) Full new r = absurd r
+refused_faults seat old Leave_call Full new r = absurd r
 refused_faults seat old call Full new r = faults_is old new _ r.1 refl
 refused_faults seat old (File_call key offset) No_memory new r = faults_is old new _ r.1.after refl
+refused_faults seat old (Knock_call role) No_memory new r = absurd r
+refused_faults seat old (Data_call bytes) No_memory new r = absurd r
+refused_faults seat old Leave_call No_memory new r = absurd r
 refused_faults seat old call No_memory new r = faults_is old new _ r.1 refl
 
 pub step_faults : (seat : ℕ) (old : Node) (call : Call) (answer : Answer) (new : Node) → NodeStep seat old call answer new → NoLess old.faults new.faults

@@ -2,7 +2,7 @@ use Rattle.std.proofs.Common.{option_map}
 use Rattle.ftn_addr.specs.Address.{address}
 use Rattle.hub_core.specs.Seats.{sitting}
 use Rattle.binkp_mailer.specs.TopCall.{Held_one}
-use Rattle.binkp_mailer.proofs.TopCalls.{answers_once, answers_causes, from_node}
+use Rattle.binkp_mailer.proofs.TopCalls.{answers_once, answers_stay, answers_causes, from_node}
 use Rattle.binkp_mailer.proofs.answer_line.run_line.Goals as goal
 
 pub returns-clause-session : goal.returns-clause-session
@@ -18,6 +18,9 @@ returns-clause-session g c =
 
 pub returns-clause-once : goal.returns-clause-once
 returns-clause-once g c = answers_once _ _ _ _ _ _ _ (returns-clause-session g c)
+
+pub returns-clause-stays : goal.returns-clause-stays
+returns-clause-stays g c = answers_stay _ _ _ _ _ _ _ (returns-clause-session g c)
 
 pub returns-clause-free : goal.returns-clause-free
 returns-clause-free g c = rw c.into_store.ensures c.run_session-report.ensures.ready.free
