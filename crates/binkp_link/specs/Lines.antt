@@ -13,13 +13,18 @@ pub record LineBytes : Type 0 where
   pub coming : List ℕ
 
 -- a line: how often it failed, how many Quiets came since a byte last moved, how often it ended, whether its last call
--- moved no byte, and its bytes where it tells them
+-- moved no byte, whether this side closed it, and its bytes where it tells them
 pub record LineState : Type 0 where
   pub faults : ℕ
   pub calm : ℕ
   pub ends : ℕ
   pub idle : Bool
+  pub closed : Bool
   pub bytes : Option LineBytes
+
+-- closed on this side
+abbrev pub shut : LineState → LineState
+shut line = record line { closed = true }
 
 -- These bytes were taken and those were sent, on a line that tells them. Whether it tells them is changed by no call.
 abbrev pub Moves : List ℕ → List ℕ → Option LineBytes → Option LineBytes → Type 0
@@ -73,6 +78,8 @@ pub record IsRead (wait : Bool) (old : LineState) (answer : ReadAnswer) (buffer 
   pub faults : new.faults ≡ faults_after_read answer old.faults
   pub ends : new.ends ≡ ends_after_read answer old.ends
   pub idle : new.idle ≡ idle_after_read answer
+  pub was_open : old.closed ≡ false
+  pub is_open : new.closed ≡ false
 
 abbrev pub MayWrite : WriteAnswer → List ℕ → Type 0
 MayWrite (W.Wrote n) bytes = (0 < n) × (n ≤ length bytes)
@@ -99,6 +106,8 @@ pub record IsWrite (old : LineState) (answer : WriteAnswer) (bytes : List ℕ) (
   pub faults : new.faults ≡ faults_after_write answer old.faults
   pub ends : new.ends ≡ old.ends
   pub idle : new.idle ≡ idle_after_write answer
+  pub was_open : old.closed ≡ false
+  pub is_open : new.closed ≡ false
 
 -- What a sink's calls do to its count and, where it tells them, to its bytes.
 

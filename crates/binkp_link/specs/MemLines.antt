@@ -13,7 +13,7 @@ mem_state line =
 -- a line on which nothing was read or written, with those bytes to come
 abbrev pub new_line : List ℕ → LineState
 new_line coming =
-    record { faults = 0; calm = 0; ends = 0; idle = false; bytes = Some (record { taken = []; sent = []; coming = coming }) }
+    record { faults = 0; calm = 0; ends = 0; idle = false; closed = false; bytes = Some (record { taken = []; sent = []; coming = coming }) }
 
 -- the bytes sent on a line that tells them
 abbrev pub sent_on : LineState → Option (List ℕ)

@@ -4,9 +4,9 @@ use Rattle.binkp_link.specs.Lines.{LineState, LineBytes}
 use Rattle.binkp_link.specs.declared.counting.Tally.{Tally}
 
 abbrev pub nothing_counted : Tally
-nothing_counted = record { faults = 0; calm = 0; ends = 0; idle = false }
+nothing_counted = record { faults = 0; calm = 0; ends = 0; idle = false; closed = false }
 
 -- a line of those counts and bytes
 abbrev pub counted : Tally → Option LineBytes → LineState
 counted tally bytes =
-    record { faults = tally.faults; calm = tally.calm; ends = tally.ends; idle = tally.idle; bytes = bytes }
+    record { faults = tally.faults; calm = tally.calm; ends = tally.ends; idle = tally.idle; closed = tally.closed; bytes = bytes }

@@ -5,14 +5,15 @@ ghost use Rattle.binkp_link.specs.Tallies.{nothing_counted};
 
 use crate::{ReadAnswer, WriteAnswer};
 
-/// How often a line failed, how many Quiets came since a byte last moved, how often it ended, and whether its last
-/// call moved no byte.
+/// How often a line failed, how many Quiets came since a byte last moved, how often it ended, whether its last
+/// call moved no byte, and whether this side closed it.
 #[derive(Clone, Copy, Debug, PartialEq, Eq)]
 pub struct Tally {
     pub faults: u64,
     pub calm: u64,
     pub ends: u64,
     pub idle: bool,
+    pub closed: bool,
 }
 
 impl Tally {
@@ -25,6 +26,7 @@ impl Tally {
             calm: 0,
             ends: 0,
             idle: false,
+            closed: false,
         }
     }
 
@@ -34,6 +36,7 @@ impl Tally {
         ensures calm { self.new.calm ≡ calm_after_read answer self.old.calm }
         ensures ends { self.new.ends ≡ ends_after_read answer self.old.ends }
         ensures idle { self.new.idle ≡ idle_after_read answer }
+        ensures closed { self.new.closed ≡ self.old.closed }
     {
         self.idle = true;
         match answer {
@@ -54,6 +57,7 @@ impl Tally {
         ensures calm { self.new.calm ≡ calm_after_write answer self.old.calm }
         ensures ends { self.new.ends ≡ self.old.ends }
         ensures idle { self.new.idle ≡ idle_after_write answer }
+        ensures closed { self.new.closed ≡ self.old.closed }
     {
         self.idle = true;
         match answer {

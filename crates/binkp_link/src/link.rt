@@ -1,6 +1,6 @@
 //! A line to a peer and a sink for text, as a session uses them.
-ghost use Rattle.std.specs.Prelude.{◌≡◌, ◌<◌, length, OnOk, OnErr};
-ghost use Rattle.binkp_link.specs.Lines.{LineState, SinkState, IsRead, IsWrite, PutsAll, PutsFront};
+ghost use Rattle.std.specs.Prelude.{◌≡◌, ◌<◌, false, length, OnOk, OnErr};
+ghost use Rattle.binkp_link.specs.Lines.{LineState, SinkState, IsRead, IsWrite, PutsAll, PutsFront, shut};
 
 use ftn_addr::Failed;
 
@@ -27,7 +27,8 @@ pub enum WriteAnswer {
     Failed,
 }
 
-/// A line to a peer. Contracts see its counts and, where it tells them, its bytes.
+/// A line to a peer. Contracts see its counts, whether it is closed on this side and, where it tells them, its
+/// bytes. A closed line is neither read nor written.
 pub trait Line {
     ghost state: { Self → LineState };
 
@@ -48,16 +49,18 @@ pub trait Line {
         ensures { result ≡ (state self.now).idle };
 
     fn read(&mut self, out: &mut [u8], wait: bool) -> ReadAnswer
-        requires { 0 < length out.old }
+        requires some { 0 < length out.old }
+        requires open { (state self.old).closed ≡ false }
         ensures { IsRead wait (state self.old) result out.new (state self.new) };
 
     fn write(&mut self, bytes: &[u8]) -> WriteAnswer
-        requires { 0 < length bytes.now }
+        requires some { 0 < length bytes.now }
+        requires open { (state self.old).closed ≡ false }
         ensures { IsWrite (state self.old) result bytes.now (state self.new) };
 
     /// Ends the line on this side.
     fn close(&mut self)
-        ensures { state self.new ≡ state self.old };
+        ensures { state self.new ≡ shut (state self.old) };
 }
 
 /// Where text for the user goes. Contracts see its count of faults and, where it tells them, its bytes.

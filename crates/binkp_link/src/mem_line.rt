@@ -1,5 +1,5 @@
 //! A line in memory, which plays two scripts and keeps what was written.
-ghost use Rattle.std.specs.Prelude.{◌≡◌, ◌<◌, ◌++◌, [], length, map, Some};
+ghost use Rattle.std.specs.Prelude.{◌≡◌, ◌<◌, ◌++◌, false, [], length, map, Some, IfOk};
 ghost use Rattle.binkp_link.specs.Lines.{IsRead, IsWrite, MayWrite, came, went};
 ghost use Rattle.binkp_link.specs.Scripts.{AllGiveSome, AllTakeSome, PlaysRead, PlaysWrite, act_of, read_turn, script_bytes};
 ghost use Rattle.binkp_link.specs.MemLines.{mem_state, new_line, sent_on};
@@ -85,7 +85,8 @@ impl Line for MemLine {
     }
 
     fn read(&mut self, out: &mut [u8], wait: bool) -> ReadAnswer
-        requires { 0 < length out.old }
+        requires some { 0 < length out.old }
+        requires open { (mem_state self.old).closed ≡ false }
         ensures meets { IsRead wait (mem_state self.old) result out.new (mem_state self.new) }
         ensures plays { PlaysRead (read_turn wait (length out.old) self.old.reads.left) result (came result out.new) self.new.reads.left }
         ensures writes { self.new.writes ≡ self.old.writes }
@@ -97,7 +98,8 @@ impl Line for MemLine {
 
     /// A write that finds no memory fails and plays no act.
     fn write(&mut self, bytes: &[u8]) -> WriteAnswer
-        requires { 0 < length bytes.now }
+        requires some { 0 < length bytes.now }
+        requires open { (mem_state self.old).closed ≡ false }
         ensures meets { IsWrite (mem_state self.old) result bytes.now (mem_state self.new) }
         ensures plays { PlaysWrite self.old.writes (length bytes.now) result self.new.writes }
         ensures reads { self.new.reads ≡ self.old.reads }
@@ -107,7 +109,9 @@ impl Line for MemLine {
         answer
     }
 
-    fn close(&mut self) {}
+    fn close(&mut self) {
+        self.tally.closed = true;
+    }
 }
 
 #[cfg(test)]
@@ -119,6 +123,7 @@ mod tests {
     fn line_of(alloc: Global, bytes: &[u8], writes: Vec<WriteAct>) -> Result<MemLine, Fail>
         requires some { 0 < length bytes.now }
         requires take { AllTakeSome writes.items }
+        ensures { IfOk result (λ line. (mem_state line).closed ≡ false) }
     {
         let mut reads = Vec::new(alloc);
         reads.push(ReadAct::NotYet)?;

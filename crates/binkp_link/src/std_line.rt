@@ -82,7 +82,8 @@ impl<I: Read, O: Write> Line for StdLine<I, O> {
     }
 
     fn read(&mut self, out: &mut [u8], wait: bool) -> ReadAnswer
-        requires { 0 < length out.old }
+        requires some { 0 < length out.old }
+        requires open { (std_state self.old.tally).closed ≡ false }
         ensures meets { IsRead wait (std_state self.old.tally) result out.new (std_state self.new.tally) }
         ensures waits { IsStdRead wait result out.new }
         ensures input { HasRead result out.new (I.remaining self.old.input) (I.remaining self.new.input) }
@@ -99,7 +100,8 @@ impl<I: Read, O: Write> Line for StdLine<I, O> {
     }
 
     fn write(&mut self, bytes: &[u8]) -> WriteAnswer
-        requires { 0 < length bytes.now }
+        requires some { 0 < length bytes.now }
+        requires open { (std_state self.old.tally).closed ≡ false }
         ensures meets { IsWrite (std_state self.old.tally) result bytes.now (std_state self.new.tally) }
         ensures all { IsStdWrite result bytes.now }
         ensures output { HasWritten result bytes.now (O.contents self.old.output) (O.contents self.new.output) }
@@ -111,7 +113,9 @@ impl<I: Read, O: Write> Line for StdLine<I, O> {
     }
 
     /// The system ends the line with the program.
-    fn close(&mut self) {}
+    fn close(&mut self) {
+        self.tally.closed = true;
+    }
 }
 
 #[cfg(test)]

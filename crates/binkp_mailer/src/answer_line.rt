@@ -1,5 +1,5 @@
 //! The program's call.
-ghost use Rattle.std.specs.Prelude.{◌≡◌, ℕ, None};
+ghost use Rattle.std.specs.Prelude.{◌≡◌, ℕ, false, None};
 ghost use Rattle.ftn_addr.specs.Address.{Address};
 ghost use Rattle.node_model.specs.Stores.{StoreState};
 ghost use Rattle.hub_core.specs.Seats.{IsMarkFree, IsSettled, told};
@@ -20,7 +20,8 @@ use std::alloc::Global;
 pub const SESSION_LIMIT: u64 = 17_592_186_044_416;
 
 /// Answers the one caller on the line, where the words are `answer` and the own address, and gives the
-/// store back. The store isn't broken and no file in it has a mark; the line was not used yet.
+/// store back. The store isn't broken and no file in it has a mark; the line was not used yet. A session closes
+/// the line at its end.
 ///
 /// Nothing is printed and nothing is random yet: `random` and `out` are for later.
 pub fn run_line<S: Store, L: Line, O: Sink>(
@@ -36,6 +37,7 @@ pub fn run_line<S: Store, L: Line, O: Sink>(
     requires whole { (S.stand store).state.counts.broken ≡ None }
     requires settled { IsSettled (told (S.stand store).state.content).state (S.stand store) }
     requires calm { (L.state line.old).calm ≡ 0 }
+    requires open { (L.state line.old).closed ≡ false }
     ensures usage { result.0 ≡ Usage → (home : Address) → AreWords (texts words.now) home → ⊥ }
     ensures session { Answers_line (texts words.now) now (L.state line.old) (S.stand store).state result.0 (L.state line.new) (S.stand result.1).state }
     ensures cause { StatusCause result.0 (L.state line.old) (L.state line.new) (S.stand store).state.counts (S.stand result.1).state.counts }

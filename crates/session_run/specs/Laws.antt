@@ -9,7 +9,7 @@ use Rattle.session_core.specs.declared.ending.Cause.{Cause}
 use Rattle.session_core.specs.declared.ending.End.{End}
 use Rattle.session_core.specs.declared.ending.End.TheVariants as E
 use Rattle.session_core.specs.declared.ending.Took.TheVariants as T
-use Rattle.binkp_link.specs.Lines.{LineState, Moves}
+use Rattle.binkp_link.specs.Lines.{LineState, Moves, shut}
 use Rattle.session_core.specs.Sessions.{Setting, Stage, Talks, Reply, Row, frame_number}
 use Rattle.session_run.specs.Machine.{World, Phase, Over, Draining, Closed, Reach, opening}
 
@@ -120,12 +120,13 @@ pub record Facts (alone : Bool) (line : LineState) (desk : DeskState) (w : World
   pub desk_cause : alone ≡ true → DeskCauseAt w.phase (counts_of desk.knows) (counts_of w.desk.knows)
   pub own_cause : OwnCauseAt w.phase w.setting w.stage w.frames w.taken w.sent
 
--- A session that ended so, over this line and this desk: a run from the opening to its close, and what holds of it.
+-- A session that ended so, over this line and this desk: a run from the opening to its close, and what holds of it. The
+-- line is then closed on this side.
 pub record IsSession (alone : Bool) (setting : Setting) (line : LineState) (desk : DeskState) (end : End) (taken : ℕ) (line' : LineState) (desk' : DeskState) : Type 0 where
   pub last : World
   pub run : Reach alone (opening setting line desk) last
   pub closed : last.phase ≡ Closed end
-  pub line_is : last.line ≡ line'
+  pub line_is : shut last.line ≡ line'
   pub desk_is : last.desk ≡ desk'
   pub taken_is : length last.taken ≡ taken
   pub facts : Facts alone line desk last

@@ -155,11 +155,13 @@ impl Run {
     fn write_once<L: Line>(&mut self, line: &mut L, waits: bool, limit: u64) -> Option<End>
         requires within { InLimit limit self.old (L.state line.old).calm }
         requires limit { limit ≤ 2 ^ 62 }
+        requires open { (L.state line.old).closed ≡ false }
         ensures went { (alone : Bool) (s : Lent) (desk : DeskState) → s.limit ≡ limit →
             Goes alone s (spot self.old (L.state line.old) desk [] (Writing waits)) (spot self.new (L.state line.new) desk [] (over_or result (Reading waits))) }
         ensures session { self.new.session ≡ self.old.session }
         ensures piece { self.new.piece.list ≡ self.old.piece.list }
         ensures idle { self.old.out.list ≡ [] → self.new.out.list ≡ [] }
+        ensures open { (L.state line.new).closed ≡ false }
         ensures advances { IfNone result (Advances limit self.old self.new (L.state line.old).calm (L.state line.new).calm (0 < length self.old.out.list)) }
     {
         if self.out.is_empty() {
@@ -198,9 +200,11 @@ impl Run {
     fn read_once<L: Line>(&mut self, line: &mut L, waits: bool, limit: u64) -> Option<End>
         requires within { InLimit limit self.old (L.state line.old).calm }
         requires limit { limit ≤ 2 ^ 62 }
+        requires open { (L.state line.old).closed ≡ false }
         ensures went { (alone : Bool) (s : Lent) (desk : DeskState) → s.limit ≡ limit →
             Goes alone s (spot self.old (L.state line.old) desk [] (Reading waits)) (spot self.new (L.state line.new) desk [] (over_or result Taking)) }
         ensures session { self.new.session ≡ self.old.session }
+        ensures open { (L.state line.new).closed ≡ false }
         ensures advances { IfNone result (Advances limit self.old self.new (L.state line.old).calm (L.state line.new).calm ((waits ≡ true) × (self.old.out.list ≡ []))) }
     {
         if self.piece.reserve(4096).is_err() {
@@ -224,9 +228,11 @@ impl Run {
         requires sits { Sits (K.ready desk.old) (K.part desk.old) (stage_of self.old.session.stage) }
         requires within { InLimit setting.now.limit self.old (L.state line.old).calm }
         requires limit { setting.now.limit ≤ 2 ^ 62 }
+        requires open { (L.state line.old).closed ≡ false }
         ensures went { Goes K.alone (setting_of setting.now) (spot self.old (L.state line.old) (K.stand desk.old).state [] Taking) (spot self.new (L.state line.new) (K.stand desk.new).state [] (over_or result Taking)) }
         ensures ready { K.ready desk.new }
         ensures sits { IfNone result (Sits (K.ready desk.new) (K.part desk.new) (stage_of self.new.session.stage)) }
+        ensures open { (L.state line.new).closed ≡ false }
         ensures goes_on { IfNone result (InLimit setting.now.limit self.new (L.state line.new).calm) }
         ensures progress { IfNone result (room setting.now.limit self.new (L.state line.new).calm < room setting.now.limit self.old (L.state line.old).calm) }
     {
@@ -277,7 +283,9 @@ impl Run {
         requires some { 0 < setting.now.limit }
         requires limit { setting.now.limit ≤ 2 ^ 62 }
         requires calm { (L.state line.old).calm ≡ 0 }
+        requires open { (L.state line.old).closed ≡ false }
         ensures went { Goes K.alone (setting_of setting.now) (spot self.old (L.state line.old) (K.stand desk.old).state [] Starting) (spot self.new (L.state line.new) (K.stand desk.new).state [] (Over result)) }
+        ensures open { (L.state line.new).closed ≡ false }
         ensures ready { K.ready desk.new }
     {
         match self.greet(alloc, setting, desk) {
@@ -337,6 +345,7 @@ fn is_mute(end: End) -> bool
 
 /// Writes what is left once the session is over, as far as that goes.
 fn drain<L: Line>(out: &mut Bytes, line: &mut L, end: End)
+    requires { (L.state line.old).closed ≡ false }
     ensures { (alone : Bool) (w : World) → IsLeft (L.state line.old) out.old.list end w → IsClosed alone w (L.state line.new) end }
 {
     if is_mute(end) {
@@ -363,7 +372,7 @@ pub struct Report {
     pub taken: u64,
 }
 
-/// One whole answering session over a line.
+/// One whole answering session over a line, which is closed at its end.
 pub fn run_session<L: Line, K: Desk>(
     alloc: Global,
     line: &mut L,
@@ -376,6 +385,7 @@ pub fn run_session<L: Line, K: Desk>(
     requires some { 0 < setting.now.limit }
     requires limit { setting.now.limit ≤ 2 ^ 62 }
     requires calm { (L.state line.old).calm ≡ 0 }
+    requires open { (L.state line.old).closed ≡ false }
     ensures session { IsSession K.alone (setting_of setting.now) (L.state line.old) (K.stand desk.old).state result.end result.taken (L.state line.new) (K.stand desk.new).state }
     ensures ready { K.ready desk.new }
 {

@@ -1,4 +1,4 @@
-ghost use Rattle.std.specs.Prelude.{◌≡◌, ◌<◌, None, map, IfOk, IfSome};
+ghost use Rattle.std.specs.Prelude.{◌≡◌, ◌<◌, false, None, map, IfOk, IfSome};
 ghost use Rattle.node_model.specs.ListStates.{stand_of};
 ghost use Rattle.binkp_link.specs.MemLines.{mem_state};
 ghost use Rattle.binkp_link.specs.Scripts.{AllGiveSome, act_of};
@@ -41,7 +41,7 @@ fn joined(alloc: Global, pieces: &[&[u8]]) -> Result<Bytes, NoMemory> {
 
 // A line on which these bytes come, byte by byte, then one Quiet and the end.
 fn slow_line(alloc: Global, bytes: &[u8]) -> Result<MemLine, NoMemory>
-    ensures { IfOk result (λ line. (mem_state line).calm ≡ 0) }
+    ensures { IfOk result (λ line. ((mem_state line).calm ≡ 0) × ((mem_state line).closed ≡ false)) }
 {
     let mut reads = Vec::new(alloc);
     for byte in bytes {
@@ -53,7 +53,7 @@ fn slow_line(alloc: Global, bytes: &[u8]) -> Result<MemLine, NoMemory>
 
 // A line on which these bytes come at once, then one Quiet and the end.
 fn fast_line(alloc: Global, bytes: &[u8]) -> Result<MemLine, NoMemory>
-    ensures { IfOk result (λ line. (mem_state line).calm ≡ 0) }
+    ensures { IfOk result (λ line. ((mem_state line).calm ≡ 0) × ((mem_state line).closed ≡ false)) }
 {
     let mut reads = Vec::new(alloc);
     if !bytes.is_empty() {
@@ -79,6 +79,7 @@ fn answer(
     requires free { IsMarkFree (stand_of store).state.content }
     requires whole { (stand_of store).state.counts.broken ≡ None }
     requires calm { (mem_state line.old).calm ≡ 0 }
+    requires open { (mem_state line.old).closed ≡ false }
     ensures { IfOk result (λ after. IsMarkFree (stand_of after.1).state.content) }
 {
     let words = words(alloc, b"2:5020/1042@fidonet")?;

@@ -1,5 +1,5 @@
 //! What a caller gets whose line, or whose node's store, fails or is silent.
-ghost use Rattle.std.specs.Prelude.{◌≡◌, map, IfOk, OnOk};
+ghost use Rattle.std.specs.Prelude.{◌≡◌, false, map, IfOk, OnOk};
 ghost use Rattle.binkp_link.specs.Scripts.{AllGiveSome, act_of};
 ghost use Rattle.binkp_link.specs.MemLines.{mem_state};
 
@@ -26,7 +26,7 @@ fn push_quiets(reads: &mut Vec<ReadAct>, many: u32) -> Result<(), NoMemory>
 
 // Behind the login so many reads that wait for nothing, a byte, and so many again, and then the end.
 fn silent_line(alloc: Global, first: u32, last: u32) -> Result<MemLine, NoMemory>
-    ensures { IfOk result (λ line. (mem_state line).calm ≡ 0) }
+    ensures { IfOk result (λ line. ((mem_state line).calm ≡ 0) × ((mem_state line).closed ≡ false)) }
 {
     let mut reads = Vec::new(alloc);
     reads.push(ReadAct::Bytes(Bytes::from_slice(alloc, LOGIN)?))?;

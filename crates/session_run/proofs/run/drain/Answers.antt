@@ -17,35 +17,41 @@ pub returns-then-is_mute : goal.returns-then-is_mute
 returns-then-is_mute g c = λ alone w at. closed_mute alone w _ _ _ (begun alone w _ _ _ at) (sym c.is_mute.ensures ∙ c.if-is_mute.true)
 
 pub loop-line-init : goal.loop-line-init
-loop-line-init g c = λ alone w at. begun alone w _ _ _ at
+loop-line-init g c = record { left = λ alone w at. begun alone w _ _ _ at; unclosed = c.requires }
 
 pub loop-line-preserved-in-Wrote : goal.loop-line-preserved-in-Wrote
-loop-line-preserved-in-Wrote g c = λ alone w at.
-    drained alone w _ _ _ _ _ _ _ (c.loop-line.invariant alone w at) (sym c.is_mute.ensures ∙ c.if-is_mute.false)
-    (some_left _ _ refl (eqb-false (length c.loop-line.out.list) 0 (sym c.loop-line-test.ensures)))
-    (at_bytes _ _ _ _ _ c.as_slice.ensures c.in-Wrote.ensures)
-    (sym (take-append-drop c.in-Wrote.n c.loop-line.out.list) ∙ ap (λ rest. take c.in-Wrote.n c.loop-line.out.list ++ rest) (sym c.drop_front.ensures)) refl
+loop-line-preserved-in-Wrote g c = record {
+  left = λ alone w at.
+      drained alone w _ _ _ _ _ _ _ (c.loop-line.invariant.left alone w at) (sym c.is_mute.ensures ∙ c.if-is_mute.false)
+      (some_left _ _ refl (eqb-false (length c.loop-line.out.list) 0 (sym c.loop-line-test.ensures)))
+      (at_bytes _ _ _ _ _ c.as_slice.ensures c.in-Wrote.ensures)
+      (sym (take-append-drop c.in-Wrote.n c.loop-line.out.list) ∙ ap (λ rest. take c.in-Wrote.n c.loop-line.out.list ++ rest) (sym c.drop_front.ensures)) refl;
+  unclosed = c.in-Wrote.ensures.is_open;
+}
 
 pub loop-line-preserved : goal.loop-line-preserved
-loop-line-preserved g c = λ alone w at.
-    drained alone w _ _ _ _ _ _ _ (c.loop-line.invariant alone w at) (sym c.is_mute.ensures ∙ c.if-is_mute.false)
-    (some_left _ _ refl (eqb-false (length c.loop-line.out.list) 0 (sym c.loop-line-test.ensures)))
-    (at_bytes _ _ _ _ _ c.as_slice.ensures c.in-Quiet.ensures)
-    refl (not_yet _ c.args.end (omega (arith, c.calm.ensures, c.if-calm-ge60.false)))
+loop-line-preserved g c = record {
+  left = λ alone w at.
+      drained alone w _ _ _ _ _ _ _ (c.loop-line.invariant.left alone w at) (sym c.is_mute.ensures ∙ c.if-is_mute.false)
+      (some_left _ _ refl (eqb-false (length c.loop-line.out.list) 0 (sym c.loop-line-test.ensures)))
+      (at_bytes _ _ _ _ _ c.as_slice.ensures c.in-Quiet.ensures)
+      refl (not_yet _ c.args.end (omega (arith, c.calm.ensures, c.if-calm-ge60.false)));
+  unclosed = c.in-Quiet.ensures.is_open;
+}
 
 pub returns-then-calm-ge60 : goal.returns-then-calm-ge60
 returns-then-calm-ge60 g c = λ alone w at. closed_by alone w _ _ _
-    (drained alone w _ _ _ _ _ _ _ (c.loop-line.invariant alone w at) (sym c.is_mute.ensures ∙ c.if-is_mute.false)
+    (drained alone w _ _ _ _ _ _ _ (c.loop-line.invariant.left alone w at) (sym c.is_mute.ensures ∙ c.if-is_mute.false)
     (some_left _ _ refl (eqb-false (length c.loop-line.out.list) 0 (sym c.loop-line-test.ensures)))
     (at_bytes _ _ _ _ _ c.as_slice.ensures c.in-Quiet.ensures)
     refl (sixtieth _ c.args.end (omega (arith, c.calm.ensures, c.if-calm-ge60.true))))
 
 pub returns-in-Failed : goal.returns-in-Failed
 returns-in-Failed g c = λ alone w at. closed_by alone w _ _ _
-    (drained alone w _ _ _ _ _ _ _ (c.loop-line.invariant alone w at) (sym c.is_mute.ensures ∙ c.if-is_mute.false)
+    (drained alone w _ _ _ _ _ _ _ (c.loop-line.invariant.left alone w at) (sym c.is_mute.ensures ∙ c.if-is_mute.false)
     (some_left _ _ refl (eqb-false (length c.loop-line.out.list) 0 (sym c.loop-line-test.ensures)))
     (at_bytes _ _ _ _ _ c.as_slice.ensures c.in-Failed.ensures)
     refl refl)
 
 pub returns : goal.returns
-returns g c = λ alone w at. closed_empty alone w _ _ _ (c.loop-line.invariant alone w at) (is_nothing _ (eqb-true (length c.loop-line.out.list) 0 (sym c.loop-line-test.ensures)))
+returns g c = λ alone w at. closed_empty alone w _ _ _ (c.loop-line.invariant.left alone w at) (is_nothing _ (eqb-true (length c.loop-line.out.list) 0 (sym c.loop-line-test.ensures)))

@@ -1,10 +1,13 @@
-use Rattle.std.proofs.Common.{◌+◌, ◌-◌, ◌*◌, Bool, length}
+use Rattle.std.proofs.Common.{◌≡◌, ◌+◌, ◌-◌, ◌*◌, Bool, false, length}
 use Rattle.session_run.specs.Machine.{World, IsLeft, Draining}
 use Rattle.session_run.proofs.Left.{Drained}
 use Rattle.session_run.proofs.run.drain.Given as goal
 
 abbrev pub invariant-loop-line : goal.invariant-loop-line
-invariant-loop-line g l = (alone : Bool) (w : World) → IsLeft (g.L.Line.state l.fn.line) l.fn.out.list l.fn.end w → Drained alone w (g.L.Line.state l.line) l.out.list (Draining l.fn.end)
+invariant-loop-line g l = record {
+  left : (alone : Bool) (w : World) → IsLeft (g.L.Line.state l.fn.line) l.fn.out.list l.fn.end w → Drained alone w (g.L.Line.state l.line) l.out.list (Draining l.fn.end);
+  unclosed : (g.L.Line.state l.line).closed ≡ false;
+}
 
 abbrev pub decreases-loop-line : goal.decreases-loop-line
 decreases-loop-line g l = 64 * length l.out.list + (63 - (g.L.Line.state l.line).calm)

@@ -1,7 +1,7 @@
 use Rattle.std.proofs.Common.{ap, sym, ◌∙◌, length}
 use Rattle.node_model.specs.Calls.{DeskState}
 use Rattle.hub_core.specs.Desks.{leave_answer}
-use Rattle.binkp_link.specs.Lines.{LineState}
+use Rattle.binkp_link.specs.Lines.{LineState, shut}
 use Rattle.session_core.specs.Replies.{setting_of}
 use Rattle.session_run.specs.Machine.{World, Draining, opening}
 use Rattle.session_run.proofs.Runs.{reach_trans, at_opening, left_it, goes_then, ends_at}
@@ -20,7 +20,7 @@ returns-clause-session g c =
       last = z.last;
       run = reach_trans x.1 z.reached;
       closed = z.phase;
-      line_is = z.line_is ∙ sym c.close.ensures;
+      line_is = ap shut z.line_is ∙ sym c.close.ensures;
       desk_is = z.desk_is ∙ x.2.desk_is;
       taken_is = ap length z.taken_is ∙ x.2.taken;
       facts = facts_on g.K.Desk.alone line desk w z.last (facts_open g.K.Desk.alone (setting_of c.args.setting.now) line desk) (reach_trans x.1 z.reached);

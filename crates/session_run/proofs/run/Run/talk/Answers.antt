@@ -9,6 +9,7 @@ loop-end-preserved g c = record {
   went = ends_at (goes_then c.loop-end.invariant.went c.turn.ensures.went) (ap (λ end. over_or end Taking) c.in-None.is);
   sits = c.in-None.ensures.sits;
   within = c.in-None.ensures.goes_on;
+  unclosed = c.turn.ensures.open;
 }
 
 pub returns-in-Some-clause-went : goal.returns-in-Some-clause-went
