@@ -1,5 +1,5 @@
 //! The program's call.
-ghost use Rattle.std.specs.Prelude.{◌≡◌, ℕ, false, None};
+ghost use Rattle.std.specs.Prelude.{◌≡◌, false, None};
 ghost use Rattle.ftn_addr.specs.Address.{Address};
 ghost use Rattle.node_model.specs.Stores.{StoreState};
 ghost use Rattle.hub_core.specs.Seats.{IsMarkFree, IsSettled, told};

@@ -196,8 +196,8 @@ file_refused a b c m x y z key fault word is lets takes l =
 
 -- No session number is left.
 
-pub begin_refused : (a b : StoreStand) (m : ℕ) (x : Option Sitting) (role : Role) (peers : List Address) (secure : Bool) (moment : ℕ) (fault : StoreFault) (word : Fault) → word ≡ fault_in fault b.state.counts.faults → a.state.counts.broken ≡ None → RefusedBy (λ d. d ≡ state_in a.state) fault a.state b.state → Leaves (λ d. d ≡ state_in a.state) a b → Kept true (seat_stand a m x) (Open_call role peers secure moment) (Refused word) (seat_stand b m x)
-begin_refused a b m x role peers secure moment fault word is whole refused l =
+pub begin_refused : (a b : StoreStand) (m : ℕ) (x : Option Sitting) (role : Role) (peers : List Address) (secure : Bool) (moment : ℕ) (fault : StoreFault) (word : Fault) → m ≡ 4294967295 → word ≡ fault_in fault b.state.counts.faults → a.state.counts.broken ≡ None → RefusedBy (λ d. d ≡ state_in a.state) fault a.state b.state → Leaves (λ d. d ≡ state_in a.state) a b → Kept true (seat_stand a m x) (Open_call role peers secure moment) (Refused word) (seat_stand b m x)
+begin_refused a b m x role peers secure moment fault word last is whole refused l =
     subst (λ (w : Fault). Kept true (seat_stand a m x) (Open_call role peers secure moment) (Refused w) (seat_stand b m x)) (sym is) (go fault refused)
   where
     passes : Leaves (Passes 0 (node_of a.state m x) (Open_call role peers secure moment)) a b
@@ -212,7 +212,7 @@ begin_refused a b m x role peers secure moment fault word is whole refused l =
         let fulls : b.state.counts.fulls ≡ risen a.state.counts.fulls = ap (λ (k : Counts). k.fulls) counts in
         let rose : Rose a.state.counts.fulls b.state.counts.fulls = omega (arith, fulls) in
         let same : b.state.counts ≡ record a.state.counts { fulls = b.state.counts.fulls } = counts ∙ ap (λ (n : ℕ). record a.state.counts { fulls = n }) (sym fulls) in
-        kept_of a b m m x x (Open_call role peers secure moment) (Refused Full) (rose, same) (whole, fulls_node a.state b.state m x x refl after) passes (λ answered. absurd answered)
+        kept_of a b m m x x (Open_call role peers secure moment) (Refused Full) (rose, same) (whole, last, fulls_node a.state b.state m x x refl after) passes (λ answered. absurd answered)
     go D.NoMemory after =
         kept_of a b m m x x (Open_call role peers secure moment) (Refused No_memory) (ap (λ (t : StoreState). t.counts) after) (whole, ap (λ (t : StoreState). node_of t m x) after) passes (λ answered. absurd answered)
 

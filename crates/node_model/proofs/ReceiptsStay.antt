@@ -1,5 +1,5 @@
 -- What is received stays received, whatever is called, and in every state that a stop may leave.
-use Rattle.std.proofs.Common.{◌≡◌, ℕ, zero, suc, Bool, true, false, ◌||◌, List, [], ◌∷◌, ◌++◌, None, refl, sym, ap, subst, inl, inr}
+use Rattle.std.proofs.Common.{◌≡◌, ℕ, zero, suc, Bool, true, false, ◌||◌, List, [], ◌∷◌, ◌++◌, refl, sym, ap, subst, inl, inr}
 use Rattle.ftn_addr.specs.Files.{is_same}
 use Rattle.ftn_addr.specs.Key.{Key}
 use Rattle.node_model.specs.Items.{Receipt}
@@ -69,6 +69,7 @@ refused_stays seat old (File_call key offset) Full new r = stays_inbox old.state
 refused_stays seat old (Knock_call role) Full new r = absurd r
 refused_stays seat old (Data_call bytes) Full new r = absurd r
 refused_stays seat old Leave_call Full new r = absurd r
+refused_stays seat old (Open_call role peers secure moment) Full new r = stays_inbox old.state new.state (ap (λ (n : Node). n.state.inbox) r.2)
 refused_stays seat old call Full new r = stays_inbox old.state new.state (ap (λ (n : Node). n.state.inbox) r.1)
 refused_stays seat old (File_call key offset) No_memory new r = stays_inbox old.state new.state (ap (λ (n : Node). n.state.inbox) r.1.after)
 refused_stays seat old (Knock_call role) No_memory new r = absurd r

@@ -41,6 +41,7 @@ refused_faults seat old (File_call key offset) Full new r = faults_is old new _ 
 refused_faults seat old (Knock_call role) Full new r = absurd r
 refused_faults seat old (Data_call bytes) Full new r = absurd r
 refused_faults seat old Leave_call Full new r = absurd r
+refused_faults seat old (Open_call role peers secure moment) Full new r = faults_is old new _ r.2 refl
 refused_faults seat old call Full new r = faults_is old new _ r.1 refl
 refused_faults seat old (File_call key offset) No_memory new r = faults_is old new _ r.1.after refl
 refused_faults seat old (Knock_call role) No_memory new r = absurd r

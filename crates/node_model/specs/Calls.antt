@@ -109,13 +109,14 @@ pub record FileRefused (seat fulls : ℕ) (old new : Node) : Type 0 where
   pub has : session_at old seat ≡ Some session
   pub after : new ≡ record (released seat session old) { fulls = fulls }
 
--- A call that is refused. Only reading answers Read, and its row comes with later work. A knock, data and
--- leaving want no place and no memory: the disk alone refuses them.
+-- A call that is refused. Only reading answers Read, and its row comes with later work. A knock, data and leaving want
+-- no place and no memory: the disk alone refuses them. A session finds no room where the last number is used.
 abbrev pub NotMade : ℕ → Node → Call → Fault → Node → Type 0
 NotMade seat old call (Disk count) new = ((old.broken ≡ Some count) × (new ≡ old)) ⊎ Breaks seat old call count new
 NotMade seat old call (Read count) new = ⊥
 NotMade seat old (File_call key offset) Full new = (old.broken ≡ None) × FileRefused seat (risen old.fulls) old new
 NotMade seat old (Knock_call role) Full new = ⊥
+NotMade seat old (Open_call role peers secure moment) Full new = (old.broken ≡ None) × (old.begun ≡ 4294967295) × (new ≡ record old { fulls = risen old.fulls })
 NotMade seat old (Data_call bytes) Full new = ⊥
 NotMade seat old Leave_call Full new = ⊥
 NotMade seat old call Full new = (old.broken ≡ None) × (new ≡ record old { fulls = risen old.fulls })

@@ -1,7 +1,6 @@
-ghost use Rattle.std.specs.Prelude.{◌≡◌, ◌<◌, false, None, map, IfOk, IfSome};
+ghost use Rattle.std.specs.Prelude.{◌≡◌, ◌<◌, false, None, IfOk, IfSome};
 ghost use Rattle.node_model.specs.ListStates.{stand_of};
 ghost use Rattle.binkp_link.specs.MemLines.{mem_state};
-ghost use Rattle.binkp_link.specs.Scripts.{AllGiveSome, act_of};
 ghost use Rattle.hub_core.specs.Seats.{IsMarkFree};
 
 use crate::{Status, run_line};
