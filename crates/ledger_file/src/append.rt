@@ -14,7 +14,7 @@ use crate::ledger::Ledger;
 use crate::publish::publish;
 use crate::records::{Records, bytes_of};
 use disk_model::Disk;
-use ftn_addr::{Bytes, Failed};
+use ftn_addr::Bytes;
 
 impl Ledger {
     /// Appends a payload of 1 to 1,400 bytes. It uses a reserved place where there is one.
@@ -42,13 +42,8 @@ impl Ledger {
         let count = self.records.count();
         self.records.make_room(payload.len() + 3, 1)?;
         self.records.push(payload);
-        match keep_behind(&mut self.records, disk, count) {
-            Ok(()) => {
-                self.reserved = self.reserved.saturating_sub(1);
-                Ok(())
-            }
-            Err(_) => Err(AppendFault::Disk),
-        }
+        keep_behind(&mut self.records, &mut self.reserved, disk, count)?;
+        Ok(())
     }
 
     /// Appends payloads of 1 to 1,400 bytes in one durable change. Each uses a reserved place where there
@@ -85,37 +80,44 @@ impl Ledger {
         let count = self.records.count();
         self.records.make_room(bytes_of(payloads), payloads.len())?;
         self.records.push_all(payloads);
-        match keep_behind(&mut self.records, disk, count) {
-            Ok(()) => {
-                self.reserved = self.reserved.saturating_sub(payloads.len() as u32);
-                Ok(())
-            }
-            Err(_) => Err(AppendFault::Disk),
-        }
+        keep_behind(&mut self.records, &mut self.reserved, disk, count)?;
+        Ok(())
     }
 }
 
-// Makes the records behind the first `count` durable in one change. Where the disk fails they are dropped.
-fn keep_behind<D: Disk>(held: &mut Records, disk: &mut D, count: usize) -> Result<(), Failed>
+// Makes the records behind the first `count` durable in one change. Each uses a reserved place where there
+// is one. Where the disk fails they are dropped.
+fn keep_behind<D: Disk>(
+    held: &mut Records,
+    reserved: &mut u32,
+    disk: &mut D,
+    count: usize,
+) -> Result<(), AppendFault>
     requires some { count < length held.old.payloads }
     requires few { length held.old.payloads ≤ 262144 }
     requires ready { Every (Now D.moment D.images disk.old) (LedgerIs (take count held.old.payloads)) }
     ensures kept { OnOk result (held.new ≡ held.old) }
+    ensures places { OnOk result (reserved.new ≡ reserved.old - (length held.old.payloads - count)) }
+    ensures left { OnErr result (reserved.new ≡ reserved.old) }
     ensures dropped { OnErr result (held.new.payloads ≡ take count held.old.payloads) }
     ensures spare { OnErr result (held.old.spare + length (records (drop count held.old.payloads)) ≤ held.new.spare) }
     ensures slots { OnErr result (held.old.slots + (length held.old.payloads - count) ≤ held.new.slots) }
     ensures durable { OnOk result (Every (Now D.moment D.images disk.new) (LedgerIs held.old.payloads)) }
     ensures stop { Leaves D.moment D.images (Appends (take count held.old.payloads) (drop count held.old.payloads)) disk.old disk.new }
     ensures read { Follows (Only ledger_name) (D.files disk.old) (D.files disk.new) }
+    ensures fault { IfErr result (λ fault. fault ≡ Disk) }
     ensures cause { HasCause (D.fault_count disk.old) (D.fault_count disk.new) result }
 {
     let gate = held.place(count);
     let block = &held.file_bytes()[gate as usize + 1..];
     match publish(disk, &ledger_file_name(), gate, block) {
-        Ok(()) => Ok(()),
+        Ok(()) => {
+            *reserved = reserved.saturating_sub((held.count() - count) as u32);
+            Ok(())
+        }
         Err(_) => {
             held.truncate(count);
-            Err(Failed)
+            Err(AppendFault::Disk)
         }
     }
 }

@@ -1,14 +1,23 @@
 -- One step of the fold, and its room.
-use Rattle.std.proofs.Common.{◌≡◌, ℕ, true, max, refl, arith}
+use Rattle.std.proofs.Common.{◌≡◌, ℕ, true, max, List, Result, Ok, Err, refl, ap, arith}
 use Rattle.std.specs.Prelude.{nat_lt}
 use Rattle.std.specs.List.{list_all}
-use Rattle.ledger_rec.specs.Fold.{State, after, fold_step, numbers}
-use Rattle.ledger_rec.specs.Lists.{HasRoom}
-use Rattle.ledger_rec.specs.Record.{RecordText}
+use Rattle.ledger_rec.specs.Fold.{State, after, changed, fold_step, is_live, numbers, settled}
+use Rattle.ledger_rec.specs.Items.{Entry}
+use Rattle.ledger_rec.specs.Lists.{HasRoom, Steps}
+use Rattle.ledger_rec.specs.Record.{RecordText, Done}
+use Rattle.ledger_rec.specs.declared.fault.FoldFault.{FoldFault}
+use Rattle.ledger_rec.specs.declared.fault.FoldFault.TheVariants.{BadFold, NoMemory}
 use Rattle.ledger_rec.specs.declared.lists.Lists.{Lists}
 
 pub numbered_step : (s : State) (r : RecordText) → list_all (λ n. nat_lt 0 n) (numbers r) ≡ true → fold_step s r ≡ after s r
 numbered_step s r numbered = rw numbered refl
+
+-- where the queue goes a step, so does the state
+pub done_step : (result : Result (Unit {0}) FoldFault) (number session : ℕ) (s : State) (queue : List Entry) → Steps result (changed (is_live number) settled s.queue) s.queue queue → Steps result (after s (Done number session)) s (record s { queue = queue })
+done_step (Ok done) number session s queue goes = rw goes refl
+done_step (Err BadFold) number session s queue goes = (rw goes.0 refl, ap (λ (q : List Entry). record s { queue = q }) goes.1)
+done_step (Err NoMemory) number session s queue goes = ap (λ (q : List Entry). record s { queue = q }) goes
 
 pub room_for_both : (a b : ℕ) (l : Lists) → HasRoom a l → HasRoom b l → HasRoom (max a b) l
 room_for_both a b l one two =

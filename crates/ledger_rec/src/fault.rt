@@ -4,7 +4,6 @@ ghost use Rattle.ledger_rec.specs.declared.fault.FoldFault.TheVariants.{NoMemory
 ghost use Rattle.ledger_rec.specs.declared.fault.RecFault.TheVariants.{NoMemory as OutOfMemory};
 
 use ftn_addr::NoMemory;
-use std::alloc::{AllocError, AllocFailed};
 use thiserror::Error;
 
 /// Why a payload gives no record.
@@ -39,22 +38,6 @@ impl From<NoMemory> for FoldFault {
     ghost from_gives = { λ _ fault. fault ≡ FoldOutOfMemory };
 
     fn from(_error: NoMemory) -> FoldFault {
-        FoldFault::NoMemory
-    }
-}
-
-impl From<AllocError> for FoldFault {
-    ghost from_gives = { λ _ fault. fault ≡ FoldOutOfMemory };
-
-    fn from(_error: AllocError) -> FoldFault {
-        FoldFault::NoMemory
-    }
-}
-
-impl<T: Drop> From<AllocFailed<T>> for FoldFault {
-    ghost from_gives = { λ _ fault. fault ≡ FoldOutOfMemory };
-
-    fn from(_error: AllocFailed<T>) -> FoldFault {
         FoldFault::NoMemory
     }
 }

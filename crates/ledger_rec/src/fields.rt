@@ -1,17 +1,16 @@
 //! Fields that are read from the front of bytes.
-ghost use Rattle.std.specs.Prelude.{◌≡◌, ◌≤◌, ◌<◌, ◌++◌, ◌∷◌, length, IfOk, nat_eq};
-ghost use Rattle.std.specs.Cmp.Lexicographic.{pointwise};
+ghost use Rattle.std.specs.Prelude.{◌≡◌, ◌≤◌, ◌<◌, ◌++◌, ◌∷◌, length, Ok, IfOk};
 ghost use Rattle.ftn_addr.specs.Address.{address};
 ghost use Rattle.ftn_addr.specs.Content.{Content};
 ghost use Rattle.ftn_addr.specs.Key.{key_of};
 ghost use Rattle.ftn_addr.specs.Limits.{IsAddress, IsKey};
 ghost use Rattle.ftn_addr.specs.Writing.{canonical};
 ghost use Rattle.ledger_rec.specs.Limits.{HasShortNumbers};
-ghost use Rattle.ledger_rec.specs.Reading.{Gives, bytes_at, byte_at, short_at, number_at, wide_at, canonical_at, address_at, key_at, path_at};
+ghost use Rattle.ledger_rec.specs.Reading.{Gives, if_canonical, bytes_at, byte_at, short_at, number_at, wide_at, canonical_at, address_at, key_at, path_at};
 ghost use Rattle.ledger_rec.specs.Spelling.{number_bytes, wide_bytes, short_bytes, address_bytes, key_bytes, path_bytes};
 
 use crate::RecFault;
-use ftn_addr::{Addr, AddrFault, Bytes, FileKey, NoMemory, read_addr, write_addr};
+use ftn_addr::{Addr, AddrFault, Bytes, FileKey, read_addr, write_addr};
 use std::alloc::Global;
 
 /// So many bytes, and what is left behind them.
@@ -80,23 +79,20 @@ pub(crate) fn wide_at(bytes: &[u8]) -> Result<(u64, &[u8]), RecFault>
     Ok((number, rest))
 }
 
-// The numbers of an address have two bytes each, as their types say.
-fn see_numbers(addr: &Addr)
-    ensures { HasShortNumbers (address addr.now) }
-{
-    let _zone = addr.zone;
-    let _net = addr.net;
-    let _node = addr.node;
-    let _point = addr.point;
-}
-
-/// Whether this is the canonical text of the address.
-fn is_canonical(alloc: Global, addr: &Addr, text: &[u8]) -> Result<bool, NoMemory>
-    ensures { IfOk result (λ same. same ≡ pointwise nat_eq (canonical (address addr.now)) text.now) }
+/// The address, where this is its canonical text.
+fn if_canonical(alloc: Global, addr: Addr, text: &[u8]) -> Result<Addr, RecFault>
+    ensures gives { Gives address result (if_canonical text.now (Ok (address addr))) }
+    ensures same { IfOk result (λ a. a ≡ addr) }
+    ensures spelled { IfOk result (λ a. text.now ≡ canonical (address a)) }
+    ensures short { IfOk result (λ a. HasShortNumbers (address a)) }
 {
     let mut written = Bytes::new(alloc);
-    write_addr(alloc, addr, &mut written)?;
-    Ok(written.as_slice() == text)
+    write_addr(alloc, &addr, &mut written)?;
+    if written.as_slice() == text {
+        Ok(addr)
+    } else {
+        Err(RecFault::BadRecord)
+    }
 }
 
 /// The address whose canonical text this is.
@@ -106,21 +102,15 @@ fn canonical_at(alloc: Global, text: &[u8], home: &Addr) -> Result<Addr, RecFaul
     ensures spelled { IfOk result (λ a. text.now ≡ canonical (address a)) }
     ensures limits { IfOk result (λ a. IsAddress (address a)) }
 {
-    let addr = match read_addr(alloc, text, home) {
-        Ok(addr) => addr,
-        Err(AddrFault::NoMemory) => return Err(RecFault::NoMemory),
+    match read_addr(alloc, text, home) {
+        Ok(addr) => if_canonical(alloc, addr, text),
+        Err(AddrFault::NoMemory) => Err(RecFault::NoMemory),
         Err(
             AddrFault::NoNet
             | AddrFault::BadNumber(_)
             | AddrFault::TooBig(_)
             | AddrFault::BadDomain(_),
-        ) => return Err(RecFault::BadRecord),
-    };
-    see_numbers(&addr);
-    if is_canonical(alloc, &addr, text)? {
-        Ok(addr)
-    } else {
-        Err(RecFault::BadRecord)
+        ) => Err(RecFault::BadRecord),
     }
 }
 

@@ -135,12 +135,12 @@ fn one_at(bytes: &[u8]) -> Result<u32, RecFault>
     }
 }
 
-/// The record of a kind with these fields.
-#[tactic(auto, unfolding(crate::specs::Reading::fields_at))]
-fn fields_at(alloc: Global, kind: u8, bytes: &[u8], home: &Addr) -> Result<Record, RecFault>
-    ensures gives { Gives record_of result (fields_at (address home.now) kind bytes.now) }
-    ensures spelled { IfOk result (λ r. Spells (record_of r) (kind ∷ bytes.now)) }
+#[tactic(auto, unfolding(crate::specs::Reading::record_at, crate::specs::Reading::fields_at))]
+fn record_at(alloc: Global, payload: &[u8], home: &Addr) -> Result<Record, RecFault>
+    ensures gives { Gives record_of result (record_at (address home.now) payload.now) }
+    ensures spelled { IfOk result (λ r. Spells (record_of r) payload.now) }
 {
+    let (kind, bytes) = byte_at(payload, 0, 255)?;
     match kind {
         1 => Ok(Record::Queue(new_file_at(alloc, bytes, home)?)),
         2 => {
@@ -155,15 +155,6 @@ fn fields_at(alloc: Global, kind: u8, bytes: &[u8], home: &Addr) -> Result<Recor
         8 => Ok(Record::Answered(one_at(bytes)?)),
         _ => Err(RecFault::BadRecord),
     }
-}
-
-#[tactic(auto, unfolding(crate::specs::Reading::record_at))]
-fn record_at(alloc: Global, payload: &[u8], home: &Addr) -> Result<Record, RecFault>
-    ensures gives { Gives record_of result (record_at (address home.now) payload.now) }
-    ensures spelled { IfOk result (λ r. Spells (record_of r) payload.now) }
-{
-    let (kind, bytes) = byte_at(payload, 0, 255)?;
-    fields_at(alloc, kind, bytes, home)
 }
 
 /// Reads the record of a payload. All of the payload is the record's: its kind in one byte, from 1 on in

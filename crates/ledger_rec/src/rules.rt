@@ -4,14 +4,14 @@ ghost use Rattle.std.specs.List.{list_all, list_any};
 ghost use Rattle.ftn_addr.specs.Address.{address};
 ghost use Rattle.ftn_addr.specs.Files.{is_same};
 ghost use Rattle.ftn_addr.specs.Key.{key_of};
-ghost use Rattle.ledger_rec.specs.Fold.{is_among, is_received, is_refused, is_known, is_marked, is_part_of, may_queue, may_receive, may_refuse, goes_on, begins, may_mark, is_request, is_live, waits_for_action, waits_for_answer, numbers};
+ghost use Rattle.ledger_rec.specs.Fold.{is_among, is_received, is_refused, is_known, is_marked, is_part_of, may_queue, may_receive, goes_on, begins, may_mark, is_request, is_live, waits_for_action, waits_for_answer, numbers};
 ghost use Rattle.ledger_rec.specs.Items.{entry, receipt, refusal, part_mark};
 ghost use Rattle.ledger_rec.specs.Lists.{state_of};
-ghost use Rattle.ledger_rec.specs.Record.{record_of, new_file, received, refused, mark};
+ghost use Rattle.ledger_rec.specs.Record.{record_of, new_file, received, mark};
 
 use crate::items::{InboxItem, MarkItem, QueueItem, RefusedItem};
 use crate::lists::Lists;
-use crate::{MarkRec, NewFileRec, ReceivedRec, Record, RefusedRec};
+use crate::{MarkRec, NewFileRec, ReceivedRec, Record};
 use ftn_addr::{Addr, FileKey, is_same_address, is_same_key};
 
 /// Whether no number of the record is 0.
@@ -135,7 +135,7 @@ pub(crate) fn request_at(number: u32, inbox: &[InboxItem]) -> Option<usize>
 
 /// Whether the sender and key are received or refused.
 #[tactic(auto, using(crate::proofs::Mapped::list_any_map, crate::proofs::Mapped::list_all_map))]
-fn is_known(from: &Addr, key: &FileKey, lists: &Lists) -> bool
+pub(crate) fn is_known(from: &Addr, key: &FileKey, lists: &Lists) -> bool
     ensures { result ≡ is_known (address from.now) (key_of key.now) (state_of lists.now) }
 {
     is_received(from, key, lists.inbox.as_slice())
@@ -156,12 +156,6 @@ pub(crate) fn may_receive(rec: &ReceivedRec, lists: &Lists) -> bool
     !is_known(&rec.from, &rec.key, lists)
         && (is_part_of(rec.receipt, &rec.from, &rec.key, lists.marks.as_slice())
             || !is_among(rec.receipt, lists.parts.as_slice()))
-}
-
-pub(crate) fn may_refuse(rec: &RefusedRec, lists: &Lists) -> bool
-    ensures { result ≡ may_refuse (refused rec.now) (state_of lists.now) }
-{
-    !is_known(&rec.from, &rec.key, lists)
 }
 
 /// Whether the mark's part is new, and its sender and key have no mark and aren't known.

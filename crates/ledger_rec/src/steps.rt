@@ -2,14 +2,14 @@
 ghost use Rattle.std.specs.Prelude.{◌≡◌, ◌-◌, ℕ, OnOk, OnErr, IsErrOf};
 ghost use Rattle.ledger_rec.specs.Fold.{after, fold_step};
 ghost use Rattle.ledger_rec.specs.Lists.{state_of, HasRoom, Steps};
-ghost use Rattle.ledger_rec.specs.Record.{record_of, new_file, received, refused, mark, Queue, Done, Received, Refused, Mark, Taken, Acted, Answered};
+ghost use Rattle.ledger_rec.specs.Record.{record_of, new_file, received, refused, mark, Queue, Received, Refused, Mark, Taken};
 ghost use Rattle.ledger_rec.specs.declared.fault.FoldFault.TheVariants.{NoMemory as OutOfMemory};
 
 use crate::changes::{
     act, answer, make_room, put_mark, put_queued, put_receipt, put_refusal, put_take, settle,
 };
 use crate::lists::Lists;
-use crate::rules::{is_among, is_numbered, may_mark, may_queue, may_receive, may_refuse};
+use crate::rules::{is_among, is_known, is_numbered, may_mark, may_queue, may_receive};
 use crate::{FoldFault, MarkRec, NewFileRec, ReceivedRec, Record, RefusedRec};
 
 fn add_queued(rec: NewFileRec, lists: &mut Lists) -> Result<(), FoldFault>
@@ -46,7 +46,7 @@ fn add_refused(rec: RefusedRec, lists: &mut Lists) -> Result<(), FoldFault>
     ensures kept { OnErr result ((n : ℕ) → HasRoom n lists.old → HasRoom n lists.new) }
     ensures within { HasRoom 1 lists.old → IsErrOf result OutOfMemory → ⊥ }
 {
-    if !may_refuse(&rec, lists) {
+    if is_known(&rec.from, &rec.key, lists) {
         return Err(FoldFault::BadFold);
     }
     make_room(lists, 1)?;
@@ -82,33 +82,6 @@ fn add_take(take: u32, lists: &mut Lists) -> Result<(), FoldFault>
     Ok(())
 }
 
-fn add_done(number: u32, lists: &mut Lists) -> Result<(), FoldFault>
-    ensures step { (session : ℕ) → Steps result (after (state_of lists.old) (Done number session)) (state_of lists.old) (state_of lists.new) }
-    ensures used { OnOk result ((n : ℕ) → HasRoom n lists.old → HasRoom (n - 1) lists.new) }
-    ensures kept { OnErr result ((n : ℕ) → HasRoom n lists.old → HasRoom n lists.new) }
-    ensures within { HasRoom 1 lists.old → IsErrOf result OutOfMemory → ⊥ }
-{
-    settle(number, lists.queue.as_mut_slice())
-}
-
-fn add_acted(number: u32, lists: &mut Lists) -> Result<(), FoldFault>
-    ensures step { Steps result (after (state_of lists.old) (Acted number)) (state_of lists.old) (state_of lists.new) }
-    ensures used { OnOk result ((n : ℕ) → HasRoom n lists.old → HasRoom (n - 1) lists.new) }
-    ensures kept { OnErr result ((n : ℕ) → HasRoom n lists.old → HasRoom n lists.new) }
-    ensures within { HasRoom 1 lists.old → IsErrOf result OutOfMemory → ⊥ }
-{
-    act(number, lists.queue.as_mut_slice())
-}
-
-fn add_answered(number: u32, lists: &mut Lists) -> Result<(), FoldFault>
-    ensures step { Steps result (after (state_of lists.old) (Answered number)) (state_of lists.old) (state_of lists.new) }
-    ensures used { OnOk result ((n : ℕ) → HasRoom n lists.old → HasRoom (n - 1) lists.new) }
-    ensures kept { OnErr result ((n : ℕ) → HasRoom n lists.old → HasRoom n lists.new) }
-    ensures within { HasRoom 1 lists.old → IsErrOf result OutOfMemory → ⊥ }
-{
-    answer(number, lists.inbox.as_mut_slice())
-}
-
 /// Folds one record into the lists.
 pub(crate) fn add(rec: Record, lists: &mut Lists) -> Result<(), FoldFault>
     ensures step { Steps result (fold_step (state_of lists.old) (record_of rec)) (state_of lists.old) (state_of lists.new) }
@@ -121,12 +94,12 @@ pub(crate) fn add(rec: Record, lists: &mut Lists) -> Result<(), FoldFault>
     }
     match rec {
         Record::Queue(rec) => add_queued(rec, lists),
-        Record::Done(number, _) => add_done(number, lists),
+        Record::Done(number, _) => settle(number, lists.queue.as_mut_slice()),
         Record::Received(rec) => add_received(rec, lists),
         Record::Refused(rec) => add_refused(rec, lists),
         Record::Mark(rec) => add_mark(rec, lists),
         Record::Taken(take) => add_take(take, lists),
-        Record::Acted(number) => add_acted(number, lists),
-        Record::Answered(receipt) => add_answered(receipt, lists),
+        Record::Acted(number) => act(number, lists.queue.as_mut_slice()),
+        Record::Answered(receipt) => answer(receipt, lists.inbox.as_mut_slice()),
     }
 }

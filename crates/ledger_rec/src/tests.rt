@@ -116,9 +116,9 @@ fn written(alloc: Global, rec: &Record) -> Result<Bytes, Fail>
     Ok(out)
 }
 
-fn read_and_written(alloc: Global, payload: &[u8]) -> Result<Bytes, Fail> {
+fn read_copied_and_written(alloc: Global, payload: &[u8]) -> Result<Bytes, Fail> {
     let rec = read_record(alloc, payload, &peer(alloc)?)?;
-    written(alloc, &rec)
+    written(alloc, &rec.copy(alloc)?)
 }
 
 /// A record of the peer, in few words.
@@ -189,9 +189,12 @@ fn each_kind_is_written(rt: HostRuntime) -> Result<(), Fail> {
 }
 
 #[test]
-fn each_kind_is_read(rt: HostRuntime) -> Result<(), Fail> {
+fn each_kind_is_read_and_copied(rt: HostRuntime) -> Result<(), Fail> {
     for payload in [QUEUE, DONE, RECEIVED, REFUSED, MARK, TAKEN, ACTED, ANSWERED] {
-        assert_eq!(rt; read_and_written(rt.alloc(), payload)?.as_slice(), payload);
+        assert_eq!(rt;
+            read_copied_and_written(rt.alloc(), payload)?.as_slice(),
+            payload
+        );
     }
     fits_a_payload();
     one_record_at_most();

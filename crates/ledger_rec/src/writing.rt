@@ -1,5 +1,5 @@
 //! The bytes of a record.
-ghost use Rattle.std.specs.Prelude.{◌≡◌, ◌+◌, ◌<◌, ◌≤◌, ◌++◌, ◌∷◌, [], length, OnOk, OnErr, IsOk};
+ghost use Rattle.std.specs.Prelude.{◌≡◌, ◌+◌, ◌<◌, ◌≤◌, ◌++◌, length, OnOk, OnErr, IsOk};
 ghost use Rattle.std.specs.Fmt.{decimal};
 ghost use Rattle.ftn_addr.specs.Address.{address};
 ghost use Rattle.ftn_addr.specs.Key.{key_of};
@@ -7,7 +7,7 @@ ghost use Rattle.ftn_addr.specs.Limits.{IsAddress, IsKey};
 ghost use Rattle.ftn_addr.specs.Writing.{canonical, point_text};
 ghost use Rattle.ledger_rec.specs.Limits.{Fits, IsNewFile, IsReceived, IsRefused, IsMark};
 ghost use Rattle.ledger_rec.specs.Record.{record_of, new_file, received, refused, mark, Queue, Received, Refused, Mark};
-ghost use Rattle.ledger_rec.specs.Spelling.{number_bytes, wide_bytes, address_bytes, key_bytes, path_bytes, flag_byte, field_bytes, spelling};
+ghost use Rattle.ledger_rec.specs.Spelling.{number_bytes, wide_bytes, address_bytes, key_bytes, path_bytes, field_bytes, spelling};
 
 use crate::{MarkRec, NewFileRec, ReceivedRec, Record, RefusedRec};
 use ftn_addr::{Addr, Bytes, FileKey, NoMemory};
@@ -161,21 +161,6 @@ fn push_new_file(rec: &NewFileRec, out: &mut Bytes)
     push(&[rec.action, rec.flavour], out);
 }
 
-fn flag_byte(flag: bool) -> u8
-    ensures { result ≡ flag_byte flag }
-{
-    if flag { 1 } else { 0 }
-}
-
-fn push_flag(flag: bool, out: &mut Bytes)
-    requires { 1 ≤ out.old.spare }
-    ensures list { out.new.list ≡ out.old.list ++ flag_byte flag ∷ [] }
-    ensures room { out.old.spare ≤ out.new.spare + 1 }
-    ensures kept { out.old.spare + length out.old.list ≤ out.new.spare + length out.new.list }
-{
-    push(&[flag_byte(flag)], out);
-}
-
 fn push_received(rec: &ReceivedRec, out: &mut Bytes)
     requires rec { IsReceived (received rec.now) }
     requires room { 1399 ≤ out.old.spare }
@@ -186,7 +171,7 @@ fn push_received(rec: &ReceivedRec, out: &mut Bytes)
     push_address(&rec.from, out);
     push_key(&rec.key, out);
     push_number(rec.session, out);
-    push_flag(rec.secure, out);
+    push(&[u8::from(rec.secure)], out);
 }
 
 fn push_refused(rec: &RefusedRec, out: &mut Bytes)
