@@ -1,10 +1,10 @@
 //! What each record changes, once it keeps the rules.
-ghost use Rattle.std.specs.Prelude.{◌≡◌, ◌+◌, ◌-◌, ◌<◌, ◌≤◌, ℕ, nat_lt, [], ◌∷◌, ◌++◌, not, filter, length, map, position, unwrap_or, vec_len, vec_capacity, IfErr, IsOk, OnOk};
+ghost use Rattle.std.specs.Prelude.{◌≡◌, ◌+◌, ◌-◌, ◌<◌, ◌≤◌, ℕ, nat_lt, [], ◌∷◌, ◌++◌, length, map, position, unwrap_or, vec_len, vec_capacity, IfErr, IsOk, OnOk};
 ghost use Rattle.ftn_addr.specs.Address.{address};
 ghost use Rattle.ftn_addr.specs.Files.{is_same};
 ghost use Rattle.ftn_addr.specs.Key.{key_of};
 ghost use Rattle.ledger_rec.specs.Fold.{is_live, settled, waits_for_action, acted_on, waits_for_answer, answered, changed, unmarked, in_place, with_number, with_queued, with_receipt, with_refusal, with_mark, with_take};
-ghost use Rattle.ledger_rec.specs.Items.{entry, receipt, refusal, part_mark};
+ghost use Rattle.ledger_rec.specs.Items.{entry, receipt, part_mark};
 ghost use Rattle.ledger_rec.specs.Lists.{state_of, HasRoom, Steps};
 ghost use Rattle.ledger_rec.specs.Record.{new_file, received, refused, mark};
 ghost use Rattle.ledger_rec.specs.declared.fault.FoldFault.TheVariants.{BadFold as BreaksRule};

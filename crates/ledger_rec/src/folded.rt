@@ -1,5 +1,5 @@
 //! The fold of a ledger's records.
-ghost use Rattle.std.specs.Prelude.{◌≡◌, ◌+◌, ◌<◌, ◌≤◌, [], ◌∷◌, ◌++◌, map, position, Some, None, OnOk, OnErr, IsErrOf};
+ghost use Rattle.std.specs.Prelude.{◌≡◌, ◌+◌, ◌<◌, ◌≤◌, [], ◌∷◌, ◌++◌, map, position, Some, None, OnOk, OnErr, IsErrOf, IsOk};
 ghost use Rattle.ftn_addr.specs.Address.{address};
 ghost use Rattle.ftn_addr.specs.Files.{is_same};
 ghost use Rattle.ftn_addr.specs.Key.{key_of};
@@ -110,12 +110,13 @@ impl Folded {
         Ok(())
     }
 
-    /// Makes room for `n` records.
+    /// Makes room for `n` records. Where there is room for as many already, it takes no memory.
     pub fn reserve(&mut self, n: u32) -> Result<(), NoMemory>
         ensures state { self.new.state ≡ self.old.state }
         ensures holds { self.new.holds ≡ self.old.holds }
         ensures ok { OnOk result (n ≤ self.new.room) }
         ensures kept { self.old.room ≤ self.new.room }
+        ensures within { n ≤ self.old.room → IsOk result }
         ensures err { OnErr result (self.new ≡ self.old) }
     {
         make_room(&mut self.lists, n as usize)?;

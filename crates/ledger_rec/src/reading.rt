@@ -1,10 +1,10 @@
 //! The record of a payload.
-ghost use Rattle.std.specs.Prelude.{◌≡◌, ◌++◌, ◌∷◌, Ok, IfOk, IsErrOf};
+ghost use Rattle.std.specs.Prelude.{◌≡◌, ◌++◌, Ok, IfOk, IsErrOf};
 ghost use Rattle.ftn_addr.specs.Address.{address};
-ghost use Rattle.ledger_rec.specs.Limits.{Fits, HasNumbers, IsNewFile, IsReceived, IsRefused, IsMark};
+ghost use Rattle.ledger_rec.specs.Limits.{HasNumbers, IsNewFile, IsReceived, IsRefused, IsMark};
 ghost use Rattle.ledger_rec.specs.Reading.{Gives, new_file_at, received_at, refused_at, mark_at, pair_at, one_at, fields_at, record_at};
 ghost use Rattle.ledger_rec.specs.Record.{RecordText, Queue, Received, Refused, Mark, record_of, new_file, received, refused, mark};
-ghost use Rattle.ledger_rec.specs.Spelling.{Spells, SpellsNone, field_bytes, number_bytes, spelling};
+ghost use Rattle.ledger_rec.specs.Spelling.{Spells, SpellsNone, field_bytes, number_bytes};
 ghost use Rattle.ledger_rec.specs.declared.fault.RecFault.TheVariants.{BadRecord as NoRecord};
 
 use crate::fields::{address_at, byte_at, key_at, number_at, path_at, wide_at};

@@ -1,11 +1,11 @@
 //! The rules of the fold.
-ghost use Rattle.std.specs.Prelude.{◌≡◌, ◌==◌, ◌&&◌, not, nat_lt, nat_le, map, position};
+ghost use Rattle.std.specs.Prelude.{◌≡◌, ◌==◌, ◌&&◌, nat_lt, nat_le, map, position};
 ghost use Rattle.std.specs.List.{list_all, list_any};
 ghost use Rattle.ftn_addr.specs.Address.{address};
 ghost use Rattle.ftn_addr.specs.Files.{is_same};
 ghost use Rattle.ftn_addr.specs.Key.{key_of};
 ghost use Rattle.ledger_rec.specs.Fold.{is_among, is_received, is_refused, is_known, is_marked, is_part_of, may_queue, may_receive, goes_on, begins, may_mark, is_request, is_live, waits_for_action, waits_for_answer, numbers};
-ghost use Rattle.ledger_rec.specs.Items.{entry, receipt, refusal, part_mark};
+ghost use Rattle.ledger_rec.specs.Items.{entry, receipt};
 ghost use Rattle.ledger_rec.specs.Lists.{state_of};
 ghost use Rattle.ledger_rec.specs.Record.{record_of, new_file, received, mark};
 

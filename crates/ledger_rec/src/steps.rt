@@ -1,5 +1,5 @@
 //! One step of the fold.
-ghost use Rattle.std.specs.Prelude.{◌≡◌, ◌-◌, ℕ, OnOk, OnErr, IsErrOf};
+ghost use Rattle.std.specs.Prelude.{◌-◌, ℕ, OnOk, OnErr, IsErrOf};
 ghost use Rattle.ledger_rec.specs.Fold.{after, fold_step};
 ghost use Rattle.ledger_rec.specs.Lists.{state_of, HasRoom, Steps};
 ghost use Rattle.ledger_rec.specs.Record.{record_of, new_file, received, refused, mark, Queue, Received, Refused, Mark, Taken};
