@@ -9,3 +9,8 @@ pub mod ReceiptsAlong
 pub mod ReceiptsStay
 pub mod RisingCounts
 pub mod RisingFaults
+pub mod Alone
+pub mod Drifting
+pub mod Rans
+pub mod KeptReceipts
+pub mod SharedHub

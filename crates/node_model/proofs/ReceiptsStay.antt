@@ -19,7 +19,7 @@ push_passes : (p : Receipt → Bool) (xs : List Receipt) (r : Receipt) → some_
 push_passes p [] r passes = absurd (cc)
 push_passes p (x ∷ xs) r passes = either (p x) (some_passes p xs) (some_passes p (xs ++ r ∷ [])) (push_passes p xs r) passes
 
-stays_inbox : (d e : Durable) → e.inbox ≡ d.inbox → StaysReceived d e
+pub stays_inbox : (d e : Durable) → e.inbox ≡ d.inbox → StaysReceived d e
 stays_inbox d e is = λ from key has. subst (λ (xs : List Receipt). some_passes (λ (r : Receipt). is_same from key r.from r.key) xs ≡ true) (sym is) has
 
 stays_push : (d e : Durable) (r : Receipt) → e.inbox ≡ d.inbox ++ r ∷ [] → StaysReceived d e
@@ -88,22 +88,22 @@ others_stay (suc n) seat old new (mid, before, last) =
 
 -- A chain of calls.
 
-self_stays : (knows : Knows) → KnownStays knows knows
+pub self_stays : (knows : Knows) → KnownStays knows knows
 self_stays (Tells n) = λ from key has. has
 self_stays (Counts_alone c) = tt
 
-known_on : (a b c : Knows) → KnownStays a b → KnownStays b c → KnownStays a c
+pub known_on : (a b c : Knows) → KnownStays a b → KnownStays b c → KnownStays a c
 known_on (Tells a) (Tells b) (Tells c) first second = stays_on a.state b.state c.state first second
 known_on (Tells a) (Tells b) (Counts_alone c) first second = absurd second
 known_on (Tells a) (Counts_alone b) c first second = absurd first
 known_on (Counts_alone a) b c first second = tt
 
-known_step : (seat : ℕ) (old : Knows) (call : Call) (answer : Answer) (new : Knows) → KnownStep seat old call answer new → KnownStays old new
+pub known_step : (seat : ℕ) (old : Knows) (call : Call) (answer : Answer) (new : Knows) → KnownStep seat old call answer new → KnownStays old new
 known_step seat (Tells old) call answer (Tells new) step = step_stays seat old call answer new step
 known_step seat (Tells old) call answer (Counts_alone c) step = absurd step
 known_step seat (Counts_alone c) call answer new step = tt
 
-drift_stays : (alone : Bool) (seat : ℕ) (old new : Knows) → Drifts alone seat old new → KnownStays old new
+pub drift_stays : (alone : Bool) (seat : ℕ) (old new : Knows) → Drifts alone seat old new → KnownStays old new
 drift_stays true seat old new same = subst (KnownStays old) (sym same) (self_stays old)
 drift_stays false seat (Tells old) (Tells new) (n, steps) = others_stay n seat old new steps
 drift_stays false seat (Tells old) (Counts_alone c) none = absurd none
@@ -125,7 +125,7 @@ abbrev pub StaysIn : Knows → Durable → Type 0
 StaysIn (Tells n) d = StaysReceived n.state d
 StaysIn (Counts_alone c) d = Unit {0}
 
-in_on : (a b : Knows) (d : Durable) → KnownStays a b → StaysIn b d → StaysIn a d
+pub in_on : (a b : Knows) (d : Durable) → KnownStays a b → StaysIn b d → StaysIn a d
 in_on (Tells a) (Tells b) d first second = stays_on a.state b.state d first second
 in_on (Tells a) (Counts_alone b) d first second = absurd first
 in_on (Counts_alone a) b d first second = tt
@@ -136,13 +136,13 @@ others_pass (suc n) seat old new (mid, before, last) d (inl passes) = others_pas
 others_pass (suc n) seat old new (mid, before, last) d (inr passes) =
     stays_on old.state mid.state d (others_stay n seat old mid before) (passes_stays last.other mid last.call d passes)
 
-drift_passes : (alone : Bool) (seat : ℕ) (old new : Knows) (drift : Drifts alone seat old new) (d : Durable) → DriftPasses alone seat old new drift d → StaysIn old d
+pub drift_passes : (alone : Bool) (seat : ℕ) (old new : Knows) (drift : Drifts alone seat old new) (d : Durable) → DriftPasses alone seat old new drift d → StaysIn old d
 drift_passes true seat old new same d passes = absurd passes
 drift_passes false seat (Tells old) (Tells new) (n, steps) d passes = others_pass n seat old new steps d passes
 drift_passes false seat (Tells old) (Counts_alone c) none d passes = absurd passes
 drift_passes false seat (Counts_alone c) new rise d passes = tt
 
-known_passes : (seat : ℕ) (knows : Knows) (call : Call) (d : Durable) → KnownPasses seat knows call d → StaysIn knows d
+pub known_passes : (seat : ℕ) (knows : Knows) (call : Call) (d : Durable) → KnownPasses seat knows call d → StaysIn knows d
 known_passes seat (Tells n) call d passes = passes_stays seat n call d passes
 known_passes seat (Counts_alone c) call d passes = tt
 

@@ -1,5 +1,5 @@
 -- The calls of a desk with their answers, and their chain.
-use Rattle.std.specs.Prelude.{zero, suc, ◌≡◌, ◌≢◌, ◌⊎◌, ℕ, Bool, true, false, ◌+◌, ◌≤◌, List, [], ◌∷◌, Option, Some, None}
+use Rattle.std.specs.Prelude.{zero, suc, ◌≡◌, ◌≢◌, ◌⊎◌, ℕ, Bool, true, false, ◌+◌, ◌≤◌, List, [], ◌∷◌, map, Option, Some, None}
 use Rattle.ftn_addr.specs.Address.{Address}
 use Rattle.ftn_addr.specs.Counts.{Rose, risen}
 use Rattle.ftn_addr.specs.Key.{Key}
@@ -203,3 +203,84 @@ pub record Calls (alone : Bool) (old : DeskState) (call : Call) (answer : Answer
 abbrev pub Chain : Bool → DeskState → List Event → DeskState → Type 0
 Chain alone old [] new = new ≡ old
 Chain alone old (e ∷ es) new = (mid : DeskState) × Calls alone old e.call e.answer mid × Chain alone mid es new
+
+-- Rows beside a call.
+
+-- what a session asked and was answered, with the rows of this seat that the desk made before it and behind it; a desk
+-- that offers no files makes none
+pub record Turned : Type 0 where
+  pub asked : Event
+  pub before : List Event
+  pub after : List Event
+
+abbrev pub turned : Call → Answer → List Event → List Event → Turned
+turned call answer before after = record { asked = record { call = call; answer = answer }; before = before; after = after }
+
+abbrev pub asked_of : List Turned → List Event
+asked_of es = map (λ e. e.asked) es
+
+-- rows of a seat, one behind another, with nothing between them
+abbrev pub Beside : ℕ → Knows → List Event → Knows → Type 0
+Beside seat old [] new = new ≡ old
+Beside seat old (e ∷ es) new =
+    (mid : Knows) × Caused (counts_of old) e.answer (counts_of mid) × KnownStep seat old e.call e.answer mid × Beside seat mid es new
+
+abbrev pub IsMade : Answer → Type 0
+IsMade (Refused fault) = ⊥
+IsMade answer = Unit {0}
+
+abbrev pub AllMade : List Event → Type 0
+AllMade [] = Unit {0}
+AllMade (e ∷ es) = IsMade e.answer × AllMade es
+
+-- the last of these rows was refused so
+abbrev pub EndsRefused : List Event → Fault → Type 0
+EndsRefused [] fault = ⊥
+EndsRefused (e ∷ []) fault = e.answer ≡ Refused fault
+EndsRefused (e ∷ f ∷ es) fault = EndsRefused (f ∷ es) fault
+
+-- The row that was asked for; it is missing where one before it was refused, and the answer is that refusal.
+pub data OwnRow (seat : ℕ) (before : List Event) (old : Knows) (asked : Event) (new : Knows) : Type 0 where
+  Made_row : AllMade before → Caused (counts_of old) asked.answer (counts_of new) → KnownStep seat old asked.call asked.answer new → OwnRow seat before old asked new
+  Missing : (fault : Fault) → EndsRefused before fault → asked.answer ≡ Refused fault → new ≡ old → OwnRow seat before old asked new
+
+abbrev pub IsQueue : Call → Type 0
+IsQueue (Queue_call files) = Unit {0}
+IsQueue call = ⊥
+
+abbrev pub AllQueue : List Event → Type 0
+AllQueue [] = Unit {0}
+AllQueue (e ∷ es) = IsQueue e.call × AllQueue es
+
+abbrev pub OneQueue : List Event → Type 0
+OneQueue [] = Unit {0}
+OneQueue (e ∷ []) = IsQueue e.call
+OneQueue (e ∷ f ∷ es) = ⊥
+
+-- files are taken in before a session opens, a request is answered behind its receipt, and nothing else stands beside
+abbrev pub StandBeside : Call → (before after : List Event) → Type 0
+StandBeside (Open_call role peers secure moment) before after = AllQueue before × (after ≡ [])
+StandBeside (File_call key offset) before after = (before ≡ []) × OneQueue after
+StandBeside (Data_call bytes) before after = (before ≡ []) × OneQueue after
+StandBeside call before after = (before ≡ []) × (after ≡ [])
+
+-- the rows before, the own one, and the rows behind
+pub record Rowed (seat : ℕ) (old : Knows) (e : Turned) (new : Knows) : Type 0 where
+  pub beside : StandBeside e.asked.call e.before e.after
+  pub asks : Knows
+  pub before : Beside seat old e.before asks
+  pub answers : Knows
+  pub own : OwnRow seat e.before asks e.asked answers
+  pub after : Beside seat answers e.after new
+
+-- one call of a desk with the rows beside it, at a state that drift reaches
+pub record CallsBeside (alone : Bool) (old : DeskState) (e : Turned) (new : DeskState) : Type 0 where
+  pub seat : new.seat ≡ old.seat
+  pub mid : Knows
+  pub drift : Drifts alone old.seat old.knows mid
+  pub rows : Rowed old.seat mid e new.knows
+
+-- these calls with the rows beside them lead from old to new
+abbrev pub Turns : Bool → DeskState → List Turned → DeskState → Type 0
+Turns alone old [] new = new ≡ old
+Turns alone old (e ∷ es) new = (mid : DeskState) × CallsBeside alone old e mid × Turns alone mid es new

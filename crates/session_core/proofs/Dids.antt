@@ -1,10 +1,10 @@
 -- Rows over messages that were made.
-use Rattle.std.proofs.Common.{◌≡◌, ◌≤◌, ◌-◌, ◌∙◌, ℕ, Bool, true, List, [], ◌∷◌, ◌++◌, length, Option, Some, None, Result, refl, sym, ap, subst, inl, inr, arith, true, false, not}
+use Rattle.std.proofs.Common.{◌≡◌, ◌⊎◌, ◌≤◌, ◌-◌, ◌∙◌, ℕ, Bool, true, List, [], ◌∷◌, ◌++◌, length, Option, Some, None, Result, refl, sym, ap, subst, inl, inr, arith, true, false, not}
 use Rattle.node_model.specs.Rows.{Go}
 use Rattle.std.proofs.lemmas.List.{append-nil}
 use Rattle.std.proofs.lemmas.List.Elements.{All-filter}
 use Rattle.ftn_addr.specs.Key.{Key}
-use Rattle.node_model.specs.Calls.{Open_call, File_call, Data_call, Answer, Filed, Event, one}
+use Rattle.node_model.specs.Calls.{Open_call, File_call, Data_call, Answer, Filed, Event, turned, asked_of}
 use Rattle.node_model.specs.Images.{Stand, Kept}
 use Rattle.node_model.specs.Talk.{Message, Got, Talk, Part, Verdict, on, AfterFile, FileTaken, Asks, AfterData, DataTaken, Fits}
 use Rattle.hub_core.specs.declared.desk.DeskFault.{DeskFault}
@@ -18,17 +18,17 @@ use Rattle.node_model.specs.declared.words.Role.TheVariants.{Answers}
 use Rattle.session_core.specs.declared.ending.Took.{Took}
 use Rattle.session_core.specs.declared.ending.Took.TheVariants as T
 use Rattle.session_core.specs.Sessions.{on as on_reply, said_bytes, Setting, Reply, Stage, Plain, AfterBegin, LoginRow}
-use Rattle.session_core.specs.Replies.{Acknowledges, Did, DidPlain, IfMore, Writes, DidTake, WritesStep, step_outcome}
-use Rattle.session_core.proofs.Rans.{ran_none, ran_one}
+use Rattle.session_core.specs.Replies.{Acknowledges, Did, DidPlain, MadeRow, NothingMore, IfMore, Writes, DidTake, WritesStep, step_outcome}
+use Rattle.node_model.proofs.Rans.{ran_none, ran_one}
 use Rattle.session_core.proofs.Writings.{wrote_all}
 
 pub did_file : (t : Talk) (key : Key) (offset : ℕ) (x : Answer) (v : Verdict) (alone : Bool) (old new : Stand) (held held' : Option Part) (out out' : List ℕ) (step : Result RecvStep DeskFault) → offset ≡ 0 → AfterFile t key x v → Kept alone old (File_call key offset) x new → held' ≡ held_after held (File_call key offset) x → WritesStep out out' v step → DidTake (FileTaken t key offset) alone old new held held' out out' step
 did_file t key offset x v alone old new held held' out out' step start after kept is writes =
-    record { events = one (File_call key offset) x; verdict = v; row = Asks start x refl after; ran = ran_one alone old _ x new kept; held_is = is; writes = writes }
+    record { events = turned (File_call key offset) x kept.rows_before kept.rows_after ∷ []; verdict = v; row = Asks start x refl after; ran = ran_one alone old _ x new kept; held_is = is; writes = writes }
 
 pub did_data : (t : Talk) (p : Part) (bytes : List ℕ) (x : Answer) (v : Verdict) (alone : Bool) (old new : Stand) (held held' : Option Part) (out out' : List ℕ) (step : Result RecvStep DeskFault) → held ≡ Some p → p.taking ≡ true → length bytes ≤ p.left → AfterData t p.key x v → Kept alone old (Data_call bytes) x new → held' ≡ held_after held (Data_call bytes) x → WritesStep out out' v step → DidTake (DataTaken held t bytes) alone old new held held' out out' step
 did_data t p bytes x v alone old new held held' out out' step has taking fits after kept is writes =
-    record { events = one (Data_call bytes) x; verdict = v; row = Fits p has taking fits x refl after; ran = ran_one alone old _ x new kept; held_is = is; writes = writes }
+    record { events = turned (Data_call bytes) x kept.rows_before kept.rows_after ∷ []; verdict = v; row = Fits p has taking fits x refl after; ran = ran_one alone old _ x new kept; held_is = is; writes = writes }
 
 -- nothing is said
 pub quiet : (out : List ℕ) (v : Verdict) (step : Result RecvStep DeskFault) → step_outcome step ≡ v.outcome → v.said ≡ [] → WritesStep out out v step
@@ -42,7 +42,7 @@ did_plain P v alone s held out step row is none =
 -- the acknowledgement is all that is said
 pub acknowledged : (t : Talk) (key : Key) (out out' : List ℕ) (step : Result RecvStep DeskFault) → Acknowledges key out out' step → WritesStep out out' (on t (Got key ∷ [])) step
 acknowledged t key out out' step (inl did) = inl (ap step_outcome did.0, did.1)
-acknowledged t key out out' step (inr did) = inr did
+acknowledged t key out out' step (inr did) = inr (did.0, omega arith, did.1)
 
 -- the same, with what is held seen otherwise
 pub held_as : (P : List Event → Verdict → Type 0) (alone : Bool) (old new : Stand) (out out' : List ℕ) (step : Result RecvStep DeskFault) {b c d : Option Part} → c ≡ d → DidTake P alone old new b c out out' step → DidTake P alone old new b d out out' step
@@ -58,10 +58,15 @@ pub did_row : (reply : Reply) (alone : Bool) (s : Stand) (stage : Stage) (out ou
 did_row reply alone s stage out out' took did =
     record { events = []; reply = reply; row = (refl, refl); ran = ran_none alone s; stage_is = did.stage_is; writes = did.writes }
 
+-- or none was made
+pub made_plain : (reply : Reply) (alone : Bool) (s : Stand) (stage : Stage) (out out' : List ℕ) (took : Took) → DidPlain reply stage out out' took ⊎ NothingMore out out' took → MadeRow (Plain reply) alone s s stage out out' took
+made_plain reply alone s stage out out' took (inl did) = inl (did_row reply alone s stage out out' took did)
+made_plain reply alone s stage out out' took (inr over) = inr (record { ran = ran_none alone s; out_is = over.1; over = over.0 })
+
 -- a row of one table is one of another
 pub did_as : (P Q : List Event → Reply → Type 0) (alone : Bool) (old new : Stand) (stage : Stage) (out out' : List ℕ) (took : Took) → ((es : List Event) (r : Reply) → P es r → Q es r) → Did P alone old new stage out out' took → Did Q alone old new stage out out' took
 did_as P Q alone old new stage out out' took f did =
-    record { events = did.events; reply = did.reply; row = f did.events did.reply did.row; ran = did.ran; stage_is = did.stage_is; writes = did.writes }
+    record { events = did.events; reply = did.reply; row = f (asked_of did.events) did.reply did.row; ran = did.ran; stage_is = did.stage_is; writes = did.writes }
 
 -- what is left of addresses within the limits is within them
 pub others_within : (home : Address) (xs : List Address) → All IsAddress xs → All IsAddress (without (same_address home) xs)
@@ -70,7 +75,8 @@ others_within home xs all = All-filter (λ a. not (same_address home a)) IsAddre
 -- the desk was asked to open a session
 pub did_login : (s : Setting) (peers seen : List Address) (x : Answer) (r : Reply) (alone : Bool) (old new : Stand) (stage : Stage) (out out' : List ℕ) (took : Took) → seen ≡ peers → AfterBegin peers x r → Kept alone old (Open_call Answers seen false s.moment) x new → IfMore took (stage ≡ r.stage) → Writes out out' r.output r.took took → Did (LoginRow s peers) alone old new stage out out' took
 did_login s peers seen x r alone old new stage out out' took same after kept stage_is writes =
-    record { events = one (Open_call Answers peers false s.moment) x; reply = r; row = record { answer = x; asks = refl; follows = after }; ran = ran_one alone old _ x new (subst (λ (p : List Address). Kept alone old (Open_call Answers p false s.moment) x new) same kept); stage_is = stage_is; writes = writes }
+    let k : Kept alone old (Open_call Answers peers false s.moment) x new = subst (λ (p : List Address). Kept alone old (Open_call Answers p false s.moment) x new) same kept in
+    record { events = turned (Open_call Answers peers false s.moment) x k.rows_before k.rows_after ∷ []; reply = r; row = record { answer = x; asks = refl; follows = after }; ran = ran_one alone old _ x new k; stage_is = stage_is; writes = writes }
 
 -- a frame is passed over
 pub did_pass : (alone : Bool) (s : Stand) (stage : Stage) (out : List ℕ) → Did (Plain (on_reply stage [])) alone s s stage out out T.More

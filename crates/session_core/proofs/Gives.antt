@@ -1,5 +1,5 @@
 -- Own turns that were made.
-use Rattle.std.proofs.Common.{◌≡◌, ◌∙◌, ℕ, true, false, List, [], ◌∷◌, ◌++◌, Option, refl, sym, ap, inl, inr}
+use Rattle.std.proofs.Common.{◌≡◌, ◌∙◌, ℕ, true, false, List, [], ◌∷◌, ◌++◌, Option, refl, sym, ap, inl, inr, arith}
 use Rattle.std.specs.Prelude.{◌||◌}
 use Rattle.std.proofs.lemmas.List.{append-nil}
 use Rattle.binkp_args.specs.Command.{Eob}
@@ -41,7 +41,7 @@ pub gave_up_end : (talk : Talk) (held : Option Part) (out out' : List ℕ) → t
 gave_up_end talk held out out' own may e = record {
   turn = record { output = said_bytes (End ∷ []); gave = G.Sent; stage = Talks (record talk { own_end = true }) held };
   row = record { verdict = on (record talk { own_end = true }) (End ∷ []); row = Says_end own may refl refl; is = refl };
-  is = inr (refl, refl, e);
+  is = inr (refl, refl, omega arith, e);
 }
 
 -- before login

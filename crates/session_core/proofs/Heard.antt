@@ -1,5 +1,5 @@
 -- Messages after login that were taken.
-use Rattle.std.proofs.Common.{◌≡◌, ◌⊎◌, ◌∙◌, ℕ, Bool, true, false, List, [], ◌∷◌, ◌++◌, Option, Result, Err, refl, sym, ap, subst, inl, inr}
+use Rattle.std.proofs.Common.{◌≡◌, ◌⊎◌, ◌∙◌, ℕ, Bool, true, false, List, [], ◌∷◌, ◌++◌, Option, Result, Err, refl, sym, ap, subst, inl, inr, ◌<◌, length, arith}
 use Rattle.std.specs.Prelude.{MatchBool}
 use Rattle.std.proofs.lemmas.List.{append-nil}
 use Rattle.ftn_addr.specs.Key.{Key}
@@ -8,7 +8,7 @@ use Rattle.binkp_args.specs.Reading.{Fails}
 use Rattle.binkp_args.specs.declared.fault.ArgFault.{ArgFault}
 use Rattle.binkp_args.specs.declared.fault.ArgFault.TheVariants.{MissingWord, BadNumber, LongName, TooLarge, PastEnd, NoAddress, NoMemory as NoMemoryFault}
 use Rattle.node_model.specs.Rows.{Have, Refuse, Elsewhere, Go, Whole, From, Late}
-use Rattle.node_model.specs.Calls.{Answer, Filed, More, Whole_now, Refused, Event}
+use Rattle.node_model.specs.Calls.{Answer, Filed, More, Whole_now, Refused, Event, asked_of}
 use Rattle.node_model.specs.Images.{Stand}
 use Rattle.node_model.specs.Talk.{on, End as EndMessage, Talk, Part, Message, Verdict, TakeRow, AfterFile, FileTaken, Asks, Not_yet, AfterData, DataTaken, Nothing_held, Drops, Exceeds, Fits, Outcome}
 use Rattle.hub_core.specs.declared.desk.DeskFault.{DeskFault}
@@ -19,8 +19,8 @@ use Rattle.session_core.specs.declared.ending.Took.TheVariants as T
 use Rattle.session_core.specs.declared.receiver.RecvStep.{RecvStep}
 use Rattle.session_core.specs.Sessions.{Setting, Said, ReadRow, unreadable, broken_frame, Stage, Talks, TalkRow, reply_of, said_bytes, outcome_bytes, outcome_took}
 use Rattle.session_core.specs.Replies.{Did, DidPlain, DidTake, IfMore, MadeRow, RefusesArgument, Writes, step_outcome}
-use Rattle.session_core.proofs.Writings.{wrote_all, wrote_then, no_more, if_more}
-use Rattle.session_core.proofs.Rans.{ran_none}
+use Rattle.session_core.proofs.Writings.{wrote_all, wrote_then, no_more, if_more, some_first}
+use Rattle.node_model.proofs.Rans.{ran_none}
 use Rattle.session_core.proofs.Dids.{did_row}
 
 -- what a file leaves of a talk: nothing changes
@@ -59,22 +59,22 @@ gave_up mid out' took w = go w.said
     nothing [] ys e = refl
     nothing (x ∷ xs) ys e = absurd (let clash : [] ≡ x ∷ (xs ++ ys) = e in cc)
 
-    go : ((took ≡ T.Ended E.NoMemory) × (w.written ≡ [])) ⊎ ((took ≡ T.Ended E.NoMemory) × ((rest : List ℕ) × ([] ≡ w.written ++ rest))) → (took ≡ T.Ended E.NoMemory) × (out' ≡ mid)
+    go : ((took ≡ T.Ended E.NoMemory) × (w.written ≡ [])) ⊎ ((took ≡ T.Ended E.NoMemory) × ((rest : List ℕ) × (0 < length rest) × ([] ≡ w.written ++ rest))) → (took ≡ T.Ended E.NoMemory) × (out' ≡ mid)
     go (inl d) = (d.0, w.grew ∙ ap (λ (x : List ℕ). mid ++ x) d.1 ∙ append-nil mid)
-    go (inr d) = (d.0, w.grew ∙ ap (λ (x : List ℕ). mid ++ x) (nothing w.written d.1.0 d.1.1) ∙ append-nil mid)
+    go (inr d) = (d.0, w.grew ∙ ap (λ (x : List ℕ). mid ++ x) (nothing w.written d.1.0 d.1.2) ∙ append-nil mid)
 
 -- a message was taken, and its end was told
 pub heard : (n : ℕ) (talk : Talk) (held held' : Option Part) (message : Message) (alone : Bool) (old new : Stand) (out mid out' : List ℕ) (step : Result RecvStep DeskFault) (took : Took) → ((es : List Event) (v : Verdict) → TakeRow held talk message es v → v.after ≡ talk) → DidTake (TakeRow held talk message) alone old new held held' out mid step → Writes mid out' (outcome_bytes (step_outcome step)) (outcome_took n (step_outcome step)) took → Did (TalkRow n talk held message) alone old new (Talks talk held') out out' took
 heard n talk held held' message alone old new out mid out' step took keeps d w = record {
   events = d.events;
-  reply = reply_of n held d.events d.verdict;
+  reply = reply_of n held (asked_of d.events) d.verdict;
   row = record { verdict = d.verdict; row = d.row; is = refl };
   ran = d.ran;
-  stage_is = if_more took _ (ap (λ (t : Talk). Talks t held') (sym (keeps d.events d.verdict d.row)) ∙ ap (λ (h : Option Part). Talks d.verdict.after h) d.held_is);
+  stage_is = if_more took _ (ap (λ (t : Talk). Talks t held') (sym (keeps (asked_of d.events) d.verdict d.row)) ∙ ap (λ (h : Option Part). Talks d.verdict.after h) d.held_is);
   writes = elim d.writes as (λ _. Writes out out' (said_bytes d.verdict.said ++ outcome_bytes d.verdict.outcome) (outcome_took n d.verdict.outcome) took) [
     | inl x ↦ wrote_then out mid out' (said_bytes d.verdict.said) (outcome_bytes d.verdict.outcome) (outcome_took n d.verdict.outcome) took x.1 (subst (λ (o : Outcome). Writes mid out' (outcome_bytes o) (outcome_took n o) took) x.0 w)
     | inr x ↦ let none = gave_up mid out' took (subst (λ (o : Outcome). Writes mid out' (outcome_bytes o) (outcome_took n o) took) (ap step_outcome x.0) w) in
-        let over : Writes out out' (said_bytes d.verdict.said ++ outcome_bytes d.verdict.outcome) (outcome_took n d.verdict.outcome) (T.Ended E.NoMemory) = no_more out out' _ _ (none.1 ∙ x.1) in
+        let over : Writes out out' (said_bytes d.verdict.said ++ outcome_bytes d.verdict.outcome) (outcome_took n d.verdict.outcome) (T.Ended E.NoMemory) = no_more out out' _ _ (some_first (said_bytes d.verdict.said) (outcome_bytes d.verdict.outcome) x.1) (none.1 ∙ x.2) in
         subst (λ (k : Took). Writes out out' (said_bytes d.verdict.said ++ outcome_bytes d.verdict.outcome) (outcome_took n d.verdict.outcome) k) (sym none.0) over
   ];
 }
@@ -117,7 +117,7 @@ ends_plain n stage stage' fault out out' (T.Ended end) P d = tt
 
 -- an argument that wasn't read
 pub refused_argument : (s : Setting) (n : ℕ) (stage stage' : Stage) (fault : ArgFault) (read : Result CommandText ArgFault) (alone : Bool) (desk : Stand) (out out' : List ℕ) (took : Took) → Fails fault read → RefusesArgument n stage fault stage' out out' took → MadeRow (ReadRow s n stage read) alone desk desk stage' out out' took
-refused_argument s n stage stage' fault read alone desk out out' took fails (inl x) = inr (record { desk = refl; out_is = x.2; over = x.1 })
+refused_argument s n stage stage' fault read alone desk out out' took fails (inl x) = inr (record { ran = ran_none alone desk; out_is = x.2; over = x.1 })
 refused_argument s n stage stage' fault read alone desk out out' took fails (inr x) =
     inl (rw (fault_told fault read x.0 fails) (did_row (unreadable n stage fault) alone desk stage' out out' took x.1))
 

@@ -1,4 +1,3 @@
-pub mod Rans
 pub mod Writings
 pub mod Dids
 pub mod Heard

@@ -1,23 +1,26 @@
 -- What was written of what a row says.
-use Rattle.std.proofs.Common.{◌≡◌, ℕ, List, [], ◌++◌, ◌∙◌, append_assoc, ap, refl, sym, inl, inr}
+use Rattle.std.proofs.Common.{◌≡◌, ◌<◌, ℕ, List, [], ◌∷◌, ◌++◌, codes, ◌∙◌, length, arith, append_assoc, ap, refl, sym, inl, inr}
 use Rattle.std.proofs.lemmas.List.{append-nil}
 use Rattle.session_core.specs.declared.ending.Took.{Took}
 use Rattle.session_core.specs.declared.ending.Took.TheVariants as T
 use Rattle.session_core.specs.declared.ending.End.TheVariants as E
-use Rattle.session_core.specs.Sessions.{Said}
-use Rattle.session_core.specs.Replies.{Writes, IfMore}
+use Rattle.binkp_args.specs.Command.{CommandText, Error, Accept}
+use Rattle.session_core.specs.declared.ending.Cause.{Cause}
+use Rattle.session_core.specs.declared.ending.Cause.TheVariants as C
+use Rattle.session_core.specs.Sessions.{Said, command_bytes, broken_frame, offset_again, disk_fault, ledger_full, welcome}
+use Rattle.session_core.specs.Replies.{Writes, IfMore, cause_bytes}
 
 -- all of it
 pub wrote_all : (old new output : List ℕ) (goal : Took) → new ≡ old ++ output → Writes old new output goal goal
 wrote_all old new output goal e = record { written = output; said = inl (refl, refl); grew = e }
 
 -- a front of it, and then no memory was left
-pub wrote_front : (old new front rest : List ℕ) (goal : Took) → new ≡ old ++ front → Writes old new (front ++ rest) goal (T.Ended E.NoMemory)
-wrote_front old new front rest goal e = record { written = front; said = inr (refl, (rest, refl)); grew = e }
+pub wrote_front : (old new front rest : List ℕ) (goal : Took) → 0 < length rest → new ≡ old ++ front → Writes old new (front ++ rest) goal (T.Ended E.NoMemory)
+wrote_front old new front rest goal some e = record { written = front; said = inr (refl, (rest, some, refl)); grew = e }
 
 -- nothing of it
-pub wrote_none : (old output : List ℕ) (goal : Took) → Writes old old output goal (T.Ended E.NoMemory)
-wrote_none old output goal = record { written = []; said = inr (refl, (output, refl)); grew = sym (append-nil old) }
+pub wrote_none : (old output : List ℕ) (goal : Took) → 0 < length output → Writes old old output goal (T.Ended E.NoMemory)
+wrote_none old output goal some = record { written = []; said = inr (refl, (output, some, refl)); grew = sym (append-nil old) }
 
 -- something, and then what a row says
 pub wrote_then : (old mid new first output : List ℕ) (goal took : Took) → mid ≡ old ++ first → Writes mid new output goal took → Writes old new (first ++ output) goal took
@@ -29,7 +32,7 @@ wrote_then old mid new first output goal took e w = record {
   where
     more : Said output goal w.written took → Said (first ++ output) goal (first ++ w.written) took
     more (inl did) = inl (did.0, ap (λ (x : List ℕ). first ++ x) did.1)
-    more (inr did) = inr (did.0, (did.1.0, ap (λ (x : List ℕ). first ++ x) did.1.1 ∙ sym (append_assoc first w.written did.1.0)))
+    more (inr did) = inr (did.0, (did.1.0, did.1.1, ap (λ (x : List ℕ). first ++ x) did.1.2 ∙ sym (append_assoc first w.written did.1.0)))
 
 -- what holds of every session holds of one that goes on
 pub if_more : (took : Took) (P : Type 0) → P → IfMore took P
@@ -37,5 +40,39 @@ if_more T.More P p = p
 if_more (T.Ended end) P p = tt
 
 -- nothing of it, where the output is as it was
-pub no_more : (old new output : List ℕ) (goal : Took) → new ≡ old → Writes old new output goal (T.Ended E.NoMemory)
-no_more old new output goal e = record { written = []; said = inr (refl, (output, refl)); grew = e ∙ sym (append-nil old) }
+pub no_more : (old new output : List ℕ) (goal : Took) → 0 < length output → new ≡ old → Writes old new output goal (T.Ended E.NoMemory)
+no_more old new output goal some e = record { written = []; said = inr (refl, (output, some, refl)); grew = e ∙ sym (append-nil old) }
+
+-- a command's frame has its header at least
+pub some_command : (command : CommandText) → 0 < length (command_bytes command)
+some_command command = omega arith
+
+pub some_broken : 0 < length broken_frame
+unfolding broken_frame
+some_broken = some_command (Error (codes "broken frame"))
+
+pub some_again : 0 < length offset_again
+unfolding offset_again
+some_again = some_command (Error (codes "offset again"))
+
+pub some_disk : 0 < length disk_fault
+unfolding disk_fault
+some_disk = some_command (Error (codes "disk fault"))
+
+pub some_full : 0 < length ledger_full
+unfolding ledger_full
+some_full = some_command (Error (codes "ledger full"))
+
+pub some_welcome : 0 < length welcome
+unfolding welcome
+some_welcome = some_command (Accept (codes "non-secure"))
+
+pub some_cause : (cause : Cause) → 0 < length (cause_bytes cause)
+some_cause C.Late = some_again
+some_cause (C.Arg fault) = some_broken
+some_cause C.OutOfTurn = some_broken
+some_cause C.TooMuch = some_broken
+
+pub some_first : (xs ys : List ℕ) → 0 < length xs → 0 < length (xs ++ ys)
+some_first [] ys h = absurd (omega (arith, h))
+some_first (x ∷ xs) ys h = omega arith

@@ -1,13 +1,13 @@
 -- How the code's rows stand to the session's: what was asked of the desk, and what was written.
-use Rattle.std.specs.Prelude.{◌≡◌, ◌≢◌, ◌⊎◌, ℕ, Bool, true, List, [], ◌∷◌, ◌++◌, map, Option, Some, None, Result, Ok, Err}
+use Rattle.std.specs.Prelude.{◌≡◌, ◌≢◌, ◌⊎◌, ◌<◌, ℕ, length, Bool, true, List, [], ◌∷◌, ◌++◌, map, Option, Some, None, Result, Ok, Err}
 use Rattle.ftn_addr.specs.Address.{address}
 use Rattle.ftn_addr.specs.Key.{Key, key_of}
 use Rattle.ftn_addr.specs.Limits.{IsKey}
 use Rattle.binkp_args.specs.Limits.{AreAddresses}
 use Rattle.binkp_args.specs.declared.fault.ArgFault.{ArgFault}
 use Rattle.binkp_args.specs.declared.fault.ArgFault.TheVariants.{NoMemory}
-use Rattle.node_model.specs.Calls.{Event}
-use Rattle.node_model.specs.Images.{Stand, Ran}
+use Rattle.node_model.specs.Calls.{Event, Turned, asked_of}
+use Rattle.node_model.specs.Images.{Stand, RanAt}
 use Rattle.node_model.specs.Talk.{Got, Talk, Part, Out_of_turn, Too_much, Refused_by, Outcome, Goes_on, Ends, Verdict}
 use Rattle.hub_core.specs.declared.desk.DeskFault.{DeskFault}
 use Rattle.hub_core.specs.declared.desk.DeskFault.TheVariants as D
@@ -82,10 +82,10 @@ pub record Writes (old new output : List ℕ) (goal took : Took) : Type 0 where
 
 -- a row was made
 pub record Did (P : List Event → Reply → Type 0) (alone : Bool) (old new : Stand) (stage : Stage) (out out' : List ℕ) (took : Took) : Type 0 where
-  pub events : List Event
+  pub events : List Turned
   pub reply : Reply
-  pub row : P events reply
-  pub ran : Ran alone old events new
+  pub row : P (asked_of events) reply
+  pub ran : RanAt alone old events new
   pub stage_is : IfMore took (stage ≡ reply.stage)
   pub writes : Writes out out' reply.output reply.took took
 
@@ -95,14 +95,18 @@ pub record DidPlain (reply : Reply) (stage : Stage) (out out' : List ℕ) (took 
   pub writes : Writes out out' reply.output reply.took took
 
 -- no row was made, for want of memory
-pub record GaveUp (old new : Stand) (out out' : List ℕ) (took : Took) : Type 0 where
-  pub desk : new.state ≡ old.state
+pub record GaveUp (alone : Bool) (old new : Stand) (out out' : List ℕ) (took : Took) : Type 0 where
+  pub ran : RanAt alone old [] new
   pub out_is : out' ≡ out
   pub over : took ≡ T.Ended E.NoMemory
 
+-- nothing was written for want of memory
+abbrev pub NothingMore : List ℕ → List ℕ → Took → Type 0
+NothingMore out out' took = (took ≡ T.Ended E.NoMemory) × (out' ≡ out)
+
 -- a row was made, or none for want of memory
 abbrev pub MadeRow : (List Event → Reply → Type 0) → Bool → Stand → Stand → Stage → List ℕ → List ℕ → Took → Type 0
-MadeRow P alone old new stage out out' took = Did P alone old new stage out out' took ⊎ GaveUp old new out out' took
+MadeRow P alone old new stage out out' took = Did P alone old new stage out out' took ⊎ GaveUp alone old new out out' took
 
 -- an argument wasn't read for want of memory, or it can't be read
 abbrev pub RefusesArgument : ℕ → Stage → ArgFault → Stage → List ℕ → List ℕ → Took → Type 0
@@ -131,21 +135,21 @@ step_outcome (Err fault) = Ends (Refused_by (fault_of fault))
 
 abbrev pub WritesStep : List ℕ → List ℕ → Verdict → Result RecvStep DeskFault → Type 0
 WritesStep out out' v step =
-    ((step_outcome step ≡ v.outcome) × (out' ≡ out ++ said_bytes v.said)) ⊎ ((step ≡ Err D.NoMemory) × (out' ≡ out))
+    ((step_outcome step ≡ v.outcome) × (out' ≡ out ++ said_bytes v.said)) ⊎ ((step ≡ Err D.NoMemory) × (0 < length (said_bytes v.said)) × (out' ≡ out))
 
 pub record DidTake (P : List Event → Verdict → Type 0) (alone : Bool) (old new : Stand) (held held' : Option Part) (out out' : List ℕ) (step : Result RecvStep DeskFault) : Type 0 where
-  pub events : List Event
+  pub events : List Turned
   pub verdict : Verdict
-  pub row : P events verdict
-  pub ran : Ran alone old events new
-  pub held_is : held' ≡ held_along held events
+  pub row : P (asked_of events) verdict
+  pub ran : RanAt alone old events new
+  pub held_is : held' ≡ held_along held (asked_of events)
   pub writes : WritesStep out out' verdict step
 
 -- the own turn was made, or given up for want of memory
 pub record DidGive (old new : Stage) (out out' : List ℕ) (gave : Gave) : Type 0 where
   pub turn : Turn
   pub row : GiveRow old turn
-  pub is : ((gave ≡ turn.gave) × (new ≡ turn.stage) × (out' ≡ out ++ turn.output)) ⊎ ((gave ≡ G.Ended E.NoMemory) × (new ≡ old) × (out' ≡ out))
+  pub is : ((gave ≡ turn.gave) × (new ≡ turn.stage) × (out' ≡ out ++ turn.output)) ⊎ ((gave ≡ G.Ended E.NoMemory) × (new ≡ old) × (0 < length turn.output) × (out' ≡ out))
 
 -- an M_GOT was written, or nothing for want of memory
 abbrev pub Acknowledges : Key → List ℕ → List ℕ → Result RecvStep DeskFault → Type 0

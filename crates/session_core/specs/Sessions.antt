@@ -1,6 +1,6 @@
 -- The rows of an answering session over frames: its login, and the messages after it (FTS-1026, session stages; the
 -- texts of M_OK, M_ERR and VER are own).
-use Rattle.std.specs.Prelude.{◌≡◌, ◌⊎◌, ℕ, ◌-◌, ◌^◌, min, Bool, true, false, ◌||◌, ◌&&◌, ◌==◌, nat_le, nat_eq, MatchBool, List, [], ◌∷◌, ◌++◌, length, Option, None, Result, Ok, Err, codes}
+use Rattle.std.specs.Prelude.{◌≡◌, ◌⊎◌, ℕ, ◌-◌, ◌^◌, ◌<◌, min, Bool, true, false, ◌||◌, ◌&&◌, ◌==◌, nat_le, nat_eq, MatchBool, List, [], ◌∷◌, ◌++◌, length, Option, None, Result, Ok, Err, codes}
 use Rattle.std.specs.List.{flat_map}
 use Rattle.std.specs.Cmp.Lexicographic.{pointwise}
 use Rattle.ftn_addr.specs.Address.{Address, same_address}
@@ -283,7 +283,7 @@ abbrev pub GiveRow : Stage → Turn → Type 0
 GiveRow (Talks talk held) t = TalkTurn talk held t
 GiveRow stage t = t ≡ record { output = []; gave = G.Waits; stage = stage }
 
--- Want of memory is free: in place of its reply a row that made its calls may write a front of it, and end.
+-- Want of memory is free: in place of its reply a row that made its calls may write less than all of it, and end.
 abbrev pub Said : List ℕ → Took → List ℕ → Took → Type 0
 Said output goal written took =
-    ((took ≡ goal) × (written ≡ output)) ⊎ ((took ≡ T.Ended E.NoMemory) × ((rest : List ℕ) × (output ≡ written ++ rest)))
+    ((took ≡ goal) × (written ≡ output)) ⊎ ((took ≡ T.Ended E.NoMemory) × ((rest : List ℕ) × (0 < length rest) × (output ≡ written ++ rest)))

@@ -1,10 +1,10 @@
 //! The login of a caller: its addresses, and its password.
-ghost use Rattle.std.specs.Prelude.{◌≡◌, map, [], ◌∷◌, ◌++◌, OnOk, IfOk};
+ghost use Rattle.std.specs.Prelude.{◌≡◌, ◌⊎◌, map, [], ◌∷◌, ◌++◌, OnOk, IfOk};
 ghost use Rattle.std.specs.List.{All};
 ghost use Rattle.ftn_addr.specs.Address.{address, same_address};
 ghost use Rattle.ftn_addr.specs.Limits.{IsAddress};
 ghost use Rattle.node_model.specs.Lists.{without};
-ghost use Rattle.session_core.specs.Replies.{Did, DidPlain, IfMore, IsWithin, Sits, SitsStill, heard_text, setting_of, stage_of};
+ghost use Rattle.session_core.specs.Replies.{Did, DidPlain, IfMore, IsWithin, NothingMore, Sits, SitsStill, heard_text, setting_of, stage_of};
 ghost use Rattle.session_core.specs.Sessions.{Awaits_password, Password, IsSound, LoginRow, PasswordRow, before_address, named, unreadable};
 
 use crate::hearing::Heard;
@@ -62,7 +62,7 @@ fn take_addresses(
     out: &mut Bytes,
 ) -> (Stage, Took)
     requires { All IsAddress (map address addresses.items) }
-    ensures row { DidPlain (named number (without (same_address (address home.now)) (map address addresses.items))) (stage_of result.0) out.old.list out.new.list result.1 }
+    ensures row { DidPlain (named number (without (same_address (address home.now)) (map address addresses.items))) (stage_of result.0) out.old.list out.new.list result.1 ⊎ NothingMore out.old.list out.new.list result.1 }
     ensures sound { IfMore result.1 (IsSound (stage_of result.0)) }
 {
     match without_home(alloc, addresses, home) {
@@ -91,7 +91,7 @@ pub fn take_before_address(
     out: &mut Bytes,
 ) -> (Stage, Took)
     requires { IsWithin (heard_text heard) }
-    ensures row { DidPlain (before_address (address home.now) number (heard_text heard)) (stage_of result.0) out.old.list out.new.list result.1 }
+    ensures row { DidPlain (before_address (address home.now) number (heard_text heard)) (stage_of result.0) out.old.list out.new.list result.1 ⊎ NothingMore out.old.list out.new.list result.1 }
     ensures sound { IfMore result.1 (IsSound (stage_of result.0)) }
 {
     match heard {

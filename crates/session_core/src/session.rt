@@ -47,7 +47,7 @@ fn take_heard<K: Desk>(
 ) -> (Stage, Took)
     requires within { IsWithin (heard_text heard) }
     requires sits { Sits (K.ready desk.old) (K.part desk.old) (stage_of stage) }
-    ensures row { Did (HeardRow (setting_of setting.now) number (stage_of stage) (heard_text heard)) K.alone (K.stand desk.old) (K.stand desk.new) (stage_of result.0) out.old.list out.new.list result.1 }
+    ensures row { MadeRow (HeardRow (setting_of setting.now) number (stage_of stage) (heard_text heard)) K.alone (K.stand desk.old) (K.stand desk.new) (stage_of result.0) out.old.list out.new.list result.1 }
     ensures sits { SitsStill (K.ready desk.new) (K.part desk.new) (stage_of result.0) result.1 }
 {
     match stage {

@@ -9,7 +9,7 @@ use Rattle.binkp_args.specs.declared.fault.ArgFault.{ArgFault}
 use Rattle.binkp_args.specs.Command.{CommandText, command_of}
 use Rattle.node_model.specs.Lists.{without}
 use Rattle.node_model.specs.Rows.{Have, Refuse, Elsewhere, Go, Whole, From, Late}
-use Rattle.node_model.specs.Calls.{Call, Fault, Disk, Read, Full, No_memory, Answer, Queued, Let_in, Busy, Begun, Offered, Nothing, Came, Settled, Filed, More, Whole_now, Acted, Given, Held, Refused, Event, one, Counts, counts_of, Caused, DeskState, Calls, Chain}
+use Rattle.node_model.specs.Calls.{Call, Fault, Disk, Read, Full, No_memory, Answer, Queued, Let_in, Busy, Begun, Offered, Nothing, Came, Settled, Filed, More, Whole_now, Acted, Given, Held, Refused, Event, one, Counts, counts_of, Caused, Knows, DeskState, Turned, asked_of, Beside, EndsRefused, OwnRow, Made_row, Missing, Rowed, CallsBeside, Turns}
 use Rattle.node_model.specs.Talk.{Message, File, Data as DataMessage, Got, Get, Skip, End as EndMessage, Talk, Part, Outcome, Verdict, TakeRow, TurnRow, AfterFile, AfterData, Asks, Not_yet, Nothing_held, Drops, Exceeds, Fits, Finishes, Rests, Says_end, Waits_for_end}
 use Rattle.session_core.specs.declared.ending.End.{End}
 use Rattle.session_core.specs.declared.ending.End.TheVariants as E
@@ -264,13 +264,29 @@ since_on a b c (Acted number) s e = since_is a b c s e
 since_on a b c (Given number) s e = since_is a b c s e
 since_on a b c (Held number) s e = since_is a b c s e
 
--- a call of a desk that is alone
-pub caused_alone : (a b : DeskState) (call : Call) (answer : Answer) → Calls true a call answer b → Caused (counts_of a.knows) answer (counts_of b.knows)
-caused_alone a b call answer c = subst (λ k. Caused (counts_of k) answer (counts_of b.knows)) c.drift c.caused
+-- Rows beside a call.
 
-pub since_chain : (before : Counts) (a b : DeskState) (es : List Event) → Since before (counts_of a.knows) → Chain true a es b → Since before (counts_of b.knows)
+since_beside : (before : Counts) (seat : ℕ) (a : Knows) (es : List Event) (b : Knows) → Since before (counts_of a) → Beside seat a es b → Since before (counts_of b)
+since_beside before seat a [] b s same = subst (λ (k : Knows). Since before (counts_of k)) (sym same) s
+since_beside before seat a (e ∷ es) b s (mid, caused, step, rest) = since_beside before seat mid es b (since_on before (counts_of a) (counts_of mid) e.answer s caused) rest
+
+since_own : (before : Counts) (seat : ℕ) (rows : List Event) (a : Knows) (asked : Event) (b : Knows) → Since before (counts_of a) → OwnRow seat rows a asked b → Since before (counts_of b)
+since_own before seat rows a asked b s (Made_row made caused step) = since_on before (counts_of a) (counts_of b) asked.answer s caused
+since_own before seat rows a asked b s (Missing fault refused is same) = subst (λ (k : Knows). Since before (counts_of k)) (sym same) s
+
+since_rowed : (before : Counts) (seat : ℕ) (a : Knows) (e : Turned) (b : Knows) → Since before (counts_of a) → Rowed seat a e b → Since before (counts_of b)
+since_rowed before seat a e b s r =
+    since_beside before seat r.answers e.after b (since_own before seat e.before r.asks e.asked r.answers (since_beside before seat a e.before r.asks s r.before) r.own) r.after
+
+rowed_alone : (a b : DeskState) (e : Turned) → CallsBeside true a e b → Rowed a.seat a.knows e b.knows
+rowed_alone a b e c = subst (λ (k : Knows). Rowed a.seat k e b.knows) c.drift c.rows
+
+pub since_turn : (before : Counts) (a b : DeskState) (e : Turned) → Since before (counts_of a.knows) → CallsBeside true a e b → Since before (counts_of b.knows)
+since_turn before a b e s c = since_rowed before a.seat a.knows e b.knows s (rowed_alone a b e c)
+
+pub since_chain : (before : Counts) (a b : DeskState) (es : List Turned) → Since before (counts_of a.knows) → Turns true a es b → Since before (counts_of b.knows)
 since_chain before a b [] s c = subst (λ (x : DeskState). Since before (counts_of x.knows)) (sym c) s
-since_chain before a b (e ∷ es) s (mid, made, rest) = since_chain before mid b es (since_on before (counts_of a.knows) (counts_of mid.knows) e.answer s (caused_alone a mid e.call e.answer made)) rest
+since_chain before a b (e ∷ es) s (mid, made, rest) = since_chain before mid b es (since_turn before a mid e s made) rest
 
 -- a refusal, by its count
 pub fault_cause : (a b c : Counts) (fault : Fault) → Since a b → Caused b (Refused fault) c → DeskCause (fault_end fault) a c
@@ -291,11 +307,51 @@ plain_desk m E.LedgerFull a c p = absurd p
 plain_desk m E.Quiet a c p = absurd p
 plain_desk m E.Endless a c p = absurd p
 
-one_caused : (a b : DeskState) (es : List Event) (call : Call) (answer : Answer) → es ≡ one call answer → Chain true a es b → Caused (counts_of a.knows) answer (counts_of b.knows)
-one_caused a b es call answer e c =
-    let x = subst (λ (l : List Event). Chain true a l b) e c in
-    subst (λ (d : DeskState). Caused (counts_of a.knows) answer (counts_of d.knows)) (sym x.2) (caused_alone a x.0 call answer x.1)
+pub later_desk : (end : End) (a b c : Counts) → DeskCause end a b → Since b c → DeskCause end a c
+later_desk (E.DiskFault count) a b c (inl e) s = inl e
+later_desk (E.DiskFault count) a b c (inr r) s = inr (rose_on a.faults b.faults c.faults r s.faults)
+later_desk E.LedgerFull a b c r s = rose_on a.fulls b.fulls c.fulls r s.fulls
+later_desk E.Finished a b c d s = tt
+later_desk (E.Broke cause n) a b c d s = tt
+later_desk E.Dropped a b c d s = tt
+later_desk E.LineFault a b c d s = tt
+later_desk E.Quiet a b c d s = tt
+later_desk E.Endless a b c d s = tt
+later_desk E.NoMemory a b c d s = tt
 
-pub row_desk : (m : ℕ) (before : Counts) (a b : DeskState) (es : List Event) (end : End) → Since before (counts_of a.knows) → Chain true a es b → RowCause m (T.Ended end) es → DeskCause end before (counts_of b.knows)
+refused_cause : (a b c : Counts) (answer : Answer) (fault : Fault) → answer ≡ Refused fault → Since a b → Caused b answer c → DeskCause (fault_end fault) a c
+refused_cause a b c answer fault is s caused = fault_cause a b c fault s (subst (λ (x : Answer). Caused b x c) is caused)
+
+beside_fault : (before : Counts) (seat : ℕ) (a : Knows) (es : List Event) (b : Knows) (fault : Fault) → Since before (counts_of a) → Beside seat a es b → EndsRefused es fault → DeskCause (fault_end fault) before (counts_of b)
+beside_fault before seat a [] b fault s rows refused = absurd refused
+beside_fault before seat a (e ∷ []) b fault s (mid, caused, step, same) refused =
+    subst (λ (k : Knows). DeskCause (fault_end fault) before (counts_of k)) (sym same) (refused_cause before (counts_of a) (counts_of mid) e.answer fault refused s caused)
+beside_fault before seat a (e ∷ f ∷ es) b fault s (mid, caused, step, rest) refused =
+    beside_fault before seat mid (f ∷ es) b fault (since_on before (counts_of a) (counts_of mid) e.answer s caused) rest refused
+
+own_fault : (before : Counts) (seat : ℕ) (a : Knows) (rows : List Event) (asks : Knows) (asked : Event) (b : Knows) (fault : Fault) → Since before (counts_of a) → Beside seat a rows asks → asked.answer ≡ Refused fault → OwnRow seat rows asks asked b → DeskCause (fault_end fault) before (counts_of b)
+own_fault before seat a rows asks asked b fault s beside is (Made_row made caused step) =
+    refused_cause before (counts_of asks) (counts_of b) asked.answer fault is (since_beside before seat a rows asks s beside) caused
+own_fault before seat a rows asks asked b fault s beside is (Missing other refused was same) =
+    let twice : Refused other ≡ Refused fault = sym was ∙ is in
+    let one_fault : other ≡ fault = cc in
+    subst (λ (k : Knows). DeskCause (fault_end fault) before (counts_of k)) (sym same) (beside_fault before seat a rows asks fault s beside (subst (λ (x : Fault). EndsRefused rows x) one_fault refused))
+
+rowed_fault : (before : Counts) (seat : ℕ) (a : Knows) (e : Turned) (b : Knows) (fault : Fault) → Since before (counts_of a) → e.asked.answer ≡ Refused fault → Rowed seat a e b → DeskCause (fault_end fault) before (counts_of b)
+rowed_fault before seat a e b fault s is r =
+    later_desk (fault_end fault) before (counts_of r.answers) (counts_of b) (own_fault before seat a e.before r.asks e.asked r.answers fault s r.before is r.own) (since_beside (counts_of r.answers) seat r.answers e.after b (since_same (counts_of r.answers)) r.after)
+
+-- a refused call of a desk that is alone
+pub turn_fault : (before : Counts) (a b : DeskState) (e : Turned) (fault : Fault) → Since before (counts_of a.knows) → e.asked.answer ≡ Refused fault → CallsBeside true a e b → DeskCause (fault_end fault) before (counts_of b.knows)
+turn_fault before a b e fault s is c = rowed_fault before a.seat a.knows e b.knows fault s is (rowed_alone a b e c)
+
+one_fault : (before : Counts) (a b : DeskState) (es : List Turned) (call : Call) (fault : Fault) → Since before (counts_of a.knows) → asked_of es ≡ one call (Refused fault) → Turns true a es b → DeskCause (fault_end fault) before (counts_of b.knows)
+one_fault before a b [] call fault s is c = absurd (let clash : [] ≡ one call (Refused fault) = is in cc)
+one_fault before a b (e ∷ []) call fault s is (mid, made, same) =
+    let first : e.asked ≡ record { call = call; answer = Refused fault } = cc in
+    subst (λ (d : DeskState). DeskCause (fault_end fault) before (counts_of d.knows)) (sym same) (turn_fault before a mid e fault s (ap (λ (x : Event). x.answer) first) made)
+one_fault before a b (e ∷ f ∷ es) call fault s is c = absurd (let clash : e.asked ∷ (f.asked ∷ asked_of es) ≡ one call (Refused fault) = is in cc)
+
+pub row_desk : (m : ℕ) (before : Counts) (a b : DeskState) (es : List Turned) (end : End) → Since before (counts_of a.knows) → Turns true a es b → RowCause m (T.Ended end) (asked_of es) → DeskCause end before (counts_of b.knows)
 row_desk m before a b es end s c (inl p) = plain_desk m end before (counts_of b.knows) p
-row_desk m before a b es end s c (inr r) = subst (λ x. DeskCause x before (counts_of b.knows)) (sym r.3) (fault_cause before (counts_of a.knows) (counts_of b.knows) r.1 s (one_caused a b es r.0 (Refused r.1) r.2 c))
+row_desk m before a b es end s c (inr r) = subst (λ x. DeskCause x before (counts_of b.knows)) (sym r.3) (one_fault before a b es r.0 r.1 s r.2 c)

@@ -1,7 +1,7 @@
 -- What holds of every session, step by step.
 use Rattle.std.proofs.Common.{◌≡◌, ◌∙◌, ℕ, Bool, true, false, List, [], ◌∷◌, ◌++◌, refl, sym, ap, subst, arith, append_assoc}
 use Rattle.std.proofs.lemmas.List.{append-nil}
-use Rattle.node_model.specs.Calls.{Event, one, Counts, counts_of, DeskState, Calls, Chain, Knock_call, Leave_call}
+use Rattle.node_model.specs.Calls.{Event, one, Counts, counts_of, DeskState, Turned, turned, asked_of, CallsBeside, Turns, Knock_call, Leave_call}
 use Rattle.node_model.specs.declared.words.Role.TheVariants.{Answers}
 use Rattle.session_core.specs.declared.ending.End.{End}
 use Rattle.session_core.specs.declared.ending.End.TheVariants as E
@@ -18,14 +18,14 @@ use Rattle.binkp_link.specs.Lines.{LineState, Moves, came, went}
 use Rattle.session_core.specs.Sessions.{Setting, frame_number}
 use Rattle.session_run.specs.Machine.{World, Phase, Starting, Taking, Writing, Reading, Over, Draining, Closed, MayGiveUp, Step, greets, takes_frame, makes_turn, writes, passes_write, reads, gives_up, leaves, drains, closes, Reach, here, next, opening, after_took, after_gave, after_read, after_write, after_drain}
 use Rattle.session_run.specs.Laws.{Facts, OwnCauseAt, EndCount, EndCountAt, LineCause, LineCauseAt, WholeAt, DeskCause, DeskCauseAt, Since}
-use Rattle.node_model.proofs.RisingCounts.{chain_joins}
-use Rattle.session_run.proofs.Causes.{RowCause, row_cause, said_cause, knock_cause, Finished_alone, turn_finishes, since_same, since_chain, caused_alone, row_desk}
+use Rattle.node_model.proofs.Rans.{joined}
+use Rattle.session_run.proofs.Causes.{RowCause, row_cause, said_cause, knock_cause, Finished_alone, turn_finishes, since_same, since_chain, row_desk}
 use Rattle.session_run.proofs.OwnCauses.{no_broke, took_own, said_broke, gave_own, read_own, write_own, drain_own, leave_own}
-use Rattle.session_run.proofs.LineLaws.{joined-last, moves_on, moves_not, took_ends, took_line, read_ends, read_faults, read_line, write_ends, write_faults, write_line, leave_ends, leave_line, leave_desk, drain_ends, drain_line, drain_whole, close_whole, rest_of, sent_on}
+use Rattle.session_run.proofs.LineLaws.{joined-last, moves_on, moves_not, took_ends, took_line, read_ends, read_faults, read_line, write_ends, write_faults, write_line, leave_ends, leave_drain, leave_desk, drain_ends, drain_line, drain_whole, close_line, close_whole, rest_of, sent_on}
 
-took_desk : (m : ℕ) (alone : Bool) (before : Counts) (a b : DeskState) (es : List Event) (took : Took) → (alone ≡ true → Since before (counts_of a.knows)) → Chain alone a es b → RowCause m took es → alone ≡ true → DeskCauseAt (after_took took) before (counts_of b.knows)
+took_desk : (m : ℕ) (alone : Bool) (before : Counts) (a b : DeskState) (es : List Turned) (took : Took) → (alone ≡ true → Since before (counts_of a.knows)) → Turns alone a es b → RowCause m took (asked_of es) → alone ≡ true → DeskCauseAt (after_took took) before (counts_of b.knows)
 took_desk m alone before a b es T.More s chain cause is = tt
-took_desk m alone before a b es (T.Ended end) s chain cause is = row_desk m before a b es end (s is) (subst (λ x. Chain x a es b) is chain) cause
+took_desk m alone before a b es (T.Ended end) s chain cause is = row_desk m before a b es end (s is) (subst (λ x. Turns x a es b) is chain) cause
 
 turn_ends : (gave : Gave) (before now : ℕ) → Finished_alone gave → now ≡ before → EndCountAt (after_gave gave) before now
 turn_ends G.Sent before now f e = e
@@ -57,13 +57,13 @@ early Taking m before now e = e
 early (Reading waits) m before now e = e
 early (Writing waits) m before now e = absurd m
 early (Over end) m before now e = absurd m
-early (Draining end) m before now e = absurd m
+early (Draining mute end) m before now e = absurd m
 early (Closed end) m before now e = absurd m
 
 -- phases that a read and a write lead to
 abbrev pub Is_on : Phase → Type 0
 Is_on (Closed end) = ⊥
-Is_on (Draining end) = ⊥
+Is_on (Draining mute end) = ⊥
 Is_on (Over E.LedgerFull) = ⊥
 Is_on (Over (E.DiskFault count)) = ⊥
 Is_on phase = Unit {0}
@@ -90,7 +90,7 @@ on_whole Taking before line output sent i = tt
 on_whole (Writing waits) before line output sent i = tt
 on_whole (Reading waits) before line output sent i = tt
 on_whole (Over end) before line output sent i = tt
-on_whole (Draining end) before line output sent i = tt
+on_whole (Draining mute end) before line output sent i = tt
 on_whole (Closed end) before line output sent i = absurd i
 
 on_desk : (p : Phase) (before now : Counts) → Is_on p → DeskCauseAt p before now
@@ -107,59 +107,60 @@ on_desk (Over E.LedgerFull) before now i = absurd i
 on_desk (Over E.Quiet) before now i = tt
 on_desk (Over E.Endless) before now i = tt
 on_desk (Over E.NoMemory) before now i = tt
-on_desk (Draining end) before now i = absurd i
+on_desk (Draining mute end) before now i = absurd i
 on_desk (Closed end) before now i = absurd i
 
 drain_desk : (answer : WriteAnswer) (end : End) (calm : ℕ) (before now : Counts) → DeskCause end before now → DeskCauseAt (after_drain answer calm end) before now
 drain_desk (W.Wrote n) end calm before now d = d
 drain_desk W.Quiet end calm before now d = go (nat_le 60 calm)
   where
-    go : (b : Bool) → DeskCauseAt (if b then Closed end else Draining end) before now
+    go : (b : Bool) → DeskCauseAt (if b then Closed end else Draining false end) before now
     go true = d
     go false = d
 drain_desk W.Failed end calm before now d = d
 
-chain_is : (alone : Bool) (a b : DeskState) (es : List Event) → alone ≡ true → Chain alone a es b → Chain true a es b
-chain_is alone a b es is c = subst (λ x. Chain x a es b) is c
+chain_is : (alone : Bool) (a b : DeskState) (es : List Turned) → alone ≡ true → Turns alone a es b → Turns true a es b
+chain_is alone a b es is c = subst (λ x. Turns x a es b) is c
 
-since_after : (alone : Bool) (before : Counts) (a b : DeskState) (es : List Event) → (alone ≡ true → Since before (counts_of a.knows)) → Chain alone a es b → alone ≡ true → Since before (counts_of b.knows)
+since_after : (alone : Bool) (before : Counts) (a b : DeskState) (es : List Turned) → (alone ≡ true → Since before (counts_of a.knows)) → Turns alone a es b → alone ≡ true → Since before (counts_of b.knows)
 since_after alone before a b es s chain is = since_chain before a b es (s is) (chain_is alone a b es is chain)
 
 pub keeps : (alone : Bool) (line : LineState) (desk : DeskState) (w v : World) → Facts alone line desk w → Step alone w v → Facts alone line desk v
 keeps alone line desk w v f (greets s) =
-    let chain : Chain alone w.desk (one (Knock_call Answers) s.answer) s.desk = (s.desk, s.call, refl) in
+    let e : Turned = turned (Knock_call Answers) s.answer s.rows_before s.rows_after in
+    let chain : Turns alone w.desk (e ∷ []) s.desk = (s.desk, s.call, refl) in
     let cause = said_cause 0 s.reply.output s.reply.took s.output s.took _ (knock_cause 0 w.setting (Knock_call Answers) s.answer s.reply s.follows) s.said in
     let later = said_cause 1 s.reply.output s.reply.took s.output s.took _ (knock_cause 1 w.setting (Knock_call Answers) s.answer s.reply s.follows) s.said in
     subst (Facts alone line desk) (sym s.is) (record {
       pieces = f.pieces;
       moves = f.moves;
-      chain = chain_joins alone desk w.events w.desk _ s.desk f.chain chain;
+      chain = (joined alone desk w.events w.desk (e ∷ []) s.desk f.chain chain).chain;
       left = f.left ++ s.output;
       front = ap (λ x. x ++ s.output) f.front ∙ append_assoc w.sent f.left s.output;
       whole = took_whole s.took _ _ _ _;
       faults = f.faults;
       ends = took_ends 0 s.took _ line.ends w.line.ends cause (subst (λ p. EndCountAt p line.ends w.line.ends) s.phase f.ends);
       line_cause = took_line 0 s.took _ _ _ _ cause;
-      counts = since_after alone _ w.desk s.desk (one (Knock_call Answers) s.answer) f.counts chain;
-      desk_cause = took_desk 0 alone _ w.desk s.desk (one (Knock_call Answers) s.answer) s.took f.counts chain cause;
+      counts = since_after alone _ w.desk s.desk (e ∷ []) f.counts chain;
+      desk_cause = took_desk 0 alone _ w.desk s.desk (e ∷ []) s.took f.counts chain cause;
       own_cause = took_own 0 s.took (one (Knock_call Answers) s.answer) w.setting s.reply.stage w.frames w.taken w.sent cause (λ c e. absurd (no_broke c 0 (one (Knock_call Answers) s.answer) (subst (λ (t : Took). RowCause 1 t (one (Knock_call Answers) s.answer)) e later)));
     })
 keeps alone line desk w v f (takes_frame s) =
     let n = frame_number (w.frames ++ s.frame ∷ []) in
-    let cause = said_cause n s.reply.output s.reply.took s.output s.took s.events (row_cause w.setting n w.stage s.frame s.events s.reply s.row) s.said in
+    let cause = said_cause n s.reply.output s.reply.took s.output s.took (asked_of s.events) (row_cause w.setting n w.stage s.frame (asked_of s.events) s.reply s.row) s.said in
     subst (Facts alone line desk) (sym s.is) (record {
       pieces = f.pieces;
       moves = f.moves;
-      chain = chain_joins alone desk w.events w.desk s.events s.desk f.chain s.chain;
+      chain = (joined alone desk w.events w.desk s.events s.desk f.chain s.chain).chain;
       left = f.left ++ s.output;
       front = ap (λ x. x ++ s.output) f.front ∙ append_assoc w.sent f.left s.output;
       whole = took_whole s.took _ _ _ _;
       faults = f.faults;
-      ends = took_ends n s.took s.events line.ends w.line.ends cause (subst (λ p. EndCountAt p line.ends w.line.ends) s.phase f.ends);
-      line_cause = took_line n s.took s.events _ _ _ cause;
+      ends = took_ends n s.took (asked_of s.events) line.ends w.line.ends cause (subst (λ p. EndCountAt p line.ends w.line.ends) s.phase f.ends);
+      line_cause = took_line n s.took (asked_of s.events) _ _ _ cause;
       counts = since_after alone _ w.desk s.desk s.events f.counts s.chain;
       desk_cause = took_desk n alone _ w.desk s.desk s.events s.took f.counts s.chain cause;
-      own_cause = took_own n s.took s.events w.setting s.reply.stage (w.frames ++ s.frame ∷ []) w.taken w.sent cause (λ c e. record { rest = s.rest; begins = s.next; earlier = w.frames; frame = s.frame; last = refl; number = refl; stage = w.stage; events = s.events; reply = s.reply; row = s.row; took = said_broke s.reply.output s.reply.took s.output s.took c n s.said e });
+      own_cause = took_own n s.took (asked_of s.events) w.setting s.reply.stage (w.frames ++ s.frame ∷ []) w.taken w.sent cause (λ c e. record { rest = s.rest; begins = s.next; earlier = w.frames; frame = s.frame; last = refl; number = refl; stage = w.stage; events = asked_of s.events; reply = s.reply; row = s.row; took = said_broke s.reply.output s.reply.took s.output s.took c n s.said e });
     })
 keeps alone line desk w v f (makes_turn s) =
     let alone_is = turn_finishes w.stage s.turn s.row in
@@ -234,19 +235,20 @@ keeps alone line desk w v f (gives_up s) = subst (Facts alone line desk) (sym s.
   own_cause = tt;
 })
 keeps alone line desk w v f (leaves s) =
-    let chain : Chain alone w.desk (one Leave_call s.answer) s.desk = (s.desk, s.call, refl) in
+    let e : Turned = turned Leave_call s.answer s.rows_before s.rows_after in
+    let chain : Turns alone w.desk (e ∷ []) s.desk = (s.desk, s.call, refl) in
     subst (Facts alone line desk) (sym s.is) (record {
       pieces = f.pieces;
       moves = f.moves;
-      chain = chain_joins alone desk w.events w.desk _ s.desk f.chain chain;
+      chain = (joined alone desk w.events w.desk (e ∷ []) s.desk f.chain chain).chain;
       left = f.left;
       front = f.front;
       whole = tt;
       faults = f.faults;
       ends = leave_ends s.end s.answer line.ends w.line.ends (subst (λ p. EndCountAt p line.ends w.line.ends) s.phase f.ends);
-      line_cause = leave_line s.end s.answer line.faults w.line.faults w.line.calm (subst (λ p. LineCauseAt p line.faults w.line.faults w.line.calm) s.phase f.line_cause);
-      counts = since_after alone _ w.desk s.desk (one Leave_call s.answer) f.counts chain;
-      desk_cause = λ is. leave_desk s.end s.answer (counts_of desk.knows) (counts_of w.desk.knows) (counts_of s.desk.knows) (f.counts is) (caused_alone w.desk s.desk Leave_call s.answer (subst (λ x. Calls x w.desk Leave_call s.answer s.desk) is s.call))
+      line_cause = leave_drain s.end s.answer line.faults w.line.faults w.line.calm (subst (λ p. LineCauseAt p line.faults w.line.faults w.line.calm) s.phase f.line_cause);
+      counts = since_after alone _ w.desk s.desk (e ∷ []) f.counts chain;
+      desk_cause = λ is. leave_desk s.end s.answer (counts_of desk.knows) w.desk s.desk s.rows_before s.rows_after (f.counts is) (subst (λ x. CallsBeside x w.desk e s.desk) is s.call)
           (subst (λ p. DeskCauseAt p (counts_of desk.knows) (counts_of w.desk.knows)) s.phase (f.desk_cause is));
       own_cause = leave_own s.end s.answer w.setting w.stage w.frames w.taken w.sent (subst (λ (p : Phase). OwnCauseAt p w.setting w.stage w.frames w.taken w.sent) s.phase f.own_cause);
     })
@@ -259,7 +261,7 @@ keeps alone line desk w v f (drains s) = subst (Facts alone line desk) (sym s.is
   whole = drain_whole w.line s.line s.answer s.left s.end line.faults _ _ s.step f.faults;
   faults = write_faults w.line s.line s.answer s.left line.faults s.step f.faults;
   ends = drain_ends w.line s.line s.answer s.left s.end line.ends s.step (subst (λ p. EndCountAt p line.ends w.line.ends) s.phase f.ends);
-  line_cause = drain_line s.answer s.end _ _ _ s.speaks;
+  line_cause = drain_line s.answer s.end _ _ _ (subst (λ p. LineCauseAt p line.faults w.line.faults w.line.calm) s.phase f.line_cause);
   counts = f.counts;
   desk_cause = λ is. drain_desk s.answer s.end s.line.calm _ _ (subst (λ p. DeskCauseAt p (counts_of desk.knows) (counts_of w.desk.knows)) s.phase (f.desk_cause is));
   own_cause = drain_own s.answer s.line.calm s.end w.setting w.stage w.frames w.taken w.sent (went s.answer s.left) (subst (λ (p : Phase). OwnCauseAt p w.setting w.stage w.frames w.taken w.sent) s.phase f.own_cause);
@@ -270,10 +272,10 @@ keeps alone line desk w v f (closes s) = subst (Facts alone line desk) (sym s.is
   chain = f.chain;
   left = f.left;
   front = f.front;
-  whole = close_whole s.end line.faults w.line w.output w.sent (subst (λ p. LineCauseAt p line.faults w.line.faults w.line.calm) s.phase f.line_cause) s.done;
+  whole = close_whole s.mute s.end line.faults w.line w.output w.sent (subst (λ p. LineCauseAt p line.faults w.line.faults w.line.calm) s.phase f.line_cause) s.done;
   faults = f.faults;
   ends = subst (λ p. EndCountAt p line.ends w.line.ends) s.phase f.ends;
-  line_cause = subst (λ p. LineCauseAt p line.faults w.line.faults w.line.calm) s.phase f.line_cause;
+  line_cause = close_line s.mute s.end _ _ _ (subst (λ p. LineCauseAt p line.faults w.line.faults w.line.calm) s.phase f.line_cause);
   counts = f.counts;
   desk_cause = λ is. subst (λ p. DeskCauseAt p (counts_of desk.knows) (counts_of w.desk.knows)) s.phase (f.desk_cause is);
   own_cause = subst (λ (p : Phase). OwnCauseAt p w.setting w.stage w.frames w.taken w.sent) s.phase f.own_cause;

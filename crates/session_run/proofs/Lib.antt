@@ -6,3 +6,4 @@ pub mod LineLaws
 pub mod Laws
 pub mod OwnCauses
 pub mod Settings
+pub mod Alone

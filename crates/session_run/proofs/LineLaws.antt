@@ -4,7 +4,7 @@ use Rattle.std.specs.Prelude.{nat_le, if◌then◌else◌}
 use Rattle.std.proofs.lemmas.List.{append-nil, take-append-drop}
 use Rattle.std.proofs.lemmas.Bool.{leb-true}
 use Rattle.ftn_addr.specs.Counts.{Rose, risen}
-use Rattle.node_model.specs.Calls.{Event, Fault, Disk, Read, Full, No_memory, Answer, Queued, Let_in, Busy, Begun, Offered, Nothing, Came, Settled, Filed, More, Whole_now, Acted, Given, Held, Refused, Counts, Caused}
+use Rattle.node_model.specs.Calls.{Event, Fault, Disk, Read, Full, No_memory, Answer, Queued, Let_in, Busy, Begun, Offered, Nothing, Came, Settled, Filed, More, Whole_now, Acted, Given, Held, Refused, Leave_call, Counts, counts_of, DeskState, turned, CallsBeside}
 use Rattle.binkp_link.specs.declared.link.ReadAnswer.{ReadAnswer}
 use Rattle.binkp_link.specs.declared.link.ReadAnswer.TheVariants as R
 use Rattle.binkp_link.specs.declared.link.WriteAnswer.{WriteAnswer}
@@ -16,8 +16,8 @@ use Rattle.session_core.specs.declared.ending.Took.TheVariants as T
 use Rattle.binkp_link.specs.Lines.{LineBytes, LineState, Moves, IsRead, IsWrite, went}
 use Rattle.session_core.specs.Sessions.{fault_end}
 use Rattle.session_run.specs.Machine.{Phase, Taking, Reading, Over, Draining, Closed, after_took, after_read, after_write, after_drain, after_leave, is_mute}
-use Rattle.session_run.specs.Laws.{joined, EndCount, EndCountAt, LineCause, LineCauseAt, WholeAt, DeskCause, Since}
-use Rattle.session_run.proofs.Causes.{Plain_end, Refused_end, RowCause, since_on, since_same, fault_cause, rose_on}
+use Rattle.session_run.specs.Laws.{joined, EndCount, EndCountAt, LineCause, LineCauseAt, DrainCause, WholeAt, DeskCause, Since}
+use Rattle.session_run.proofs.Causes.{Plain_end, Refused_end, RowCause, since_same, since_turn, later_desk, turn_fault}
 
 pub joined-last : (pieces : List (List ℕ)) (piece : List ℕ) → joined (pieces ++ piece ∷ []) ≡ joined pieces ++ piece
 joined-last [] piece = append-nil piece
@@ -161,7 +161,7 @@ leave_ends end (Acted number) before now e = e
 leave_ends end (Given number) before now e = e
 leave_ends end (Held number) before now e = e
 
-pub leave_line : (end : End) (answer : Answer) (before now calm : ℕ) → LineCause end before now calm → LineCause (after_leave end answer) before now calm
+leave_line : (end : End) (answer : Answer) (before now calm : ℕ) → LineCause end before now calm → LineCause (after_leave end answer) before now calm
 leave_line end (Refused (Disk count)) before now calm m = tt
 leave_line end (Refused (Read count)) before now calm m = m
 leave_line end (Refused Full) before now calm m = m
@@ -181,37 +181,45 @@ leave_line end (Acted number) before now calm m = m
 leave_line end (Given number) before now calm m = m
 leave_line end (Held number) before now calm m = m
 
-later_desk : (end : End) (a b c : Counts) → DeskCause end a b → Since b c → DeskCause end a c
-later_desk (E.DiskFault count) a b c (inl e) s = inl e
-later_desk (E.DiskFault count) a b c (inr r) s = inr (rose_on a.faults b.faults c.faults r s.faults)
-later_desk E.LedgerFull a b c r s = rose_on a.fulls b.fulls c.fulls r s.fulls
-later_desk E.Finished a b c d s = tt
-later_desk (E.Broke cause n) a b c d s = tt
-later_desk E.Dropped a b c d s = tt
-later_desk E.LineFault a b c d s = tt
-later_desk E.Quiet a b c d s = tt
-later_desk E.Endless a b c d s = tt
-later_desk E.NoMemory a b c d s = tt
+leave_speaks : (end : End) (answer : Answer) → is_mute end ≡ false → is_mute (after_leave end answer) ≡ false
+leave_speaks end (Refused (Disk count)) speaks = refl
+leave_speaks end (Refused (Read count)) speaks = speaks
+leave_speaks end (Refused Full) speaks = speaks
+leave_speaks end (Refused No_memory) speaks = speaks
+leave_speaks end (Queued slots) speaks = speaks
+leave_speaks end Let_in speaks = speaks
+leave_speaks end Busy speaks = speaks
+leave_speaks end (Begun number) speaks = speaks
+leave_speaks end (Offered number key) speaks = speaks
+leave_speaks end Nothing speaks = speaks
+leave_speaks end (Came bytes) speaks = speaks
+leave_speaks end Settled speaks = speaks
+leave_speaks end (Filed answer) speaks = speaks
+leave_speaks end More speaks = speaks
+leave_speaks end Whole_now speaks = speaks
+leave_speaks end (Acted number) speaks = speaks
+leave_speaks end (Given number) speaks = speaks
+leave_speaks end (Held number) speaks = speaks
 
-pub leave_desk : (end : End) (answer : Answer) (a b c : Counts) → Since a b → Caused b answer c → DeskCause end a b → DeskCause (after_leave end answer) a c
-leave_desk end (Refused (Disk count)) a b c s caused d = fault_cause a b c (Disk count) s caused
-leave_desk end (Refused (Read count)) a b c s caused d = later_desk end a b c d (since_on b b c (Refused (Read count)) (since_same b) caused)
-leave_desk end (Refused Full) a b c s caused d = later_desk end a b c d (since_on b b c (Refused Full) (since_same b) caused)
-leave_desk end (Refused No_memory) a b c s caused d = later_desk end a b c d (since_on b b c (Refused No_memory) (since_same b) caused)
-leave_desk end (Queued slots) a b c s caused d = later_desk end a b c d (since_on b b c (Queued slots) (since_same b) caused)
-leave_desk end Let_in a b c s caused d = later_desk end a b c d (since_on b b c Let_in (since_same b) caused)
-leave_desk end Busy a b c s caused d = later_desk end a b c d (since_on b b c Busy (since_same b) caused)
-leave_desk end (Begun number) a b c s caused d = later_desk end a b c d (since_on b b c (Begun number) (since_same b) caused)
-leave_desk end (Offered number key) a b c s caused d = later_desk end a b c d (since_on b b c (Offered number key) (since_same b) caused)
-leave_desk end Nothing a b c s caused d = later_desk end a b c d (since_on b b c Nothing (since_same b) caused)
-leave_desk end (Came bytes) a b c s caused d = later_desk end a b c d (since_on b b c (Came bytes) (since_same b) caused)
-leave_desk end Settled a b c s caused d = later_desk end a b c d (since_on b b c Settled (since_same b) caused)
-leave_desk end (Filed answer) a b c s caused d = later_desk end a b c d (since_on b b c (Filed answer) (since_same b) caused)
-leave_desk end More a b c s caused d = later_desk end a b c d (since_on b b c More (since_same b) caused)
-leave_desk end Whole_now a b c s caused d = later_desk end a b c d (since_on b b c Whole_now (since_same b) caused)
-leave_desk end (Acted number) a b c s caused d = later_desk end a b c d (since_on b b c (Acted number) (since_same b) caused)
-leave_desk end (Given number) a b c s caused d = later_desk end a b c d (since_on b b c (Given number) (since_same b) caused)
-leave_desk end (Held number) a b c s caused d = later_desk end a b c d (since_on b b c (Held number) (since_same b) caused)
+pub leave_desk : (end : End) (answer : Answer) (a : Counts) (b c : DeskState) (rows_before rows_after : List Event) → Since a (counts_of b.knows) → CallsBeside true b (turned Leave_call answer rows_before rows_after) c → DeskCause end a (counts_of b.knows) → DeskCause (after_leave end answer) a (counts_of c.knows)
+leave_desk end (Refused (Disk count)) a b c r q s made d = turn_fault a b c (turned Leave_call (Refused (Disk count)) r q) (Disk count) s refl made
+leave_desk end (Refused (Read count)) a b c r q s made d = later_desk end a (counts_of b.knows) (counts_of c.knows) d (since_turn (counts_of b.knows) b c (turned Leave_call (Refused (Read count)) r q) (since_same (counts_of b.knows)) made)
+leave_desk end (Refused Full) a b c r q s made d = later_desk end a (counts_of b.knows) (counts_of c.knows) d (since_turn (counts_of b.knows) b c (turned Leave_call (Refused Full) r q) (since_same (counts_of b.knows)) made)
+leave_desk end (Refused No_memory) a b c r q s made d = later_desk end a (counts_of b.knows) (counts_of c.knows) d (since_turn (counts_of b.knows) b c (turned Leave_call (Refused No_memory) r q) (since_same (counts_of b.knows)) made)
+leave_desk end (Queued slots) a b c r q s made d = later_desk end a (counts_of b.knows) (counts_of c.knows) d (since_turn (counts_of b.knows) b c (turned Leave_call (Queued slots) r q) (since_same (counts_of b.knows)) made)
+leave_desk end Let_in a b c r q s made d = later_desk end a (counts_of b.knows) (counts_of c.knows) d (since_turn (counts_of b.knows) b c (turned Leave_call Let_in r q) (since_same (counts_of b.knows)) made)
+leave_desk end Busy a b c r q s made d = later_desk end a (counts_of b.knows) (counts_of c.knows) d (since_turn (counts_of b.knows) b c (turned Leave_call Busy r q) (since_same (counts_of b.knows)) made)
+leave_desk end (Begun number) a b c r q s made d = later_desk end a (counts_of b.knows) (counts_of c.knows) d (since_turn (counts_of b.knows) b c (turned Leave_call (Begun number) r q) (since_same (counts_of b.knows)) made)
+leave_desk end (Offered number key) a b c r q s made d = later_desk end a (counts_of b.knows) (counts_of c.knows) d (since_turn (counts_of b.knows) b c (turned Leave_call (Offered number key) r q) (since_same (counts_of b.knows)) made)
+leave_desk end Nothing a b c r q s made d = later_desk end a (counts_of b.knows) (counts_of c.knows) d (since_turn (counts_of b.knows) b c (turned Leave_call Nothing r q) (since_same (counts_of b.knows)) made)
+leave_desk end (Came bytes) a b c r q s made d = later_desk end a (counts_of b.knows) (counts_of c.knows) d (since_turn (counts_of b.knows) b c (turned Leave_call (Came bytes) r q) (since_same (counts_of b.knows)) made)
+leave_desk end Settled a b c r q s made d = later_desk end a (counts_of b.knows) (counts_of c.knows) d (since_turn (counts_of b.knows) b c (turned Leave_call Settled r q) (since_same (counts_of b.knows)) made)
+leave_desk end (Filed answer) a b c r q s made d = later_desk end a (counts_of b.knows) (counts_of c.knows) d (since_turn (counts_of b.knows) b c (turned Leave_call (Filed answer) r q) (since_same (counts_of b.knows)) made)
+leave_desk end More a b c r q s made d = later_desk end a (counts_of b.knows) (counts_of c.knows) d (since_turn (counts_of b.knows) b c (turned Leave_call More r q) (since_same (counts_of b.knows)) made)
+leave_desk end Whole_now a b c r q s made d = later_desk end a (counts_of b.knows) (counts_of c.knows) d (since_turn (counts_of b.knows) b c (turned Leave_call Whole_now r q) (since_same (counts_of b.knows)) made)
+leave_desk end (Acted number) a b c r q s made d = later_desk end a (counts_of b.knows) (counts_of c.knows) d (since_turn (counts_of b.knows) b c (turned Leave_call (Acted number) r q) (since_same (counts_of b.knows)) made)
+leave_desk end (Given number) a b c r q s made d = later_desk end a (counts_of b.knows) (counts_of c.knows) d (since_turn (counts_of b.knows) b c (turned Leave_call (Given number) r q) (since_same (counts_of b.knows)) made)
+leave_desk end (Held number) a b c r q s made d = later_desk end a (counts_of b.knows) (counts_of c.knows) d (since_turn (counts_of b.knows) b c (turned Leave_call (Held number) r q) (since_same (counts_of b.knows)) made)
 
 -- What is left is written.
 
@@ -219,7 +227,7 @@ pub drain_ends : (old new : LineState) (answer : WriteAnswer) (left : List ℕ) 
 drain_ends old new (W.Wrote n) left end before is e = subst (λ x. EndCount end before x) (sym is.ends) e
 drain_ends old new W.Quiet left end before is e = either_phase (nat_le 60 new.calm) (subst (λ x. EndCount end before x) (sym is.ends) e)
   where
-    either_phase : (b : Bool) → EndCount end before new.ends → EndCountAt (if b then Closed end else Draining end) before new.ends
+    either_phase : (b : Bool) → EndCount end before new.ends → EndCountAt (if b then Closed end else Draining false end) before new.ends
     either_phase true e = e
     either_phase false e = e
 drain_ends old new W.Failed left end before is e = subst (λ x. EndCount end before x) (sym is.ends) e
@@ -236,34 +244,50 @@ speaking E.Endless before now calm e = tt
 speaking E.NoMemory before now calm e = tt
 
 pub drain_line : (answer : WriteAnswer) (end : End) (before now calm : ℕ) → is_mute end ≡ false → LineCauseAt (after_drain answer calm end) before now calm
-drain_line (W.Wrote n) end before now calm speaks = speaking end before now calm speaks
+drain_line (W.Wrote n) end before now calm speaks = speaks
 drain_line W.Quiet end before now calm speaks = either_phase (nat_le 60 calm)
   where
-    either_phase : (b : Bool) → LineCauseAt (if b then Closed end else Draining end) before now calm
+    either_phase : (b : Bool) → LineCauseAt (if b then Closed end else Draining false end) before now calm
     either_phase true = speaking end before now calm speaks
-    either_phase false = speaking end before now calm speaks
+    either_phase false = speaks
 drain_line W.Failed end before now calm speaks = speaking end before now calm speaks
+
+-- the cause of an end that is mute
+mute_cause : (end : End) (before now calm : ℕ) → is_mute end ≡ true → LineCause end before now calm → Rose before now ⊎ (60 ≤ calm)
+mute_cause E.LineFault before now calm mute m = inl m
+mute_cause E.Quiet before now calm mute m = inr m
+mute_cause E.Finished before now calm mute m = absurd (let clash : false ≡ true = mute in cc)
+mute_cause (E.Broke cause n) before now calm mute m = absurd (let clash : false ≡ true = mute in cc)
+mute_cause E.Dropped before now calm mute m = absurd (let clash : false ≡ true = mute in cc)
+mute_cause (E.DiskFault count) before now calm mute m = absurd (let clash : false ≡ true = mute in cc)
+mute_cause E.LedgerFull before now calm mute m = absurd (let clash : false ≡ true = mute in cc)
+mute_cause E.Endless before now calm mute m = absurd (let clash : false ≡ true = mute in cc)
+mute_cause E.NoMemory before now calm mute m = absurd (let clash : false ≡ true = mute in cc)
+
+pub leave_drain : (end : End) (answer : Answer) (before now calm : ℕ) → LineCause end before now calm → DrainCause (is_mute end) (after_leave end answer) before now calm
+leave_drain end answer before now calm m = go (is_mute end) refl
+  where
+    go : (b : Bool) → is_mute end ≡ b → DrainCause b (after_leave end answer) before now calm
+    go true mute = (leave_line end answer before now calm m, mute_cause end before now calm mute m)
+    go false speaks = leave_speaks end answer speaks
+
+pub close_line : (mute : Bool) (end : End) (before now calm : ℕ) → DrainCause mute end before now calm → LineCause end before now calm
+close_line true end before now calm m = m.0
+close_line false end before now calm speaks = speaking end before now calm speaks
 
 pub drain_whole : (old new : LineState) (answer : WriteAnswer) (left : List ℕ) (end : End) (before : ℕ) (output sent : List ℕ) → IsWrite old answer left new → before ≤ old.faults → WholeAt (after_drain answer new.calm end) before new output sent
 drain_whole old new (W.Wrote n) left end before output sent is le = tt
 drain_whole old new W.Quiet left end before output sent is le = either_phase (nat_le 60 new.calm) refl
   where
-    either_phase : (b : Bool) → nat_le 60 new.calm ≡ b → WholeAt (if b then Closed end else Draining end) before new output sent
+    either_phase : (b : Bool) → nat_le 60 new.calm ≡ b → WholeAt (if b then Closed end else Draining false end) before new output sent
     either_phase true t = inr (inr (leb-true 60 new.calm t))
     either_phase false t = tt
 drain_whole old new W.Failed left end before output sent is le = inr (inl (omega (arith, is.faults)))
 
-pub close_whole : (end : End) (before : ℕ) (line : LineState) (output sent : List ℕ) → LineCause end before line.faults line.calm → (is_mute end ≡ true) ⊎ (output ≡ sent) → (output ≡ sent) ⊎ (Rose before line.faults ⊎ (60 ≤ line.calm))
-close_whole end before line output sent m (inr all) = inl all
-close_whole E.LineFault before line output sent m (inl mute) = inr (inl m)
-close_whole E.Quiet before line output sent m (inl mute) = inr (inr m)
-close_whole E.Finished before line output sent m (inl mute) = absurd (let clash : false ≡ true = mute in cc)
-close_whole (E.Broke cause n) before line output sent m (inl mute) = absurd (let clash : false ≡ true = mute in cc)
-close_whole E.Dropped before line output sent m (inl mute) = absurd (let clash : false ≡ true = mute in cc)
-close_whole (E.DiskFault count) before line output sent m (inl mute) = absurd (let clash : false ≡ true = mute in cc)
-close_whole E.LedgerFull before line output sent m (inl mute) = absurd (let clash : false ≡ true = mute in cc)
-close_whole E.Endless before line output sent m (inl mute) = absurd (let clash : false ≡ true = mute in cc)
-close_whole E.NoMemory before line output sent m (inl mute) = absurd (let clash : false ≡ true = mute in cc)
+pub close_whole : (mute : Bool) (end : End) (before : ℕ) (line : LineState) (output sent : List ℕ) → DrainCause mute end before line.faults line.calm → (mute ≡ true) ⊎ (output ≡ sent) → (output ≡ sent) ⊎ (Rose before line.faults ⊎ (60 ≤ line.calm))
+close_whole mute end before line output sent m (inr all) = inl all
+close_whole true end before line output sent m (inl is) = inr m.1
+close_whole false end before line output sent m (inl is) = absurd (let clash : false ≡ true = is in cc)
 
 -- what a write didn't take is still left
 unfoldable pub rest_of : WriteAnswer → List ℕ → List ℕ

@@ -110,7 +110,7 @@ drain_own (W.Wrote n) calm end s stage frames taken sent more c = grow_own end s
 drain_own W.Failed calm end s stage frames taken sent more c = grow_own end s stage frames taken sent more c
 drain_own W.Quiet calm end s stage frames taken sent more c = go (nat_le 60 calm)
   where
-    go : (b : Bool) → OwnCauseAt (if b then Closed end else Draining end) s stage frames taken (sent ++ more)
+    go : (b : Bool) → OwnCauseAt (if b then Closed end else Draining false end) s stage frames taken (sent ++ more)
     go true = grow_own end s stage frames taken sent more c
     go false = grow_own end s stage frames taken sent more c
 

@@ -9,10 +9,12 @@ use Rattle.ftn_addr.specs.Frames.{FrameText, Block, spelling}
 use Rattle.binkp_frame.specs.Stream.{Begins, Splits, Feeds, frame_in}
 use Rattle.binkp_frame.specs.Views.{frame_text, frame_texts}
 use Rattle.binkp_frame.specs.declared.frame.Frame.{Frame}
-use Rattle.node_model.specs.Calls.{DeskState, Answer, one, Calls, Chain, Knock_call, Leave_call}
+use Rattle.node_model.specs.Calls.{DeskState, Answer, Turned, turned, asked_of, CallsBeside, Turns, Knock_call, Leave_call}
 use Rattle.node_model.specs.declared.words.Role.TheVariants.{Answers}
 use Rattle.session_core.proofs.Writings.{if_more}
-use Rattle.node_model.specs.Images.{Stand, Kept}
+use Rattle.node_model.specs.Images.{Stand, Kept, Drifted, Shared, RanAt}
+use Rattle.node_model.proofs.Drifting.{drifted_none, drifted_on, earlier}
+use Rattle.node_model.proofs.Rans.{absorbed, ran_none, ran_one, ran_shared, ran_then}
 use Rattle.session_core.specs.declared.ending.End.{End}
 use Rattle.session_core.specs.declared.ending.End.TheVariants as E
 use Rattle.session_core.specs.declared.ending.Took.{Took}
@@ -26,27 +28,48 @@ use Rattle.binkp_link.specs.declared.link.ReadAnswer.{ReadAnswer}
 use Rattle.binkp_link.specs.declared.link.WriteAnswer.{WriteAnswer}
 use Rattle.session_core.specs.Sessions.{AfterKnock, Awaits_address, Setting, Stage, Reply, Row, GiveRow, frame_number}
 use Rattle.session_core.specs.Replies.{Writes as Grows, Did, IfMore, MadeRow, DidGive, stage_of}
-use Rattle.session_run.specs.Machine.{World, Phase, Starting, opening, Greets, greets, Leaves, leaves, after_leave, Taking, Writing, Reading, Over, Draining, Reach, here, next, TakesFrame, takes_frame, MakesTurn, makes_turn, GivesUp, gives_up, MayGiveUp, Writes, writes, PassesWrite, passes_write, Reads, reads, after_took, after_gave, after_write, after_read}
-use Rattle.session_run.specs.Runs.{Spot, spot, Stream, Follows, At, Goes, IsNew, Wrote, Came, over_or}
+use Rattle.session_run.specs.Machine.{World, Phase, Starting, opening, Greets, greets, Leaves, leaves, after_leave, is_mute, Taking, Writing, Reading, Over, Draining, Reach, here, next, TakesFrame, takes_frame, MakesTurn, makes_turn, GivesUp, gives_up, MayGiveUp, Writes, writes, PassesWrite, passes_write, Reads, reads, after_took, after_gave, after_write, after_read}
+use Rattle.session_run.specs.Runs.{Spot, spot, Stream, Follows, At, GoesBy, Goes, Went, IsNew, Wrote, Came, over_or}
 
 -- one run after another
 pub reach_trans : {alone : Bool} {u v w : World} → Reach alone u v → Reach alone v w → Reach alone u w
 reach_trans r here = r
 reach_trans r (next q s) = next (reach_trans r q) s
 
-pub goes_then : {alone : Bool} {s : Setting} {a b c : Spot} → Goes alone s a b → Goes alone s b c → Goes alone s a c
-goes_then first second = record {
+pub goes_then : {alone : Bool} {s : Setting} {a b c : Spot} {es fs : List Turned} → GoesBy alone s a es b → GoesBy alone s b fs c → GoesBy alone s a (es ++ fs) c
+goes_then {alone} {s} {a} {b} {c} {es} {fs} first second = record {
   goes = λ w at.
       let x = first.goes w at in
       let y = second.goes x.0 x.2 in
-      (y.0, reach_trans x.1 y.1, y.2);
+      (y.0, reach_trans x.1 y.1, y.2, y.3 ∙ ap (λ (l : List Turned). l ++ fs) x.3 ∙ append_assoc w.events es fs);
 }
 
-pub ends_at : {alone : Bool} {s : Setting} {a : Spot} {run : Run} {line : LineState} {desk : DeskState} {fs : List FrameText} {p q : Phase} → Goes alone s a (spot run line desk fs p) → p ≡ q → Goes alone s a (spot run line desk fs q)
-ends_at {alone} {s} {a} {run} {line} {desk} {fs} {p} {q} g e = subst (λ (x : Phase). Goes alone s a (spot run line desk fs x)) e g
+pub went_then : {alone : Bool} {s : Setting} {old mid new : Stand} {a b c : Spot} → Went alone s old a mid b → Went alone s mid b new c → Went alone s old a new c
+went_then {alone} {s} {old} {mid} {new} {a} {b} {c} first second =
+    record { events = first.events ++ second.events; goes = goes_then first.goes second.goes; ran = ran_then alone old first.events mid second.events new first.ran second.ran }
 
-pub goes_nowhere : (alone : Bool) (s : Setting) (a : Spot) → Goes alone s a a
-goes_nowhere alone s a = record { goes = λ w at. (w, here, at) }
+-- without a call
+pub went_still : {alone : Bool} {s : Setting} {a b : Spot} (desk : Stand) → Goes alone s a b → Went alone s desk a desk b
+went_still {alone} desk g = record { events = []; goes = g; ran = ran_none alone desk }
+
+pub ends_at : {alone : Bool} {s : Setting} {old new : Stand} {a : Spot} {run : Run} {line : LineState} {desk : DeskState} {fs : List FrameText} {p q : Phase} → Went alone s old a new (spot run line desk fs p) → p ≡ q → Went alone s old a new (spot run line desk fs q)
+ends_at {alone} {s} {old} {new} {a} {run} {line} {desk} {fs} {p} {q} g e = subst (λ (x : Phase). Went alone s old a new (spot run line desk fs x)) e g
+
+pub went_nowhere : (alone : Bool) (s : Setting) (desk : Stand) (a : Spot) → Went alone s desk a desk a
+went_nowhere alone s desk a = went_still desk (record { goes = λ w at. (w, here, at, sym (append-nil w.events)) })
+
+-- other seats step then
+pub goes_drifts : {alone : Bool} {s : Setting} {a : Spot} {es : List Turned} {run : Run} {line : LineState} {desk desk' : DeskState} {fs : List FrameText} {p : Phase} → Drifted alone desk desk' → GoesBy alone s a es (spot run line desk fs p) → GoesBy alone s a es (spot run line desk' fs p)
+goes_drifts {alone} {s} {a} {es} {run} {line} {desk} {desk'} {fs} {p} drifted g = record {
+  goes = λ w at.
+      let x = g.goes w at in
+      (x.0, x.1, record { setting_is = x.2.setting_is; line_is = x.2.line_is; desk_is = (drifted_on alone x.0.desk desk desk' x.2.desk_is drifted).all; phase_is = x.2.phase_is; unsent = x.2.unsent; taken = x.2.taken; wrote = x.2.wrote; follows = x.2.follows }, x.3);
+}
+
+-- Between two turns other seats may step: the run goes on where they leave the desk, and each image since is theirs.
+pub went_shared : (alone : Bool) (s : Setting) (run : Run) (line : LineState) (fs : List FrameText) (p : Phase) (old new : Stand) → Shared alone old new → Went alone s old (spot run line old.state fs p) new (spot run line new.state fs p)
+went_shared alone s run line fs p old new shared =
+    record { events = []; goes = goes_drifts shared.drifted (record { goes = λ w at. (w, here, at, sym (append-nil w.events)) }); ran = ran_shared alone old new shared }
 
 -- the blocks of the first frames
 front_blocks : (blocks : List Block) (frames : List FrameText) (frame : FrameText) (more : List FrameText) → frames ++ frame ∷ more ≡ filter_map frame_in blocks → (front : List Block) × (back : List Block) × (blocks ≡ front ++ back) × (frames ++ frame ∷ [] ≡ filter_map frame_in front)
@@ -117,6 +140,7 @@ fed_it alone s run run' line desk frames law feeds session piece out taken wrote
           wrote = at.wrote ∙ sym wrote;
           follows = stream;
         },
+        sym (append-nil w.events),
       );
 }
 
@@ -138,6 +162,7 @@ gave_up_at alone s run run' line desk pending pending' p may out taken wrote = r
           wrote = at.wrote ∙ sym wrote;
           follows = tt;
         },
+        sym (append-nil w.events),
       );
 }
 
@@ -153,69 +178,79 @@ next_number : (frames : List FrameText) (frame : FrameText) (n n' : ℕ) → n �
 next_number frames frame n n' e f = let long : length (frames ++ frame ∷ []) ≡ length frames + 1 = length-append frames (frame ∷ []) in omega arith
 
 -- the next pending frame is taken
-took_row : (alone : Bool) (s : Setting) (run run' : Run) (line : LineState) (old new : Stand) (frame : FrameText) (more : List FrameText) (took : Took) → run'.session.frames ≡ min (run.session.frames + 1) (2 ^ 64 - 1) → Did (Row s run'.session.frames (stage_of run.session.stage) frame) alone old new (stage_of run'.session.stage) run.out.list run'.out.list took → run'.decoder ≡ run.decoder → run'.piece.list ≡ run.piece.list → run'.taken ≡ run.taken → run'.wrote ≡ run.wrote → Goes alone s (spot run line old.state (frame ∷ more) Taking) (spot run' line new.state more (after_took took))
+took_row : (alone : Bool) (s : Setting) (run run' : Run) (line : LineState) (old new : Stand) (frame : FrameText) (more : List FrameText) (took : Took) → run'.session.frames ≡ min (run.session.frames + 1) (2 ^ 64 - 1) → Did (Row s run'.session.frames (stage_of run.session.stage) frame) alone old new (stage_of run'.session.stage) run.out.list run'.out.list took → run'.decoder ≡ run.decoder → run'.piece.list ≡ run.piece.list → run'.taken ≡ run.taken → run'.wrote ≡ run.wrote → Went alone s old (spot run line old.state (frame ∷ more) Taking) new (spot run' line new.state more (after_took took))
 took_row alone s run run' line old new frame more took number d decoder piece taken wrote = record {
-  goes = λ w at.
-      let st : Stream run (frame ∷ more) w = at.follows in
-      let first = begins_front st.fed run.decoder w.frames frame more st.splits.begins in
-      let whole : Begins w.taken (w.frames ++ frame ∷ []) (first.0 ++ run.piece.list) = subst (λ (x : List ℕ). Begins x (w.frames ++ frame ∷ []) (first.0 ++ run.piece.list)) (sym st.whole) (begins_more st.fed first.0 run.piece.list (w.frames ++ frame ∷ []) first.1) in
-      let n : run'.session.frames ≡ frame_number (w.frames ++ frame ∷ []) = next_number w.frames frame run.session.frames run'.session.frames st.number_is number in
-      let row1 = subst (λ (k : ℕ). Row s k (stage_of run.session.stage) frame d.events d.reply) n d.row in
-      let row2 = subst (λ (stage : Stage). Row s (frame_number (w.frames ++ frame ∷ [])) stage frame d.events d.reply) (sym st.stage_is) row1 in
-      let row = subst (λ (x : Setting). Row x (frame_number (w.frames ++ frame ∷ [])) w.stage frame d.events d.reply) (sym at.setting_is) row2 in
-      let v : World = record w { desk = new.state; stage = d.reply.stage; phase = after_took took; frames = w.frames ++ frame ∷ []; output = w.output ++ d.writes.written; events = w.events ++ d.events } in
-      let step : TakesFrame alone w v = record {
-        phase = at.phase_is;
-        frame = frame;
-        rest = first.0 ++ run.piece.list;
-        next = whole;
-        events = d.events;
-        reply = d.reply;
-        row = row;
-        desk = new.state;
-        chain = subst (λ (x : DeskState). Chain alone x d.events new.state) (sym at.desk_is) d.ran.chain;
-        output = d.writes.written;
-        took = took;
-        said = d.writes.said;
-        is = refl;
-      } in
-      let stream : d.reply.stage ≡ stage_of run'.session.stage → Stream run' more v = λ stage. record {
-        stage_is = stage;
-        number_is = n;
-        fed = st.fed;
-        whole = st.whole ∙ ap (λ (x : List ℕ). st.fed ++ x) (sym piece);
-        splits = subst (λ (x : List ℕ). Splits st.fed ((w.frames ++ frame ∷ []) ++ more) x) (sym decoder) (subst (λ (fs : List FrameText). Splits st.fed fs run.decoder) (sym (append_assoc w.frames (frame ∷ []) more)) st.splits);
-      } in (
-        v,
-        next here (takes_frame step),
-        record {
-          setting_is = at.setting_is;
-          line_is = at.line_is;
-          desk_is = refl;
-          phase_is = refl;
-          unsent = ap (λ (x : List ℕ). x ++ d.writes.written) at.unsent ∙ append_assoc w.sent run.out.list d.writes.written ∙ ap (λ (x : List ℕ). w.sent ++ x) (sym d.writes.grew);
-          taken = at.taken ∙ sym taken;
-          wrote = at.wrote ∙ sym wrote;
-          follows = follows_took took run' more v (if_more_map took (stage_of run'.session.stage ≡ d.reply.stage) (Stream run' more v) (λ e. stream (sym e)) d.stage_is);
-        },
-      );
+  events = d.events;
+  ran = d.ran;
+  goes = record {
+    goes = λ w at.
+        let st : Stream run (frame ∷ more) w = at.follows in
+        let first = begins_front st.fed run.decoder w.frames frame more st.splits.begins in
+        let whole : Begins w.taken (w.frames ++ frame ∷ []) (first.0 ++ run.piece.list) = subst (λ (x : List ℕ). Begins x (w.frames ++ frame ∷ []) (first.0 ++ run.piece.list)) (sym st.whole) (begins_more st.fed first.0 run.piece.list (w.frames ++ frame ∷ []) first.1) in
+        let n : run'.session.frames ≡ frame_number (w.frames ++ frame ∷ []) = next_number w.frames frame run.session.frames run'.session.frames st.number_is number in
+        let row1 = subst (λ (k : ℕ). Row s k (stage_of run.session.stage) frame (asked_of d.events) d.reply) n d.row in
+        let row2 = subst (λ (stage : Stage). Row s (frame_number (w.frames ++ frame ∷ [])) stage frame (asked_of d.events) d.reply) (sym st.stage_is) row1 in
+        let row = subst (λ (x : Setting). Row x (frame_number (w.frames ++ frame ∷ [])) w.stage frame (asked_of d.events) d.reply) (sym at.setting_is) row2 in
+        let z = absorbed alone w.desk old.state at.desk_is d.events d.ran.last d.ran.chain new.state d.ran.tail in
+        let v : World = record w { desk = z.last; stage = d.reply.stage; phase = after_took took; frames = w.frames ++ frame ∷ []; output = w.output ++ d.writes.written; events = w.events ++ d.events } in
+        let step : TakesFrame alone w v = record {
+          phase = at.phase_is;
+          frame = frame;
+          rest = first.0 ++ run.piece.list;
+          next = whole;
+          events = d.events;
+          reply = d.reply;
+          row = row;
+          desk = z.last;
+          chain = z.chain;
+          output = d.writes.written;
+          took = took;
+          said = d.writes.said;
+          is = refl;
+        } in
+        let stream : d.reply.stage ≡ stage_of run'.session.stage → Stream run' more v = λ stage. record {
+          stage_is = stage;
+          number_is = n;
+          fed = st.fed;
+          whole = st.whole ∙ ap (λ (x : List ℕ). st.fed ++ x) (sym piece);
+          splits = subst (λ (x : List ℕ). Splits st.fed ((w.frames ++ frame ∷ []) ++ more) x) (sym decoder) (subst (λ (fs : List FrameText). Splits st.fed fs run.decoder) (sym (append_assoc w.frames (frame ∷ []) more)) st.splits);
+        } in (
+          v,
+          next here (takes_frame step),
+          record {
+            setting_is = at.setting_is;
+            line_is = at.line_is;
+            desk_is = z.tail;
+            phase_is = refl;
+            unsent = ap (λ (x : List ℕ). x ++ d.writes.written) at.unsent ∙ append_assoc w.sent run.out.list d.writes.written ∙ ap (λ (x : List ℕ). w.sent ++ x) (sym d.writes.grew);
+            taken = at.taken ∙ sym taken;
+            wrote = at.wrote ∙ sym wrote;
+            follows = follows_took took run' more v (if_more_map took (stage_of run'.session.stage ≡ d.reply.stage) (Stream run' more v) (λ e. stream (sym e)) d.stage_is);
+          },
+          refl,
+        );
+  };
 }
 
-pub took_it : (alone : Bool) (s : Setting) (run run' : Run) (line : LineState) (old new : Stand) (frame : FrameText) (more : List FrameText) (took : Took) → run'.session.frames ≡ min (run.session.frames + 1) (2 ^ 64 - 1) → MadeRow (Row s run'.session.frames (stage_of run.session.stage) frame) alone old new (stage_of run'.session.stage) run.out.list run'.out.list took → run'.decoder ≡ run.decoder → run'.piece.list ≡ run.piece.list → run'.taken ≡ run.taken → run'.wrote ≡ run.wrote → Goes alone s (spot run line old.state (frame ∷ more) Taking) (spot run' line new.state more (after_took took))
+pub took_it : (alone : Bool) (s : Setting) (run run' : Run) (line : LineState) (old new : Stand) (frame : FrameText) (more : List FrameText) (took : Took) → run'.session.frames ≡ min (run.session.frames + 1) (2 ^ 64 - 1) → MadeRow (Row s run'.session.frames (stage_of run.session.stage) frame) alone old new (stage_of run'.session.stage) run.out.list run'.out.list took → run'.decoder ≡ run.decoder → run'.piece.list ≡ run.piece.list → run'.taken ≡ run.taken → run'.wrote ≡ run.wrote → Went alone s old (spot run line old.state (frame ∷ more) Taking) new (spot run' line new.state more (after_took took))
 took_it alone s run run' line old new frame more took number (inl d) decoder piece taken wrote = took_row alone s run run' line old new frame more took number d decoder piece taken wrote
 took_it alone s run run' line old new frame more took number (inr g) decoder piece taken wrote =
     let over : Goes alone s (spot run line old.state (frame ∷ more) Taking) (spot run' line old.state more (Over E.NoMemory)) = gave_up_at alone s run run' line old.state (frame ∷ more) more Taking tt g.out_is taken wrote in
-    let here' = subst (λ (x : DeskState). Goes alone s (spot run line old.state (frame ∷ more) Taking) (spot run' line x more (Over E.NoMemory))) (sym g.desk) over in
-    subst (λ (k : Took). Goes alone s (spot run line old.state (frame ∷ more) Taking) (spot run' line new.state more (after_took k))) (sym g.over) here'
+    let here' = goes_drifts (subst (λ (x : DeskState). Drifted alone x new.state) g.ran.chain g.ran.tail) over in
+    record { events = []; goes = subst (λ (k : Took). Goes alone s (spot run line old.state (frame ∷ more) Taking) (spot run' line new.state more (after_took k))) (sym g.over) here'; ran = g.ran }
 
 -- an end needs no frames
-pub over_drops : (alone : Bool) (s : Setting) (a : Spot) (run : Run) (line : LineState) (desk : DeskState) (pending pending' : List FrameText) (took : Took) (end : End) → took ≡ T.Ended end → Goes alone s a (spot run line desk pending (after_took took)) → Goes alone s a (spot run line desk pending' (Over end))
-over_drops alone s a run line desk pending pending' took end e g =
-    let g' = subst (λ (k : Took). Goes alone s a (spot run line desk pending (after_took k))) e g in
+pub over_drops : (alone : Bool) (s : Setting) (old new : Stand) (a : Spot) (run : Run) (line : LineState) (desk : DeskState) (pending pending' : List FrameText) (took : Took) (end : End) → took ≡ T.Ended end → Went alone s old a new (spot run line desk pending (after_took took)) → Went alone s old a new (spot run line desk pending' (Over end))
+over_drops alone s old new a run line desk pending pending' took end e g =
+    let g' = subst (λ (k : Took). Went alone s old a new (spot run line desk pending (after_took k))) e g in
     record {
-      goes = λ w at.
-          let x = g'.goes w at in
-          (x.0, x.1, record { setting_is = x.2.setting_is; line_is = x.2.line_is; desk_is = x.2.desk_is; phase_is = x.2.phase_is; unsent = x.2.unsent; taken = x.2.taken; wrote = x.2.wrote; follows = tt });
+      events = g'.events;
+      ran = g'.ran;
+      goes = record {
+        goes = λ w at.
+            let x = g'.goes.goes w at in
+            (x.0, x.1, record { setting_is = x.2.setting_is; line_is = x.2.line_is; desk_is = x.2.desk_is; phase_is = x.2.phase_is; unsent = x.2.unsent; taken = x.2.taken; wrote = x.2.wrote; follows = tt }, x.3);
+      };
     }
 
 -- the next of the pending frames
@@ -228,8 +263,8 @@ next_pending frames i item within is = rw add-one (go frames i within is)
     go (x ∷ xs) (suc k) lt e = go xs k (omega arith) e
 
 -- a spot with its pending frames seen otherwise
-pub pending_as : {alone : Bool} {s : Setting} {a : Spot} (run : Run) (line : LineState) (desk : DeskState) (fs gs : List FrameText) (p : Phase) → fs ≡ gs → Goes alone s a (spot run line desk fs p) → Goes alone s a (spot run line desk gs p)
-pending_as {alone} {s} {a} run line desk fs gs p e g = subst (λ (x : List FrameText). Goes alone s a (spot run line desk x p)) e g
+pub pending_as : {alone : Bool} {s : Setting} {old new : Stand} {a : Spot} (run : Run) (line : LineState) (desk : DeskState) (fs gs : List FrameText) (p : Phase) → fs ≡ gs → Went alone s old a new (spot run line desk fs p) → Went alone s old a new (spot run line desk gs p)
+pending_as {alone} {s} {old} {new} {a} run line desk fs gs p e g = subst (λ (x : List FrameText). Went alone s old a new (spot run line desk x p)) e g
 
 -- nothing is pending behind the last
 pub none_pending : (frames : List Frame) (i : ℕ) → length frames ≤ i → drop i (frame_texts frames) ≡ []
@@ -260,7 +295,7 @@ follows_gave (G.Ended end) run v st = tt
 pub gave_it : (alone : Bool) (s : Setting) (run run' : Run) (line : LineState) (desk : DeskState) (gave : Gave) → run.piece.list ≡ [] → DidGive (stage_of run.session.stage) (stage_of run'.session.stage) run.out.list run'.out.list gave → run'.session.frames ≡ run.session.frames → run'.decoder ≡ run.decoder → run'.piece.list ≡ run.piece.list → run'.taken ≡ run.taken → run'.wrote ≡ run.wrote → Goes alone s (spot run line desk [] Taking) (spot run' line desk [] (after_gave gave))
 gave_it alone s run run' line desk gave empty d frames decoder piece taken wrote = go d.is
   where
-    go : ((gave ≡ d.turn.gave) × (stage_of run'.session.stage ≡ d.turn.stage) × (run'.out.list ≡ run.out.list ++ d.turn.output)) ⊎ ((gave ≡ G.Ended E.NoMemory) × (stage_of run'.session.stage ≡ stage_of run.session.stage) × (run'.out.list ≡ run.out.list)) → Goes alone s (spot run line desk [] Taking) (spot run' line desk [] (after_gave gave))
+    go : ((gave ≡ d.turn.gave) × (stage_of run'.session.stage ≡ d.turn.stage) × (run'.out.list ≡ run.out.list ++ d.turn.output)) ⊎ ((gave ≡ G.Ended E.NoMemory) × (stage_of run'.session.stage ≡ stage_of run.session.stage) × (0 < length d.turn.output) × (run'.out.list ≡ run.out.list)) → Goes alone s (spot run line desk [] Taking) (spot run' line desk [] (after_gave gave))
     go (inl x) = record {
       goes = λ w at.
           let st : Stream run [] w = at.follows in
@@ -287,9 +322,10 @@ gave_it alone s run run' line desk gave empty d frames decoder piece taken wrote
               wrote = at.wrote ∙ sym wrote;
               follows = follows_gave gave run' v stream;
             },
+            sym (append-nil w.events),
           );
     }
-    go (inr x) = subst (λ (k : Gave). Goes alone s (spot run line desk [] Taking) (spot run' line desk [] (after_gave k))) (sym x.0) (gave_up_at alone s run run' line desk [] [] Taking tt x.2 taken wrote)
+    go (inr x) = subst (λ (k : Gave). Goes alone s (spot run line desk [] Taking) (spot run' line desk [] (after_gave k))) (sym x.0) (gave_up_at alone s run run' line desk [] [] Taking tt x.3 taken wrote)
 
 follows_reading : (result : Option End) (waits : Bool) (run : Run) (v : World) → Stream run [] v → Follows (over_or result (Reading waits)) run [] v
 follows_reading None waits run v st = st
@@ -305,7 +341,7 @@ passes_it alone s run line desk waits empty = record {
   goes = λ w at.
       let v : World = record w { phase = Reading waits } in
       let step : PassesWrite w v = record { waits = waits; phase = at.phase_is; unsent = at.unsent ∙ ap (λ (x : List ℕ). w.sent ++ x) empty ∙ append-nil w.sent; is = refl } in
-      (v, next here (passes_write step), record { setting_is = at.setting_is; line_is = at.line_is; desk_is = at.desk_is; phase_is = refl; unsent = at.unsent; taken = at.taken; wrote = at.wrote; follows = stream_same run run [] w v refl refl refl refl refl refl at.follows });
+      (v, next here (passes_write step), record { setting_is = at.setting_is; line_is = at.line_is; desk_is = at.desk_is; phase_is = refl; unsent = at.unsent; taken = at.taken; wrote = at.wrote; follows = stream_same run run [] w v refl refl refl refl refl refl at.follows }, sym (append-nil w.events));
 }
 
 pub wrote_it : (alone : Bool) (s : Setting) (run run' : Run) (l l' : LineState) (desk : DeskState) (waits : Bool) (answer : WriteAnswer) (result : Option End) → 0 < length run.out.list → IsWrite l answer run.out.list l' → Wrote run run' (went answer run.out.list) → over_or result (Reading waits) ≡ after_write answer s.limit (run.taken + run'.wrote) l'.calm (Reading waits) → Goes alone s (spot run l desk [] (Writing waits)) (spot run' l' desk [] (over_or result (Reading waits)))
@@ -341,6 +377,7 @@ wrote_it alone s run run' l l' desk waits answer result some is did to = record 
           wrote = now;
           follows = follows_reading result waits run' v (stream_same run run' [] w v refl refl refl did.session did.decoder did.piece at.follows);
         },
+        sym (append-nil w.events),
       );
 }
 
@@ -386,71 +423,83 @@ came_it alone s run run' l l' desk waits answer buffer result room is did to = r
           wrote = at.wrote ∙ sym did.wrote;
           follows = follows_taking result run' v stream;
         },
+        sym (append-nil w.events),
       );
 }
 
-pub from_pending : {alone : Bool} {s : Setting} {b : Spot} (run : Run) (line : LineState) (desk : DeskState) (fs gs : List FrameText) (p : Phase) → fs ≡ gs → Goes alone s (spot run line desk fs p) b → Goes alone s (spot run line desk gs p) b
-from_pending {alone} {s} {b} run line desk fs gs p e g = subst (λ (x : List FrameText). Goes alone s (spot run line desk x p) b) e g
+pub from_pending : {alone : Bool} {s : Setting} {old new : Stand} {b : Spot} (run : Run) (line : LineState) (desk : DeskState) (fs gs : List FrameText) (p : Phase) → fs ≡ gs → Went alone s old (spot run line desk fs p) new b → Went alone s old (spot run line desk gs p) new b
+from_pending {alone} {s} {old} {new} {b} run line desk fs gs p e g = subst (λ (x : List FrameText). Went alone s old (spot run line desk x p) new b) e g
 
 pub is_nothing : (xs : List ℕ) → length xs ≡ 0 → xs ≡ []
 is_nothing [] e = refl
 is_nothing (x ∷ xs) e = absurd (omega arith)
 
 -- the first turn
-pub greeted_it : (alone : Bool) (s : Setting) (run run' : Run) (line : LineState) (old new : Stand) (answer : Answer) (reply : Reply) (took : Took) → Kept alone old (Knock_call Answers) answer new → AfterKnock s answer reply → IsNew run → run'.session ≡ run.session → run'.decoder ≡ run.decoder → run'.piece.list ≡ run.piece.list → run'.taken ≡ run.taken → run'.wrote ≡ run.wrote → reply.stage ≡ Awaits_address → Grows run.out.list run'.out.list reply.output reply.took took → Goes alone s (spot run line old.state [] Starting) (spot run' line new.state [] (after_took took))
+pub greeted_it : (alone : Bool) (s : Setting) (run run' : Run) (line : LineState) (old new : Stand) (answer : Answer) (reply : Reply) (took : Took) → Kept alone old (Knock_call Answers) answer new → AfterKnock s answer reply → IsNew run → run'.session ≡ run.session → run'.decoder ≡ run.decoder → run'.piece.list ≡ run.piece.list → run'.taken ≡ run.taken → run'.wrote ≡ run.wrote → reply.stage ≡ Awaits_address → Grows run.out.list run'.out.list reply.output reply.took took → Went alone s old (spot run line old.state [] Starting) new (spot run' line new.state [] (after_took took))
 greeted_it alone s run run' line old new answer reply took kept after is_new session decoder piece taken wrote stage grows = record {
-  goes = λ w at.
-      let st : Stream run [] w = at.follows in
-      let v : World = record w { desk = new.state; stage = reply.stage; phase = after_took took; output = w.output ++ grows.written; events = w.events ++ one (Knock_call Answers) answer } in
-      let step : Greets alone w v = record {
-        phase = at.phase_is;
-        answer = answer;
-        desk = new.state;
-        call = subst (λ (x : DeskState). Calls alone x (Knock_call Answers) answer new.state) (sym at.desk_is) kept.made;
-        reply = reply;
-        follows = subst (λ (x : Setting). AfterKnock x answer reply) (sym at.setting_is) after;
-        output = grows.written;
-        took = took;
-        said = grows.said;
-        is = refl;
-      } in
-      let stream : Stream run' [] v = record {
-        stage_is = stage ∙ sym is_new.stage ∙ ap (λ (x : Session). stage_of x.stage) (sym session);
-        number_is = ap (λ (x : Session). x.frames) session ∙ st.number_is;
-        fed = st.fed;
-        whole = st.whole ∙ ap (λ (x : List ℕ). st.fed ++ x) (sym piece);
-        splits = subst (λ (x : List ℕ). Splits st.fed (w.frames ++ []) x) (sym decoder) st.splits;
-      } in (
-        v,
-        next here (greets step),
-        record {
-          setting_is = at.setting_is;
-          line_is = at.line_is;
-          desk_is = refl;
-          phase_is = refl;
-          unsent = ap (λ (x : List ℕ). x ++ grows.written) at.unsent ∙ append_assoc w.sent run.out.list grows.written ∙ ap (λ (x : List ℕ). w.sent ++ x) (sym grows.grew);
-          taken = at.taken ∙ sym taken;
-          wrote = at.wrote ∙ sym wrote;
-          follows = follows_took took run' [] v (if_more took (Stream run' [] v) stream);
-        },
-      );
+  events = turned (Knock_call Answers) answer kept.rows_before kept.rows_after ∷ [];
+  ran = ran_one alone old (Knock_call Answers) answer new kept;
+  goes = record {
+    goes = λ w at.
+        let st : Stream run [] w = at.follows in
+        let v : World = record w { desk = new.state; stage = reply.stage; phase = after_took took; output = w.output ++ grows.written; events = w.events ++ turned (Knock_call Answers) answer kept.rows_before kept.rows_after ∷ [] } in
+        let step : Greets alone w v = record {
+          phase = at.phase_is;
+          answer = answer;
+          desk = new.state;
+          rows_before = kept.rows_before;
+          rows_after = kept.rows_after;
+          call = (earlier alone w.desk old.state at.desk_is (turned (Knock_call Answers) answer kept.rows_before kept.rows_after) new.state kept.made).made;
+          reply = reply;
+          follows = subst (λ (x : Setting). AfterKnock x answer reply) (sym at.setting_is) after;
+          output = grows.written;
+          took = took;
+          said = grows.said;
+          is = refl;
+        } in
+        let stream : Stream run' [] v = record {
+          stage_is = stage ∙ sym is_new.stage ∙ ap (λ (x : Session). stage_of x.stage) (sym session);
+          number_is = ap (λ (x : Session). x.frames) session ∙ st.number_is;
+          fed = st.fed;
+          whole = st.whole ∙ ap (λ (x : List ℕ). st.fed ++ x) (sym piece);
+          splits = subst (λ (x : List ℕ). Splits st.fed (w.frames ++ []) x) (sym decoder) st.splits;
+        } in (
+          v,
+          next here (greets step),
+          record {
+            setting_is = at.setting_is;
+            line_is = at.line_is;
+            desk_is = drifted_none alone new.state;
+            phase_is = refl;
+            unsent = ap (λ (x : List ℕ). x ++ grows.written) at.unsent ∙ append_assoc w.sent run.out.list grows.written ∙ ap (λ (x : List ℕ). w.sent ++ x) (sym grows.grew);
+            taken = at.taken ∙ sym taken;
+            wrote = at.wrote ∙ sym wrote;
+            follows = follows_took took run' [] v (if_more took (Stream run' [] v) stream);
+          },
+          refl,
+        );
+  };
 }
 
 -- the desk is left
-pub left_it : (alone : Bool) (s : Setting) (run : Run) (line : LineState) (old new : DeskState) (end : End) (answer : Answer) → Calls alone old Leave_call answer new → Goes alone s (spot run line old [] (Over end)) (spot run line new [] (Draining (after_leave end answer)))
-left_it alone s run line old new end answer call = record {
-  goes = λ w at.
-      let v : World = record w { desk = new; events = w.events ++ one Leave_call answer; phase = Draining (after_leave end answer) } in
-      let step : Leaves alone w v = record { end = end; phase = at.phase_is; answer = answer; desk = new; call = subst (λ (x : DeskState). Calls alone x Leave_call answer new) (sym at.desk_is) call; is = refl } in
-      (v, next here (leaves step), record { setting_is = at.setting_is; line_is = at.line_is; desk_is = refl; phase_is = refl; unsent = at.unsent; taken = at.taken; wrote = at.wrote; follows = tt });
+pub left_it : (alone : Bool) (s : Setting) (run : Run) (line : LineState) (old new : Stand) (end : End) (answer : Answer) → Kept alone old Leave_call answer new → Went alone s old (spot run line old.state [] (Over end)) new (spot run line new.state [] (Draining (is_mute end) (after_leave end answer)))
+left_it alone s run line old new end answer kept = record {
+  events = turned Leave_call answer kept.rows_before kept.rows_after ∷ [];
+  ran = ran_one alone old Leave_call answer new kept;
+  goes = record {
+    goes = λ w at.
+        let v : World = record w { desk = new.state; events = w.events ++ turned Leave_call answer kept.rows_before kept.rows_after ∷ []; phase = Draining (is_mute end) (after_leave end answer) } in
+        let step : Leaves alone w v = record { end = end; phase = at.phase_is; answer = answer; desk = new.state; rows_before = kept.rows_before; rows_after = kept.rows_after; call = (earlier alone w.desk old.state at.desk_is (turned Leave_call answer kept.rows_before kept.rows_after) new.state kept.made).made; is = refl } in
+        (v, next here (leaves step), record { setting_is = at.setting_is; line_is = at.line_is; desk_is = drifted_none alone new.state; phase_is = refl; unsent = at.unsent; taken = at.taken; wrote = at.wrote; follows = tt }, refl);
+  };
 }
 
 -- where nothing has happened, a new run stands for the opening
-pub at_opening : (s : Setting) (run : Run) (line : LineState) (desk : DeskState) → IsNew run → At s (spot run line desk [] Starting) (opening s line desk)
-at_opening s run line desk is = record {
+pub at_opening : (alone : Bool) (s : Setting) (run : Run) (line : LineState) (desk : DeskState) → IsNew run → At alone s (spot run line desk [] Starting) (opening s line desk)
+at_opening alone s run line desk is = record {
   setting_is = refl;
   line_is = refl;
-  desk_is = refl;
+  desk_is = drifted_none alone desk;
   phase_is = refl;
   unsent = sym is.out;
   taken = sym is.taken;

@@ -1,9 +1,10 @@
 -- What holds of every session, in the subject's own words (own, after FTS-1026).
-use Rattle.std.specs.Prelude.{◌≡◌, ◌⊎◌, ℕ, ◌+◌, ◌≤◌, Bool, true, List, [], ◌∷◌, ◌++◌, length, Some}
+use Rattle.std.specs.Prelude.{◌≡◌, ◌⊎◌, ℕ, ◌+◌, ◌≤◌, Bool, true, false, List, [], ◌∷◌, ◌++◌, length, Some}
 use Rattle.ftn_addr.specs.Counts.{Rose, risen}
 use Rattle.ftn_addr.specs.Frames.{FrameText}
 use Rattle.binkp_frame.specs.Stream.{Begins}
-use Rattle.node_model.specs.Calls.{Counts, counts_of, DeskState, Chain, Event}
+use Rattle.node_model.specs.Calls.{Counts, counts_of, DeskState, Turned, Turns, Event}
+use Rattle.node_model.specs.Images.{Stand, Drifted, RanAt}
 use Rattle.node_model.specs.Talk.{is_finished}
 use Rattle.session_core.specs.declared.ending.Cause.{Cause}
 use Rattle.session_core.specs.declared.ending.End.{End}
@@ -11,7 +12,7 @@ use Rattle.session_core.specs.declared.ending.End.TheVariants as E
 use Rattle.session_core.specs.declared.ending.Took.TheVariants as T
 use Rattle.binkp_link.specs.Lines.{LineState, Moves, shut}
 use Rattle.session_core.specs.Sessions.{Setting, Stage, Talks, Reply, Row, frame_number}
-use Rattle.session_run.specs.Machine.{World, Phase, Over, Draining, Closed, Reach, opening}
+use Rattle.session_run.specs.Machine.{World, Phase, Over, Draining, Closed, Reach, opening, is_mute}
 
 abbrev pub joined : List (List ℕ) → List ℕ
 joined [] = []
@@ -25,7 +26,7 @@ EndCount _ before now = now ≡ before
 
 abbrev pub EndCountAt : Phase → ℕ → ℕ → Type 0
 EndCountAt (Over end) before now = EndCount end before now
-EndCountAt (Draining end) before now = EndCount end before now
+EndCountAt (Draining mute end) before now = EndCount end before now
 EndCountAt (Closed end) before now = EndCount end before now
 EndCountAt _ before now = now ≡ before
 
@@ -35,9 +36,14 @@ LineCause E.LineFault before now calm = Rose before now
 LineCause E.Quiet before now calm = 60 ≤ calm
 LineCause _ before now calm = Unit {0}
 
+-- why nothing more is written: the line failed, or it was quiet sixty times on end; else the end is neither
+abbrev pub DrainCause : (mute : Bool) → End → (before now calm : ℕ) → Type 0
+DrainCause true end before now calm = LineCause end before now calm × (Rose before now ⊎ (60 ≤ calm))
+DrainCause false end before now calm = is_mute end ≡ false
+
 abbrev pub LineCauseAt : Phase → (before now calm : ℕ) → Type 0
 LineCauseAt (Over end) before now calm = LineCause end before now calm
-LineCauseAt (Draining end) before now calm = LineCause end before now calm
+LineCauseAt (Draining mute end) before now calm = DrainCause mute end before now calm
 LineCauseAt (Closed end) before now calm = LineCause end before now calm
 LineCauseAt _ before now calm = Unit {0}
 
@@ -49,7 +55,7 @@ DeskCause _ before now = Unit {0}
 
 abbrev pub DeskCauseAt : Phase → (before now : Counts) → Type 0
 DeskCauseAt (Over end) before now = DeskCause end before now
-DeskCauseAt (Draining end) before now = DeskCause end before now
+DeskCauseAt (Draining mute end) before now = DeskCause end before now
 DeskCauseAt (Closed end) before now = DeskCause end before now
 DeskCauseAt _ before now = Unit {0}
 
@@ -82,7 +88,7 @@ OwnCause _ setting stage frames taken sent = Unit {0}
 
 abbrev pub OwnCauseAt : Phase → Setting → Stage → List FrameText → (taken sent : List ℕ) → Type 0
 OwnCauseAt (Over end) setting stage frames taken sent = OwnCause end setting stage frames taken sent
-OwnCauseAt (Draining end) setting stage frames taken sent = OwnCause end setting stage frames taken sent
+OwnCauseAt (Draining mute end) setting stage frames taken sent = OwnCause end setting stage frames taken sent
 OwnCauseAt (Closed end) setting stage frames taken sent = OwnCause end setting stage frames taken sent
 OwnCauseAt _ setting stage frames taken sent = Unit {0}
 
@@ -107,7 +113,7 @@ pub record Facts (alone : Bool) (line : LineState) (desk : DeskState) (w : World
   pub pieces : joined w.pieces ≡ w.taken
   pub moves : Moves w.taken w.sent line.bytes w.line.bytes
   -- the calls of the desk form a chain
-  pub chain : Chain alone desk w.events w.desk
+  pub chain : Turns alone desk w.events w.desk
   -- the bytes sent are a front of the output
   pub left : List ℕ
   pub front : w.output ≡ w.sent ++ left
@@ -122,11 +128,14 @@ pub record Facts (alone : Bool) (line : LineState) (desk : DeskState) (w : World
 
 -- A session that ended so, over this line and this desk: a run from the opening to its close, and what holds of it. The
 -- line is then closed on this side.
-pub record IsSession (alone : Bool) (setting : Setting) (line : LineState) (desk : DeskState) (end : End) (taken : ℕ) (line' : LineState) (desk' : DeskState) : Type 0 where
+pub record IsSession (alone : Bool) (setting : Setting) (line : LineState) (desk : Stand) (end : End) (taken : ℕ) (line' : LineState) (desk' : Stand) : Type 0 where
   pub last : World
-  pub run : Reach alone (opening setting line desk) last
+  pub run : Reach alone (opening setting line desk.state) last
   pub closed : last.phase ≡ Closed end
   pub line_is : shut last.line ≡ line'
-  pub desk_is : last.desk ≡ desk'
+  pub desk_is : Drifted alone last.desk desk'.state
   pub taken_is : length last.taken ≡ taken
-  pub facts : Facts alone line desk last
+  -- these calls of the desk, with the moments at which they ended: at each moment since the opening each image is one of
+  -- the call of that moment, and at its end the state after it
+  pub ran : RanAt alone desk last.events desk'
+  pub facts : Facts alone line desk.state last

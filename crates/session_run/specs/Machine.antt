@@ -3,7 +3,7 @@ use Rattle.std.specs.Prelude.{◌≡◌, ◌⊎◌, ℕ, ◌+◌, ◌<◌, Bool,
 use Rattle.ftn_addr.specs.Frames.{FrameText}
 use Rattle.binkp_frame.specs.Stream.{Begins, Splits}
 use Rattle.node_model.specs.declared.words.Role.TheVariants.{Answers}
-use Rattle.node_model.specs.Calls.{Knock_call, Leave_call, Disk, Answer, Refused, Event, one, DeskState, Calls, Chain}
+use Rattle.node_model.specs.Calls.{Knock_call, Leave_call, Disk, Answer, Refused, Event, DeskState, Turned, turned, asked_of, CallsBeside, Turns}
 use Rattle.binkp_link.specs.declared.link.ReadAnswer.{ReadAnswer}
 use Rattle.binkp_link.specs.declared.link.ReadAnswer.TheVariants as R
 use Rattle.binkp_link.specs.declared.link.WriteAnswer.{WriteAnswer}
@@ -18,14 +18,14 @@ use Rattle.binkp_link.specs.Lines.{LineState, IsRead, IsWrite, came, went}
 use Rattle.session_core.specs.Sessions.{Setting, Stage, Awaits_address, Reply, Row, AfterKnock, Turn, GiveRow, Said, frame_number}
 
 -- where a session is: before its first turn; taking the frames that are whole, and then making the own turn; writing,
--- where the own turn waits or not; reading; over; writing what is left; closed
+-- where the own turn waits or not; reading; over; writing what is left, unless its own end was mute; closed
 pub data Phase : Type 0 where
   Starting : Phase
   Taking : Phase
   Writing : (waits : Bool) → Phase
   Reading : (waits : Bool) → Phase
   Over : (end : End) → Phase
-  Draining : (end : End) → Phase
+  Draining : (mute : Bool) (end : End) → Phase
   Closed : (end : End) → Phase
 
 -- what has happened: where line, desk and session stand now, the pieces read and the bytes that they make, the frames
@@ -41,7 +41,7 @@ pub record World : Type 0 where
   pub frames : List FrameText
   pub output : List ℕ
   pub sent : List ℕ
-  pub events : List Event
+  pub events : List Turned
 
 abbrev pub after_took : Took → Phase
 after_took T.More = Taking
@@ -82,13 +82,15 @@ pub record Greets (alone : Bool) (w v : World) : Type 0 where
   pub phase : w.phase ≡ Starting
   pub answer : Answer
   pub desk : DeskState
-  pub call : Calls alone w.desk (Knock_call Answers) answer desk
+  pub rows_before : List Event
+  pub rows_after : List Event
+  pub call : CallsBeside alone w.desk (turned (Knock_call Answers) answer rows_before rows_after) desk
   pub reply : Reply
   pub follows : AfterKnock w.setting answer reply
   pub output : List ℕ
   pub took : Took
   pub said : Said reply.output reply.took output took
-  pub is : v ≡ record w { desk = desk; stage = reply.stage; phase = after_took took; output = w.output ++ output; events = w.events ++ one (Knock_call Answers) answer }
+  pub is : v ≡ record w { desk = desk; stage = reply.stage; phase = after_took took; output = w.output ++ output; events = w.events ++ turned (Knock_call Answers) answer rows_before rows_after ∷ [] }
 
 -- the next frame of the bytes taken is taken
 pub record TakesFrame (alone : Bool) (w v : World) : Type 0 where
@@ -96,11 +98,11 @@ pub record TakesFrame (alone : Bool) (w v : World) : Type 0 where
   pub frame : FrameText
   pub rest : List ℕ
   pub next : Begins w.taken (w.frames ++ frame ∷ []) rest
-  pub events : List Event
+  pub events : List Turned
   pub reply : Reply
-  pub row : Row w.setting (frame_number (w.frames ++ frame ∷ [])) w.stage frame events reply
+  pub row : Row w.setting (frame_number (w.frames ++ frame ∷ [])) w.stage frame (asked_of events) reply
   pub desk : DeskState
-  pub chain : Chain alone w.desk events desk
+  pub chain : Turns alone w.desk events desk
   pub output : List ℕ
   pub took : Took
   pub said : Said reply.output reply.took output took
@@ -147,14 +149,22 @@ pub record Reads (w v : World) : Type 0 where
   pub step : IsRead (waits && (length left == 0)) w.line answer buffer line
   pub is : v ≡ record w { line = line; pieces = w.pieces ++ came answer buffer ∷ []; taken = w.taken ++ came answer buffer; phase = after_read answer w.setting.limit (length (w.taken ++ came answer buffer) + length w.sent) line.calm }
 
+-- after these ends nothing more is written, also where `leave` turns them
+abbrev pub is_mute : End → Bool
+is_mute E.LineFault = true
+is_mute E.Quiet = true
+is_mute _ = false
+
 -- the desk is left
 pub record Leaves (alone : Bool) (w v : World) : Type 0 where
   pub end : End
   pub phase : w.phase ≡ Over end
   pub answer : Answer
   pub desk : DeskState
-  pub call : Calls alone w.desk Leave_call answer desk
-  pub is : v ≡ record w { desk = desk; events = w.events ++ one Leave_call answer; phase = Draining (after_leave end answer) }
+  pub rows_before : List Event
+  pub rows_after : List Event
+  pub call : CallsBeside alone w.desk (turned Leave_call answer rows_before rows_after) desk
+  pub is : v ≡ record w { desk = desk; events = w.events ++ turned Leave_call answer rows_before rows_after ∷ []; phase = Draining (is_mute end) (after_leave end answer) }
 
 abbrev pub MayGiveUp : Phase → Type 0
 MayGiveUp Starting = Unit {0}
@@ -167,22 +177,15 @@ pub record GivesUp (w v : World) : Type 0 where
   pub phase : MayGiveUp w.phase
   pub is : v ≡ record w { phase = Over E.NoMemory }
 
--- after these ends nothing more is written
-abbrev pub is_mute : End → Bool
-is_mute E.LineFault = true
-is_mute E.Quiet = true
-is_mute _ = false
-
 abbrev pub after_drain : WriteAnswer → ℕ → End → Phase
-after_drain (W.Wrote n) calm end = Draining end
-after_drain W.Quiet calm end = if nat_le 60 calm then Closed end else Draining end
+after_drain (W.Wrote n) calm end = Draining false end
+after_drain W.Quiet calm end = if nat_le 60 calm then Closed end else Draining false end
 after_drain W.Failed calm end = Closed end
 
 -- once the session is over, what is left is written
 pub record Drains (w v : World) : Type 0 where
   pub end : End
-  pub phase : w.phase ≡ Draining end
-  pub speaks : is_mute end ≡ false
+  pub phase : w.phase ≡ Draining false end
   pub left : List ℕ
   pub unsent : w.output ≡ w.sent ++ left
   pub some : 0 < length left
@@ -192,9 +195,10 @@ pub record Drains (w v : World) : Type 0 where
   pub is : v ≡ record w { line = line; sent = w.sent ++ went answer left; phase = after_drain answer line.calm end }
 
 pub record Closes (w v : World) : Type 0 where
+  pub mute : Bool
   pub end : End
-  pub phase : w.phase ≡ Draining end
-  pub done : (is_mute end ≡ true) ⊎ (w.output ≡ w.sent)
+  pub phase : w.phase ≡ Draining mute end
+  pub done : (mute ≡ true) ⊎ (w.output ≡ w.sent)
   pub is : v ≡ record w { phase = Closed end }
 
 -- what may happen next
@@ -221,10 +225,10 @@ opening setting line desk =
     record { setting = setting; line = line; desk = desk; stage = Awaits_address; phase = Starting; pieces = []; taken = []; frames = []; output = []; sent = []; events = [] }
 
 -- the session is over, and this is left to write
-pub record IsLeft (line : LineState) (left : List ℕ) (end : End) (w : World) : Type 0 where
+pub record IsLeft (line : LineState) (left : List ℕ) (mute : Bool) (end : End) (w : World) : Type 0 where
   pub line_is : w.line ≡ line
   pub unsent : w.output ≡ w.sent ++ left
-  pub phase : w.phase ≡ Draining end
+  pub phase : w.phase ≡ Draining mute end
 
 -- what was left was written, as far as that goes
 pub record IsClosed (alone : Bool) (w : World) (line : LineState) (end : End) : Type 0 where
@@ -232,5 +236,6 @@ pub record IsClosed (alone : Bool) (w : World) (line : LineState) (end : End) : 
   pub reached : Reach alone w last
   pub line_is : last.line ≡ line
   pub desk_is : last.desk ≡ w.desk
+  pub events_is : last.events ≡ w.events
   pub taken_is : last.taken ≡ w.taken
   pub phase : last.phase ≡ Closed end

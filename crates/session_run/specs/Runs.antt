@@ -2,7 +2,8 @@
 use Rattle.std.specs.Prelude.{◌≡◌, ℕ, ◌+◌, ◌-◌, ◌*◌, ◌<◌, ◌≤◌, Bool, List, [], ◌++◌, length, Option, Some, None}
 use Rattle.ftn_addr.specs.Frames.{FrameText}
 use Rattle.binkp_frame.specs.Stream.{Splits}
-use Rattle.node_model.specs.Calls.{DeskState}
+use Rattle.node_model.specs.Calls.{DeskState, Turned}
+use Rattle.node_model.specs.Images.{Stand, Drifted, RanAt}
 use Rattle.session_core.specs.declared.ending.End.{End}
 use Rattle.session_run.specs.declared.run.Run.{Run}
 use Rattle.binkp_link.specs.Lines.{LineState}
@@ -32,23 +33,35 @@ pub record Stream (run : Run) (pending : List FrameText) (w : World) : Type 0 wh
 -- these matter as long as the session goes on
 abbrev pub Follows : Phase → Run → List FrameText → World → Type 0
 Follows (Over end) run pending w = Unit {0}
-Follows (Draining end) run pending w = Unit {0}
+Follows (Draining mute end) run pending w = Unit {0}
 Follows (Closed end) run pending w = Unit {0}
 Follows phase run pending w = Stream run pending w
 
-pub record At (setting : Setting) (s : Spot) (w : World) : Type 0 where
+-- the desk stands where the machine has it, but for steps of other seats, which the next call counts as its own drift
+pub record At (alone : Bool) (setting : Setting) (s : Spot) (w : World) : Type 0 where
   pub setting_is : w.setting ≡ setting
   pub line_is : w.line ≡ s.line
-  pub desk_is : w.desk ≡ s.desk
+  pub desk_is : Drifted alone w.desk s.desk
   pub phase_is : w.phase ≡ s.phase
   pub unsent : w.output ≡ w.sent ++ s.run.out.list
   pub taken : length w.taken ≡ s.run.taken
   pub wrote : length w.sent ≡ s.run.wrote
   pub follows : Follows s.phase s.run s.pending w
 
--- wherever the code stands in its machine's run, the machine goes on to where the code comes
-pub record Goes (alone : Bool) (setting : Setting) (a b : Spot) : Type 0 where
-  pub goes : (w : World) → At setting a w → (v : World) × Reach alone w v × At setting b v
+-- wherever the code stands in its machine's run, the machine goes on to where the code comes, by these calls of the desk
+pub record GoesBy (alone : Bool) (setting : Setting) (a : Spot) (es : List Turned) (b : Spot) : Type 0 where
+  pub goes : (w : World) → At alone setting a w → (v : World) × Reach alone w v × At alone setting b v × (v.events ≡ w.events ++ es)
+
+-- it goes on there without a call
+abbrev pub Goes : (alone : Bool) (setting : Setting) (a b : Spot) → Type 0
+Goes alone setting a b = GoesBy alone setting a [] b
+
+-- it goes on there by calls of the desk that lead from one stand to another, each image since being one of the call of
+-- its moment
+pub record Went (alone : Bool) (setting : Setting) (old : Stand) (a : Spot) (new : Stand) (b : Spot) : Type 0 where
+  pub events : List Turned
+  pub goes : GoesBy alone setting a events b
+  pub ran : RanAt alone old events new
 
 -- nothing has happened yet
 pub record IsNew (run : Run) : Type 0 where

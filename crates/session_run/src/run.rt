@@ -11,6 +11,7 @@ ghost use Rattle.session_core.specs.Sessions.{Setting as Lent, IsSound, desk_par
 ghost use Rattle.session_run.specs.Runs.{over_or};
 ghost use Rattle.session_run.specs.Laws.{IsSession};
 ghost use Rattle.session_run.specs.Machine.{World, Phase, Starting, Taking, Writing, Reading, Over, IsLeft, IsClosed, is_mute, after_gave, after_leave, after_read, after_took, after_write, moved, quieted};
+ghost use Rattle.session_core.specs.declared.ending.End.{End as Ending};
 ghost use Rattle.session_core.specs.declared.ending.End.TheVariants as E;
 ghost use Rattle.session_core.specs.declared.ending.Took.TheVariants as T;
 ghost use Rattle.session_core.specs.declared.ending.Gave.TheVariants as G;
@@ -36,7 +37,7 @@ pub struct Run {
 }
 
 impl Run {
-    ghost use Rattle.session_run.specs.Runs.{Goes, IsNew, Wrote, Came, SameCounts, Advances, InLimit, room, spot};
+    ghost use Rattle.session_run.specs.Runs.{Goes, Went, IsNew, Wrote, Came, SameCounts, Advances, InLimit, room, spot};
 
     /// Before the first turn. This takes no memory.
     pub fn new(alloc: Global) -> Run
@@ -84,7 +85,7 @@ impl Run {
         requires home { IsAddress (address setting.now.home) }
         requires sits { Sits (K.ready desk.old) (K.part desk.old) (stage_of self.old.session.stage) }
         requires piece { self.old.piece.list ≡ [] }
-        ensures went { (line : LineState) → Goes K.alone (setting_of setting.now) (spot self.old line (K.stand desk.old).state (frame_texts frames.now) Taking) (spot self.new line (K.stand desk.new).state [] (after_took result)) }
+        ensures went { (line : LineState) → Went K.alone (setting_of setting.now) (K.stand desk.old) (spot self.old line (K.stand desk.old).state (frame_texts frames.now) Taking) (K.stand desk.new) (spot self.new line (K.stand desk.new).state [] (after_took result)) }
         ensures sits { SitsStill (K.ready desk.new) (K.part desk.new) (stage_of self.new.session.stage) result }
         ensures piece { self.new.piece.list ≡ [] }
         ensures counts { SameCounts self.old self.new }
@@ -105,7 +106,7 @@ impl Run {
     fn take_all<K: Desk>(&mut self, alloc: Global, setting: &Setting, desk: &mut K) -> Took
         requires home { IsAddress (address setting.now.home) }
         requires sits { Sits (K.ready desk.old) (K.part desk.old) (stage_of self.old.session.stage) }
-        ensures went { (line : LineState) → Goes K.alone (setting_of setting.now) (spot self.old line (K.stand desk.old).state [] Taking) (spot self.new line (K.stand desk.new).state [] (after_took result)) }
+        ensures went { (line : LineState) → Went K.alone (setting_of setting.now) (K.stand desk.old) (spot self.old line (K.stand desk.old).state [] Taking) (K.stand desk.new) (spot self.new line (K.stand desk.new).state [] (after_took result)) }
         ensures sits { SitsStill (K.ready desk.new) (K.part desk.new) (stage_of self.new.session.stage) result }
         ensures piece { result ≡ T.More → self.new.piece.list ≡ [] }
         ensures counts { SameCounts self.old self.new }
@@ -229,7 +230,7 @@ impl Run {
         requires within { InLimit setting.now.limit self.old (L.state line.old).calm }
         requires limit { setting.now.limit ≤ 2 ^ 62 }
         requires open { (L.state line.old).closed ≡ false }
-        ensures went { Goes K.alone (setting_of setting.now) (spot self.old (L.state line.old) (K.stand desk.old).state [] Taking) (spot self.new (L.state line.new) (K.stand desk.new).state [] (over_or result Taking)) }
+        ensures went { Went K.alone (setting_of setting.now) (K.stand desk.old) (spot self.old (L.state line.old) (K.stand desk.old).state [] Taking) (K.stand desk.new) (spot self.new (L.state line.new) (K.stand desk.new).state [] (over_or result Taking)) }
         ensures ready { K.ready desk.new }
         ensures sits { IfNone result (Sits (K.ready desk.new) (K.part desk.new) (stage_of self.new.session.stage)) }
         ensures open { (L.state line.new).closed ≡ false }
@@ -258,7 +259,7 @@ impl Run {
         requires home { IsAddress (address setting.now.home) }
         requires ready { K.ready desk.old }
         requires part { K.part desk.old ≡ record { open_now = false; held = None } }
-        ensures went { (line : LineState) → Goes K.alone (setting_of setting.now) (spot self.old line (K.stand desk.old).state [] Starting) (spot self.new line (K.stand desk.new).state [] (after_took result)) }
+        ensures went { (line : LineState) → Went K.alone (setting_of setting.now) (K.stand desk.old) (spot self.old line (K.stand desk.old).state [] Starting) (K.stand desk.new) (spot self.new line (K.stand desk.new).state [] (after_took result)) }
         ensures sits { SitsStill (K.ready desk.new) (K.part desk.new) (stage_of self.new.session.stage) result }
         ensures counts { SameCounts self.old self.new }
     {
@@ -284,7 +285,7 @@ impl Run {
         requires limit { setting.now.limit ≤ 2 ^ 62 }
         requires calm { (L.state line.old).calm ≡ 0 }
         requires open { (L.state line.old).closed ≡ false }
-        ensures went { Goes K.alone (setting_of setting.now) (spot self.old (L.state line.old) (K.stand desk.old).state [] Starting) (spot self.new (L.state line.new) (K.stand desk.new).state [] (Over result)) }
+        ensures went { Went K.alone (setting_of setting.now) (K.stand desk.old) (spot self.old (L.state line.old) (K.stand desk.old).state [] Starting) (K.stand desk.new) (spot self.new (L.state line.new) (K.stand desk.new).state [] (Over result)) }
         ensures open { (L.state line.new).closed ≡ false }
         ensures ready { K.ready desk.new }
     {
@@ -344,11 +345,11 @@ fn is_mute(end: End) -> bool
 }
 
 /// Writes what is left once the session is over, as far as that goes.
-fn drain<L: Line>(out: &mut Bytes, line: &mut L, end: End)
+fn drain<L: Line>(out: &mut Bytes, line: &mut L, mute: bool)
     requires { (L.state line.old).closed ≡ false }
-    ensures { (alone : Bool) (w : World) → IsLeft (L.state line.old) out.old.list end w → IsClosed alone w (L.state line.new) end }
+    ensures { (alone : Bool) (end : Ending) (w : World) → IsLeft (L.state line.old) out.old.list mute end w → IsClosed alone w (L.state line.new) end }
 {
-    if is_mute(end) {
+    if mute {
         return;
     }
     while !out.is_empty() {
@@ -386,14 +387,15 @@ pub fn run_session<L: Line, K: Desk>(
     requires limit { setting.now.limit ≤ 2 ^ 62 }
     requires calm { (L.state line.old).calm ≡ 0 }
     requires open { (L.state line.old).closed ≡ false }
-    ensures session { IsSession K.alone (setting_of setting.now) (L.state line.old) (K.stand desk.old).state result.end result.taken (L.state line.new) (K.stand desk.new).state }
+    ensures session { IsSession K.alone (setting_of setting.now) (L.state line.old) (K.stand desk.old) result.end result.taken (L.state line.new) (K.stand desk.new) }
     ensures ready { K.ready desk.new }
 {
     let mut run = Run::new(alloc);
     let end = run.talk(alloc, line, desk, setting);
+    let mute = is_mute(end);
     let end = turned(end, desk.leave());
     let taken = run.taken;
-    drain(&mut run.out, line, end);
+    drain(&mut run.out, line, mute);
     line.close();
     Report { end, taken }
 }

@@ -5,7 +5,7 @@ use Rattle.hub_core.specs.Desks.{fault_of}
 use Rattle.session_core.specs.Sessions.{welcome, fault_bytes}
 use Rattle.session_core.specs.declared.ending.Took.TheVariants as T
 use Rattle.session_core.proofs.Dids.{did_login}
-use Rattle.session_core.proofs.Writings.{wrote_all, no_more, wrote_then, if_more}
+use Rattle.session_core.proofs.Writings.{wrote_all, no_more, wrote_then, if_more, some_first, some_welcome}
 use Rattle.session_core.proofs.login.let_in.Goals as goal
 
 pub returns-in-Ok-say_welcome-clause-row : goal.returns-in-Ok-say_welcome-clause-row
@@ -14,7 +14,7 @@ returns-in-Ok-say_welcome-clause-row g c =
 
 pub returns-in-Ok-clause-row : goal.returns-in-Ok-clause-row
 returns-in-Ok-clause-row g c =
-    did_login _ _ _ (Begun c.in-Ok.field-0) _ _ _ _ _ _ _ _ (ap (map address) c.as_slice.ensures.value) refl c.in-Ok.ensures.made tt (no_more _ _ welcome T.More c.in-Err-say_welcome.ensures.err)
+    did_login _ _ _ (Begun c.in-Ok.field-0) _ _ _ _ _ _ _ _ (ap (map address) c.as_slice.ensures.value) refl c.in-Ok.ensures.made tt (no_more _ _ welcome T.More some_welcome c.in-Err-say_welcome.ensures.err)
 
 pub returns-in-Ok-say_welcome-2-clause-row : goal.returns-in-Ok-say_welcome-2-clause-row
 returns-in-Ok-say_welcome-2-clause-row g c =
@@ -22,4 +22,4 @@ returns-in-Ok-say_welcome-2-clause-row g c =
 
 pub returns-clause-row : goal.returns-clause-row
 returns-clause-row g c =
-    did_login _ _ _ (Refused (fault_of c.in-Err.fault)) _ _ _ _ _ _ _ _ (ap (map address) c.as_slice.ensures.value) refl c.in-Err.ensures.made tt (no_more _ _ _ _ c.in-Err-say_welcome-2.ensures.err)
+    did_login _ _ _ (Refused (fault_of c.in-Err.fault)) _ _ _ _ _ _ _ _ (ap (map address) c.as_slice.ensures.value) refl c.in-Err.ensures.made tt (no_more _ _ _ _ (some_first welcome (fault_bytes (fault_of c.in-Err.fault)) some_welcome) c.in-Err-say_welcome-2.ensures.err)

@@ -1,10 +1,11 @@
-use Rattle.std.proofs.Common.{ap, sym, ◌∙◌, length}
-use Rattle.node_model.specs.Calls.{DeskState}
+use Rattle.std.proofs.Common.{ap, sym, subst, ◌∙◌, length, List, Bool}
+use Rattle.node_model.specs.Calls.{Turned, DeskState}
+use Rattle.node_model.specs.Images.{Stand, Drifted, RanAt}
 use Rattle.hub_core.specs.Desks.{leave_answer}
 use Rattle.binkp_link.specs.Lines.{LineState, shut}
 use Rattle.session_core.specs.Replies.{setting_of}
-use Rattle.session_run.specs.Machine.{World, Draining, opening}
-use Rattle.session_run.proofs.Runs.{reach_trans, at_opening, left_it, goes_then, ends_at}
+use Rattle.session_run.specs.Machine.{World, Draining, opening, is_mute}
+use Rattle.session_run.proofs.Runs.{reach_trans, at_opening, left_it, went_then, ends_at}
 use Rattle.session_run.proofs.Laws.{facts_on, facts_open}
 use Rattle.session_run.proofs.run.run_session.Goals as goal
 
@@ -13,15 +14,19 @@ returns-clause-session g c =
     let line : LineState = g.L.Line.state c.args.line.now in
     let desk : DeskState = (g.K.Desk.stand c.args.desk.now).state in
     let w : World = opening (setting_of c.args.setting.now) line desk in
-    let left = ends_at (left_it g.K.Desk.alone (setting_of c.args.setting.now) c.talk-end.new.self (g.L.Line.state c.talk-end.new.line) (g.K.Desk.stand c.talk-end.new.desk).state (g.K.Desk.stand c.leave.new.self).state c.talk-end.result (leave_answer c.leave.result) c.leave.ensures.made.made) (ap Draining (sym c.turned-end.ensures)) in
-    let x = (goes_then c.talk-end.ensures.went left).goes w (at_opening (setting_of c.args.setting.now) c.new-run.result line desk c.new-run.ensures) in
-    let z = c.drain.ensures g.K.Desk.alone x.0 (record { line_is = x.2.line_is; unsent = x.2.unsent; phase = x.2.phase_is }) in
+    let old : Stand = g.K.Desk.stand c.args.desk.now in
+    let new : Stand = g.K.Desk.stand c.leave.new.self in
+    let left = ends_at (left_it g.K.Desk.alone (setting_of c.args.setting.now) c.talk-end.new.self (g.L.Line.state c.talk-end.new.line) (g.K.Desk.stand c.talk-end.new.desk) new c.talk-end.result (leave_answer c.leave.result) c.leave.ensures.made) (ap (Draining (is_mute c.talk-end.result)) (sym c.turned-end.ensures)) in
+    let y = went_then c.talk-end.ensures.went left in
+    let x = y.goes.goes w (at_opening g.K.Desk.alone (setting_of c.args.setting.now) c.new-run.result line desk c.new-run.ensures) in
+    let z = c.drain.ensures g.K.Desk.alone c.turned-end.result x.0 (record { line_is = x.2.line_is; unsent = x.2.unsent; phase = x.2.phase_is ∙ ap (λ (b : Bool). Draining b c.turned-end.result) (sym c.is_mute-mute.ensures) }) in
     record {
       last = z.last;
       run = reach_trans x.1 z.reached;
       closed = z.phase;
       line_is = ap shut z.line_is ∙ sym c.close.ensures;
-      desk_is = z.desk_is ∙ x.2.desk_is;
+      desk_is = subst (λ (d : DeskState). Drifted g.K.Desk.alone d new.state) (sym z.desk_is) x.2.desk_is;
       taken_is = ap length z.taken_is ∙ x.2.taken;
+      ran = subst (λ (es : List Turned). RanAt g.K.Desk.alone old es new) (sym (z.events_is ∙ x.3)) y.ran;
       facts = facts_on g.K.Desk.alone line desk w z.last (facts_open g.K.Desk.alone (setting_of c.args.setting.now) line desk) (reach_trans x.1 z.reached);
     }

@@ -1,11 +1,11 @@
 use Rattle.std.proofs.Common.{refl}
 use Rattle.session_core.specs.declared.ending.Took.TheVariants as T
-use Rattle.session_run.proofs.Runs.{goes_then, goes_nowhere, took_it, over_drops, pending_as, next_pending, none_pending}
+use Rattle.session_run.proofs.Runs.{went_then, went_nowhere, took_it, over_drops, pending_as, next_pending, none_pending}
 use Rattle.session_run.proofs.run.Run.take_each.Goals as goal
 
 pub loop-frame-init : goal.loop-frame-init
 loop-frame-init g c = record {
-  went = λ line. goes_nowhere _ _ _;
+  went = λ line. went_nowhere _ _ _ _;
   sits = c.requires.sits;
   piece = c.requires.piece;
   counts = record { taken = refl; wrote = refl };
@@ -15,7 +15,7 @@ pub loop-frame-preserved : goal.loop-frame-preserved
 loop-frame-preserved g c =
     let next = next_pending c.args.frames.now c.loop-frame.frame-index c.frame-item.result c.loop-frame-test.true c.frame-item.is in
     record {
-      went = λ line. goes_then (pending_as _ _ _ _ _ _ next (c.loop-frame.invariant.went line)) (took_it _ _ _ _ line _ _ _ _ T.More c.in-More.ensures.frames c.in-More.ensures.row refl refl refl refl);
+      went = λ line. went_then (pending_as _ _ _ _ _ _ next (c.loop-frame.invariant.went line)) (took_it _ _ _ _ line _ _ _ _ T.More c.in-More.ensures.frames c.in-More.ensures.row refl refl refl refl);
       sits = c.in-More.ensures.sits.sits;
       piece = c.loop-frame.invariant.piece;
       counts = record { taken = c.loop-frame.invariant.counts.taken; wrote = c.loop-frame.invariant.counts.wrote };
@@ -24,8 +24,8 @@ loop-frame-preserved g c =
 pub returns-in-Ended-clause-went : goal.returns-in-Ended-clause-went
 returns-in-Ended-clause-went g c = λ line.
     let next = next_pending c.args.frames.now c.loop-frame.frame-index c.frame-item.result c.loop-frame-test.true c.frame-item.is in
-    over_drops _ _ _ _ _ _ _ _ (T.Ended c.in-Ended.end) c.in-Ended.end refl
-    (goes_then (pending_as _ _ _ _ _ _ next (c.loop-frame.invariant.went line)) (took_it _ _ _ _ line _ _ _ _ (T.Ended c.in-Ended.end) c.in-Ended.ensures.frames c.in-Ended.ensures.row refl refl refl refl))
+    over_drops _ _ _ _ _ _ _ _ _ _ (T.Ended c.in-Ended.end) c.in-Ended.end refl
+    (went_then (pending_as _ _ _ _ _ _ next (c.loop-frame.invariant.went line)) (took_it _ _ _ _ line _ _ _ _ (T.Ended c.in-Ended.end) c.in-Ended.ensures.frames c.in-Ended.ensures.row refl refl refl refl))
 
 pub returns-clause-went : goal.returns-clause-went
 returns-clause-went g c = λ line. pending_as _ _ _ _ _ _ (none_pending c.args.frames.now _ c.loop-frame-test.false) (c.loop-frame.invariant.went line)

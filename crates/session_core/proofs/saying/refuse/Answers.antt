@@ -1,0 +1,8 @@
+use Rattle.session_core.proofs.Writings.{no_more, some_disk, some_full}
+use Rattle.session_core.proofs.saying.refuse.Goals as goal
+
+pub returns-in-Err : goal.returns-in-Err
+returns-in-Err c = rw c.in-Disk.is (no_more _ _ _ _ some_disk c.in-Err.ensures.err)
+
+pub returns-in-Err-say_ledger_full : goal.returns-in-Err-say_ledger_full
+returns-in-Err-say_ledger_full c = rw c.in-Full.is (no_more _ _ _ _ some_full c.in-Err-say_ledger_full.ensures.err)

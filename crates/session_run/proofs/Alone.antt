@@ -1,0 +1,121 @@
+-- A run of a session that is alone is also one of a session that isn't.
+use Rattle.std.proofs.Common.{true, false, List, refl, sym, ap, subst}
+use Rattle.ftn_addr.specs.Frames.{FrameText}
+use Rattle.node_model.specs.Images.{Stand, Drifted}
+use Rattle.node_model.proofs.Drifting.{drifted_none, drifted_on, earlier}
+use Rattle.node_model.proofs.Rans.{absorbed}
+use Rattle.session_run.specs.declared.run.Run.{Run}
+use Rattle.session_run.specs.Runs.{Spot, Follows, At, GoesBy, Went}
+use Rattle.session_run.proofs.Runs.{stream_same}
+use Rattle.node_model.proofs.Alone.{call_shared, chain_shared, drifted_shared, ran_shared_too}
+use Rattle.node_model.specs.Calls.{DeskState, Turned, turned, Knock_call, Leave_call}
+use Rattle.node_model.specs.declared.words.Role.TheVariants.{Answers}
+use Rattle.session_core.specs.Sessions.{Setting}
+use Rattle.session_core.specs.declared.ending.End.{End}
+use Rattle.binkp_link.specs.Lines.{LineState}
+use Rattle.session_run.specs.Machine.{World, Phase, Starting, Taking, Writing, Reading, Over, Draining, Closed, Step, greets, takes_frame, makes_turn, writes, passes_write, reads, gives_up, leaves, drains, closes, Reach, here, next}
+use Rattle.std.proofs.Common.{ℕ, ◌≡◌}
+use Rattle.session_run.specs.Laws.{Facts, IsSession}
+
+step_shared : (w v : World) → Step true w v → Step false w v
+step_shared w v (greets s) = greets (record { phase = s.phase; answer = s.answer; desk = s.desk; rows_before = s.rows_before; rows_after = s.rows_after; call = call_shared w.desk (turned (Knock_call Answers) s.answer s.rows_before s.rows_after) s.desk s.call; reply = s.reply; follows = s.follows; output = s.output; took = s.took; said = s.said; is = s.is })
+step_shared w v (takes_frame s) = takes_frame (record { phase = s.phase; frame = s.frame; rest = s.rest; next = s.next; events = s.events; reply = s.reply; row = s.row; desk = s.desk; chain = chain_shared w.desk s.events s.desk s.chain; output = s.output; took = s.took; said = s.said; is = s.is })
+step_shared w v (makes_turn s) = makes_turn s
+step_shared w v (writes s) = writes s
+step_shared w v (passes_write s) = passes_write s
+step_shared w v (reads s) = reads s
+step_shared w v (gives_up s) = gives_up s
+step_shared w v (leaves s) = leaves (record { end = s.end; phase = s.phase; answer = s.answer; desk = s.desk; rows_before = s.rows_before; rows_after = s.rows_after; call = call_shared w.desk (turned Leave_call s.answer s.rows_before s.rows_after) s.desk s.call; is = s.is })
+step_shared w v (drains s) = drains s
+step_shared w v (closes s) = closes s
+
+pub reach_shared : (w v : World) → Reach true w v → Reach false w v
+reach_shared w v here = here
+reach_shared w v (next {u} r s) = next (reach_shared w u r) (step_shared u v s)
+
+facts_shared : (line : LineState) (desk : DeskState) (w : World) → Facts true line desk w → Facts false line desk w
+facts_shared line desk w f = record { pieces = f.pieces; moves = f.moves; chain = chain_shared desk w.events w.desk f.chain; left = f.left; front = f.front; whole = f.whole; faults = f.faults; ends = f.ends; line_cause = f.line_cause; counts = λ is. absurd (let clash : false ≡ true = is in cc); desk_cause = λ is. absurd (let clash : false ≡ true = is in cc); own_cause = f.own_cause }
+
+pub session_shared : (s : Setting) (line : LineState) (desk : Stand) (end : End) (taken : ℕ) (line' : LineState) (desk' : Stand) → IsSession true s line desk end taken line' desk' → IsSession false s line desk end taken line' desk'
+session_shared s line desk end taken line' desk' x = record {
+  last = x.last;
+  run = reach_shared _ x.last x.run;
+  closed = x.closed;
+  line_is = x.line_is;
+  desk_is = drifted_shared x.last.desk desk'.state x.desk_is;
+  taken_is = x.taken_is;
+  ran = ran_shared_too desk x.last.events desk' x.ran;
+  facts = facts_shared line desk.state x.last x.facts;
+}
+
+-- A step of a session that is alone, from a desk that other seats step from.
+
+pub record Replayed (w v : World) (d : DeskState) : Type 0 where
+  pub desk : DeskState
+  pub step : Step false (record w { desk = d }) (record v { desk = desk })
+  pub drifted : Drifted false desk v.desk
+
+still : (w v : World) (d : DeskState) → Drifted false d w.desk → v.desk ≡ w.desk → Step false (record w { desk = d }) (record v { desk = d }) → Replayed w v d
+still w v d t e step = record { desk = d; step = step; drifted = subst (λ (x : DeskState). Drifted false d x) (sym e) t }
+
+replay : (w v : World) (d : DeskState) → Drifted false d w.desk → Step true w v → Replayed w v d
+replay w v d t (greets s) = record {
+  desk = s.desk;
+  step = greets (record { phase = s.phase; answer = s.answer; desk = s.desk; rows_before = s.rows_before; rows_after = s.rows_after; call = (earlier false d w.desk t (turned (Knock_call Answers) s.answer s.rows_before s.rows_after) s.desk (call_shared w.desk (turned (Knock_call Answers) s.answer s.rows_before s.rows_after) s.desk s.call)).made; reply = s.reply; follows = s.follows; output = s.output; took = s.took; said = s.said; is = ap (λ (x : World). record x { desk = s.desk }) s.is });
+  drifted = subst (λ (x : World). Drifted false s.desk x.desk) (sym s.is) (drifted_none false s.desk);
+}
+replay w v d t (takes_frame s) =
+    let z = absorbed false d w.desk t s.events s.desk (chain_shared w.desk s.events s.desk s.chain) s.desk (drifted_none false s.desk) in
+    record {
+      desk = z.last;
+      step = takes_frame (record { phase = s.phase; frame = s.frame; rest = s.rest; next = s.next; events = s.events; reply = s.reply; row = s.row; desk = z.last; chain = z.chain; output = s.output; took = s.took; said = s.said; is = ap (λ (x : World). record x { desk = z.last }) s.is });
+      drifted = subst (λ (x : World). Drifted false z.last x.desk) (sym s.is) z.tail;
+    }
+replay w v d t (leaves s) = record {
+  desk = s.desk;
+  step = leaves (record { end = s.end; phase = s.phase; answer = s.answer; desk = s.desk; rows_before = s.rows_before; rows_after = s.rows_after; call = (earlier false d w.desk t (turned Leave_call s.answer s.rows_before s.rows_after) s.desk (call_shared w.desk (turned Leave_call s.answer s.rows_before s.rows_after) s.desk s.call)).made; is = ap (λ (x : World). record x { desk = s.desk }) s.is });
+  drifted = subst (λ (x : World). Drifted false s.desk x.desk) (sym s.is) (drifted_none false s.desk);
+}
+replay w v d t (makes_turn s) = still w v d t (ap (λ (x : World). x.desk) s.is) (makes_turn (record { phase = s.phase; rest = s.rest; none = s.none; turn = s.turn; row = s.row; is = ap (λ (x : World). record x { desk = d }) s.is }))
+replay w v d t (writes s) = still w v d t (ap (λ (x : World). x.desk) s.is) (writes (record { waits = s.waits; phase = s.phase; left = s.left; unsent = s.unsent; some = s.some; answer = s.answer; line = s.line; step = s.step; is = ap (λ (x : World). record x { desk = d }) s.is }))
+replay w v d t (passes_write s) = still w v d t (ap (λ (x : World). x.desk) s.is) (passes_write (record { waits = s.waits; phase = s.phase; unsent = s.unsent; is = ap (λ (x : World). record x { desk = d }) s.is }))
+replay w v d t (reads s) = still w v d t (ap (λ (x : World). x.desk) s.is) (reads (record { waits = s.waits; phase = s.phase; left = s.left; unsent = s.unsent; answer = s.answer; buffer = s.buffer; room = s.room; line = s.line; step = s.step; is = ap (λ (x : World). record x { desk = d }) s.is }))
+replay w v d t (gives_up s) = still w v d t (ap (λ (x : World). x.desk) s.is) (gives_up (record { phase = s.phase; is = ap (λ (x : World). record x { desk = d }) s.is }))
+replay w v d t (drains s) = still w v d t (ap (λ (x : World). x.desk) s.is) (drains (record { end = s.end; phase = s.phase; left = s.left; unsent = s.unsent; some = s.some; answer = s.answer; line = s.line; step = s.step; is = ap (λ (x : World). record x { desk = d }) s.is }))
+replay w v d t (closes s) = still w v d t (ap (λ (x : World). x.desk) s.is) (closes (record { mute = s.mute; end = s.end; phase = s.phase; done = s.done; is = ap (λ (x : World). record x { desk = d }) s.is }))
+
+pub record ReplayedTo (w v : World) (d : DeskState) : Type 0 where
+  pub desk : DeskState
+  pub run : Reach false (record w { desk = d }) (record v { desk = desk })
+  pub drifted : Drifted false desk v.desk
+
+replay_all : (w v : World) (d : DeskState) → Drifted false d w.desk → Reach true w v → ReplayedTo w v d
+replay_all w v d t here = record { desk = d; run = here; drifted = t }
+replay_all w v d t (next {u} r s) =
+    let x = replay_all w u d t r in
+    let y = replay u v x.desk x.drifted s in
+    record { desk = y.desk; run = next x.run y.step; drifted = y.drifted }
+
+follows_same : (p : Phase) (run : Run) (pending : List FrameText) (w v : World) → v.stage ≡ w.stage → v.frames ≡ w.frames → v.taken ≡ w.taken → Follows p run pending w → Follows p run pending v
+follows_same Starting run pending w v stage frames taken f = stream_same run run pending w v stage frames taken refl refl refl f
+follows_same Taking run pending w v stage frames taken f = stream_same run run pending w v stage frames taken refl refl refl f
+follows_same (Writing waits) run pending w v stage frames taken f = stream_same run run pending w v stage frames taken refl refl refl f
+follows_same (Reading waits) run pending w v stage frames taken f = stream_same run run pending w v stage frames taken refl refl refl f
+follows_same (Over end) run pending w v stage frames taken f = tt
+follows_same (Draining mute end) run pending w v stage frames taken f = tt
+follows_same (Closed end) run pending w v stage frames taken f = tt
+
+-- what is proved of a turn whose desk is alone holds of one whose desk isn't
+pub goes_shared : (s : Setting) (a b : Spot) (es : List Turned) → GoesBy true s a es b → GoesBy false s a es b
+goes_shared s a b es g = record {
+  goes = λ w at.
+      let u : World = record w { desk = a.desk } in
+      let at' : At true s a u = record { setting_is = at.setting_is; line_is = at.line_is; desk_is = drifted_none true a.desk; phase_is = at.phase_is; unsent = at.unsent; taken = at.taken; wrote = at.wrote; follows = follows_same a.phase a.run a.pending w u refl refl refl at.follows } in
+      let x = g.goes u at' in
+      let y = replay_all u x.0 w.desk at.desk_is x.1 in
+      let v : World = record x.0 { desk = y.desk } in
+      (v, y.run, record { setting_is = x.2.setting_is; line_is = x.2.line_is; desk_is = (drifted_on false y.desk x.0.desk b.desk y.drifted (drifted_shared x.0.desk b.desk x.2.desk_is)).all; phase_is = x.2.phase_is; unsent = x.2.unsent; taken = x.2.taken; wrote = x.2.wrote; follows = follows_same b.phase b.run b.pending x.0 v refl refl refl x.2.follows }, x.3);
+}
+
+pub went_shared_too : (s : Setting) (old new : Stand) (a b : Spot) → Went true s old a new b → Went false s old a new b
+went_shared_too s old new a b g = record { events = g.events; goes = goes_shared s a b g.events g.goes; ran = ran_shared_too old g.events new g.ran }
