@@ -1,5 +1,5 @@
 -- What a seat's session does is a call of its desk, with what a stop may leave of it.
-use Rattle.std.proofs.Common.{◌≡◌, ◌≢◌, ◌⊎◌, ℕ, zero, suc, ◌+◌, ◌-◌, ◌<◌, ◌≤◌, Bool, true, List, Option, Some, None, refl, sym, ◌∙◌, ap, subst, inl, inr, arith, option_map}
+use Rattle.std.proofs.Common.{◌≡◌, ◌≢◌, ◌⊎◌, ℕ, zero, suc, ◌+◌, ◌-◌, ◌<◌, ◌≤◌, Bool, true, false, List, [], ◌∷◌, Option, Some, None, refl, sym, ◌∙◌, ap, subst, inl, inr, arith, option_map}
 use Rattle.std.specs.Prelude.{Ok, Err}
 use Rattle.ftn_addr.specs.Address.{Address}
 use Rattle.ftn_addr.specs.Counts.{Rose, risen}
@@ -9,8 +9,8 @@ use Rattle.node_model.specs.declared.store.StoreFault.TheVariants as D
 use Rattle.node_model.specs.Durable.{Durable}
 use Rattle.node_model.specs.Node.{Node, Session, session_at, seat_in}
 use Rattle.node_model.specs.Rows.{unheld, released, left_by, FileAnswer, FileRow, Whole, Answered}
-use Rattle.node_model.specs.Calls.{Call, Answer, File_call, Data_call, Open_call, Leave_call, Refused, Filed, More, Whole_now, Settled, Disk, Full, No_memory, Fault, Caused, Counts, NodeStep, Breaks, Passes, Before_it, After_it, unheld_in, Tells}
-use Rattle.node_model.specs.Images.{Kept, OpensTo, IsAnswered}
+use Rattle.node_model.specs.Calls.{Call, Queue_call, Knock_call, Offer_call, Read_call, Got_call, Skip_call, Act_call, Give_call, StandBeside, Made_row, Answer, Begun, File_call, Data_call, Open_call, Leave_call, Refused, Filed, More, Whole_now, Settled, Disk, Full, No_memory, Fault, Caused, Counts, NodeStep, Breaks, Passes, Before_it, After_it, unheld_in, Tells}
+use Rattle.node_model.specs.Images.{Kept, OpensTo, Settles}
 use Rattle.node_model.specs.Stores.{StoreState, StoreStand}
 use Rattle.hub_core.specs.declared.desk.FileIn.{FileIn}
 use Rattle.hub_core.specs.declared.desk.FileIn.TheVariants as F
@@ -18,22 +18,75 @@ use Rattle.hub_core.specs.declared.desk.DataIn.{DataIn}
 use Rattle.hub_core.specs.declared.desk.DataIn.TheVariants as I
 use Rattle.node_model.specs.Talk.{Part}
 use Rattle.hub_core.specs.Desks.{DeskPart, file_answer, data_answer, part_after}
-use Rattle.hub_core.specs.Seats.{Holding, Sitting, told, IsSettled, unless_broken, places_of, session_of, node_of, seat_stand, seat_part, part_in, IsSeated, IsHolding}
+use Rattle.hub_core.specs.Seats.{Holding, Sitting, told, IsSettled, unless_broken, hold_of, places_of, session_of, node_of, seat_stand, seat_part, part_in, IsSeated, IsHolding}
 use Rattle.ftn_addr.specs.Limits.{IsAddress}
 use Rattle.std.specs.List.{All}
 use Rattle.std.proofs.lemmas.List.Elements.{All-head}
 use Rattle.hub_core.specs.SeatSteps.{Leaves, Broke, BrokenBy, RefusedBy, Puts, PutPasses, Takes, TakePasses, state_in, session_in, file_word, fault_in, part_for, IsNewSitting}
-use Rattle.hub_core.proofs.Seats.{leaves_as, leaves_then, opens_to, le_total, broke_from}
+use Rattle.hub_core.proofs.Seats.{leaves_as, leaves_none, leaves_then, opens_to, le_total, broke_from}
 use Rattle.node_model.specs.declared.words.Role.{Role}
 
-pub kept_of : (a b : StoreStand) (m n : ℕ) (x y : Option Sitting) (call : Call) (answer : Answer) → Caused a.state.counts answer b.state.counts → NodeStep 0 (node_of a.state m x) call answer (node_of b.state n y) → Leaves (Passes 0 (node_of a.state m x) call) a b → (IsAnswered answer → IsSettled (state_in b.state) b) → Kept true (seat_stand a m x) call answer (seat_stand b n y)
+-- no row stands beside a call of this seat
+none_beside : (call : Call) → StandBeside call [] []
+none_beside (Open_call role peers secure moment) = (tt, refl)
+none_beside (File_call key offset) = (refl, tt)
+none_beside (Data_call bytes) = (refl, tt)
+none_beside (Queue_call files) = (refl, refl)
+none_beside (Knock_call role) = (refl, refl)
+none_beside Offer_call = (refl, refl)
+none_beside (Read_call place room) = (refl, refl)
+none_beside (Got_call number) = (refl, refl)
+none_beside (Skip_call number) = (refl, refl)
+none_beside Leave_call = (refl, refl)
+none_beside (Act_call dest) = (refl, refl)
+none_beside Give_call = (refl, refl)
+
+pub kept_of : (a b : StoreStand) (m n : ℕ) (x y : Option Sitting) (call : Call) (answer : Answer) → Caused a.state.counts answer b.state.counts → NodeStep 0 (node_of a.state m x) call answer (node_of b.state n y) → Leaves (Passes 0 (node_of a.state m x) call) a b → (Settles answer → IsSettled (state_in b.state) b) → Kept true (seat_stand a m x) call answer (seat_stand b n y)
 kept_of a b m n x y call answer caused step l settled = record {
-  made = record { seat = refl; mid = Tells (node_of a.state m x); drift = refl; caused = caused; step = step };
+  rows_before = [];
+  rows_after = [];
+  made = record {
+    seat = refl;
+    mid = Tells (node_of a.state m x);
+    drift = refl;
+    rows = record { beside = none_beside call; asks = Tells (node_of a.state m x); before = refl; answers = Tells (node_of b.state n y); own = Made_row tt caused step; after = refl };
+  };
   later = l.later;
   before = l.before;
-  since = λ k d after within image. opens_to (Passes 0 (node_of a.state m x) call) (λ e. ⊥ ⊎ Passes 0 (node_of a.state m x) call e) (λ e p. inr p) d (l.since k d after within image);
-  now = λ answered d image. settled answered d image;
+  since = λ k d after within image. opens_to (Passes 0 (node_of a.state m x) call) (λ e. ⊥ ⊎ (⊥ ⊎ (Passes 0 (node_of a.state m x) call e ⊎ ⊥))) (λ e p. inr (inr (inl p))) d (l.since k d after within image);
+  now = λ settles all d image. settled settles d image;
 }
+
+-- a call that does nothing with the store
+pub kept_still : (a : StoreStand) (m n : ℕ) (x y : Option Sitting) (call : Call) (answer : Answer) → Caused a.state.counts answer a.state.counts → NodeStep 0 (node_of a.state m x) call answer (node_of a.state n y) → (Settles answer → IsSettled (state_in a.state) a) → Kept true (seat_stand a m x) call answer (seat_stand a n y)
+kept_still a m n x y call answer caused step settled =
+    kept_of a a m n x y call answer caused step (leaves_none (Passes 0 (node_of a.state m x) call) a) settled
+
+-- the store is broken already
+pub broken_kept : (a : StoreStand) (m : ℕ) (x y : Option Sitting) (call : Call) (count : ℕ) → a.state.counts.broken ≡ Some count → node_of a.state m y ≡ node_of a.state m x → Kept true (seat_stand a m x) call (Refused (Disk count)) (seat_stand a m y)
+broken_kept a m x y call count broken same =
+    kept_still a m m x y call (Refused (Disk count)) (inl (broken, refl)) (inl (broken, same)) (λ settles. absurd settles)
+
+-- of a broken store no held file is told
+pub unheld_told : (s : StoreState) (m : ℕ) (x : Sitting) (count : ℕ) → s.counts.broken ≡ Some count → node_of s m (Some (record x { hold = None })) ≡ node_of s m (Some x)
+unheld_told s m x count broken =
+    ap (λ (h : Option Holding). record (node_of s m None) { seats = record { busy = 0; reads = 0; session = Some (record (session_in s (record x { hold = None })) { hold = hold_of (told s.content).bodies x.first h; hold_places = places_of h }) } ∷ [] }) none
+  where
+    go : (h : Option Holding) → None ≡ unless_broken h (Some count)
+    go None = refl
+    go (Some h) = refl
+
+    none : None ≡ unless_broken x.hold s.counts.broken
+    none = go x.hold ∙ sym (ap (unless_broken x.hold) broken)
+
+-- a session has begun
+pub begun_kept : (a : StoreStand) (m : ℕ) (x : Option Sitting) (y : Sitting) (role : Role) (peers : List Address) (secure : Bool) (moment : ℕ) → IsSeated a x → a.state.counts.broken ≡ None → (seat_part x).open_now ≡ false → IsNewSitting (m + 1) role peers secure moment y → Kept true (seat_stand a m x) (Open_call role peers secure moment) (Begun (m + 1)) (seat_stand a (m + 1) (Some y))
+begun_kept a m (Some x) y role peers secure moment seated whole closed new = absurd (let clash : true ≡ false = closed in cc)
+begun_kept a m None y role peers secure moment seated whole closed new =
+    kept_still a m (m + 1) None (Some y) (Open_call role peers secure moment) (Begun (m + 1)) refl (whole, (refl, record { first = y.first; others = y.others; has_first = sym new.peers_are; none_yet = refl; after = ap (λ (z : Sitting). node_of a.state (m + 1) (Some z)) is })) (λ settles. seated.settled whole)
+  where
+    is : y ≡ record { number = m + 1; role = role; first = y.first; others = y.others; secure = secure; moment = moment; hold = None }
+    is = λ i. record { number = new.number_is i; role = new.role_is i; first = y.first; others = y.others; secure = new.secure_is i; moment = new.moment_is i; hold = new.unheld i }
 
 -- where only the state is left, a stop leaves it still
 pub still_settled : (state : Durable) (a b : StoreStand) → Leaves (λ d. d ≡ state) a b → IsSettled state a → IsSettled state b
@@ -67,9 +120,9 @@ put_passes bytes s m x whole d (inr f) = let h = f m in After_it whole Whole_now
 
 pub data_made : (a b : StoreStand) (m : ℕ) (x y : Sitting) (bytes : List ℕ) (word : DataIn) → a.state.counts.broken ≡ None → b.state.counts ≡ a.state.counts → Puts bytes (Ok word) a.state x b.state y → Leaves (PutPasses bytes a.state x) a b → IsSettled (state_in b.state) b → Kept true (seat_stand a m (Some x)) (Data_call bytes) (data_answer (Ok word)) (seat_stand b m (Some y))
 data_made a b m x y bytes I.More whole counts puts l settled =
-    kept_of a b m m (Some x) (Some y) (Data_call bytes) More counts (whole, puts.1 m) (leaves_as (PutPasses bytes a.state x) (Passes 0 (node_of a.state m (Some x)) (Data_call bytes)) a b (put_passes bytes a.state m x whole) l) (λ answered. settled)
+    kept_of a b m m (Some x) (Some y) (Data_call bytes) More counts (whole, puts.1 m) (leaves_as (PutPasses bytes a.state x) (Passes 0 (node_of a.state m (Some x)) (Data_call bytes)) a b (put_passes bytes a.state m x whole) l) (λ settles. settled)
 data_made a b m x y bytes I.Whole whole counts puts l settled =
-    kept_of a b m m (Some x) (Some y) (Data_call bytes) Whole_now counts (whole, puts.1 m) (leaves_as (PutPasses bytes a.state x) (Passes 0 (node_of a.state m (Some x)) (Data_call bytes)) a b (put_passes bytes a.state m x whole) l) (λ answered. settled)
+    kept_of a b m m (Some x) (Some y) (Data_call bytes) Whole_now counts (whole, puts.1 m) (leaves_as (PutPasses bytes a.state x) (Passes 0 (node_of a.state m (Some x)) (Data_call bytes)) a b (put_passes bytes a.state m x whole) l) (λ settles. settled)
 
 pub data_refused : (a b : StoreStand) (m : ℕ) (x y : Sitting) (bytes : List ℕ) (fault : StoreFault) (word : Fault) → word ≡ fault_in fault b.state.counts.faults → a.state.counts.broken ≡ None → Puts bytes (Err fault) a.state x b.state y → Leaves (PutPasses bytes a.state x) a b → Kept true (seat_stand a m (Some x)) (Data_call bytes) (Refused word) (seat_stand b m (Some y))
 data_refused a b m x y bytes fault word is whole puts l =
@@ -80,7 +133,7 @@ data_refused a b m x y bytes fault word is whole puts l =
 
     go : (f : StoreFault) → BrokenBy (PutPasses bytes a.state x) f a.state b.state → Kept true (seat_stand a m (Some x)) (Data_call bytes) (Refused (fault_in f b.state.counts.faults)) (seat_stand b m (Some y))
     go D.Disk broke =
-        kept_of a b m m (Some x) (Some y) (Data_call bytes) (Refused (Disk b.state.counts.faults)) (inr (whole, broke.rose, broke.counts)) (inr (breaks (PutPasses bytes a.state x) a.state b.state m (Some x) (Some y) (Data_call bytes) whole own (put_passes bytes a.state m x whole) broke)) (leaves_as (PutPasses bytes a.state x) (Passes 0 (node_of a.state m (Some x)) (Data_call bytes)) a b (put_passes bytes a.state m x whole) l) (λ answered. absurd answered)
+        kept_of a b m m (Some x) (Some y) (Data_call bytes) (Refused (Disk b.state.counts.faults)) (inr (whole, broke.rose, broke.counts)) (inr (breaks (PutPasses bytes a.state x) a.state b.state m (Some x) (Some y) (Data_call bytes) whole own (put_passes bytes a.state m x whole) broke)) (leaves_as (PutPasses bytes a.state x) (Passes 0 (node_of a.state m (Some x)) (Data_call bytes)) a b (put_passes bytes a.state m x whole) l) (λ settles. absurd settles)
     go D.Read broke = absurd broke
     go D.Full broke = absurd broke
     go D.NoMemory broke = absurd broke
@@ -109,7 +162,7 @@ pub leave_made : (a b : StoreStand) (m : ℕ) (x y : Sitting) → LetsGo a b x y
 leave_made a b m x y go settled =
     let back : a.state.reserved - places_of x.hold ≡ a.state.reserved - (0 + places_of (unless_broken x.hold a.state.counts.broken)) = omega (arith, told_places x a.state.counts.broken go.whole) in
     let after : node_of b.state m None ≡ left_by 0 (session_in a.state x) (node_of a.state m (Some x)) = ap (λ (t : StoreState). node_of t m None) go.places ∙ ap (λ (r : ℕ). record (node_of a.state m None) { reserved = r }) back in
-    kept_of a b m m (Some x) None Leave_call Settled (ap (λ (t : StoreState). t.counts) go.places) (go.whole, inl (record { session = session_in a.state x; has = refl; after = after })) (leaves_as (λ d. d ≡ state_in a.state) (Passes 0 (node_of a.state m (Some x)) Leave_call) a b (λ d is. Before_it is) go.leaves) (λ answered. settled_after a b x y go settled)
+    kept_of a b m m (Some x) None Leave_call Settled (ap (λ (t : StoreState). t.counts) go.places) (go.whole, inl (record { session = session_in a.state x; has = refl; after = after })) (leaves_as (λ d. d ≡ state_in a.state) (Passes 0 (node_of a.state m (Some x)) Leave_call) a b (λ d is. Before_it is) go.leaves) (λ settles. settled_after a b x y go settled)
 
 -- Files.
 
@@ -139,7 +192,7 @@ file_leaves a b c m x y key go l =
 
 pub file_made : (a b c : StoreStand) (m : ℕ) (x y z : Sitting) (key : Key) (word : FileIn) → LetsGo a b x y → c.state.counts ≡ b.state.counts → Takes key (Ok word) b.state y c.state z → Leaves (TakePasses key b.state y) b c → IsSettled (state_in c.state) c → Kept true (seat_stand a m (Some x)) (File_call key 0) (file_answer (Ok word)) (seat_stand c m (Some z))
 file_made a b c m x y z key word go counts takes l settled =
-    kept_of a c m m (Some x) (Some z) (File_call key 0) (file_answer (Ok word)) (caused word) (step word takes) (file_leaves a b c m x y key go l) (λ answered. settled)
+    kept_of a c m m (Some x) (Some z) (File_call key 0) (file_answer (Ok word)) (caused word) (step word takes) (file_leaves a b c m x y key go l) (λ settles. settled)
   where
     same : c.state.counts ≡ a.state.counts
     same = counts ∙ ap (λ (t : StoreState). t.counts) go.places
@@ -161,8 +214,8 @@ rose_risen n = omega arith
 pub fulls_node : (s t : StoreState) (m : ℕ) (x y : Option Sitting) → y ≡ x → t ≡ record s { counts = record s.counts { fulls = risen s.counts.fulls } } → node_of t m y ≡ record (node_of s m x) { fulls = risen s.counts.fulls }
 fulls_node s t m x y same is = ap (node_of t m) same ∙ ap (λ (u : StoreState). node_of u m x) is
 
-pub file_refused : (a b c : StoreStand) (m : ℕ) (x y z : Sitting) (key : Key) (fault : StoreFault) (word : Fault) → word ≡ fault_in fault c.state.counts.faults → LetsGo a b x y → Takes key (Err fault) b.state y c.state z → Leaves (TakePasses key b.state y) b c → Kept true (seat_stand a m (Some x)) (File_call key 0) (Refused word) (seat_stand c m (Some z))
-file_refused a b c m x y z key fault word is lets takes l =
+pub file_refused : (a b c : StoreStand) (m : ℕ) (x y z : Sitting) (key : Key) (fault : StoreFault) (word : Fault) → word ≡ fault_in fault c.state.counts.faults → LetsGo a b x y → Takes key (Err fault) b.state y c.state z → Leaves (TakePasses key b.state y) b c → (c.state.counts.broken ≡ None → IsSettled (state_in c.state) c) → Kept true (seat_stand a m (Some x)) (File_call key 0) (Refused word) (seat_stand c m (Some z))
+file_refused a b c m x y z key fault word is lets takes l settled =
     subst (λ (w : Fault). Kept true (seat_stand a m (Some x)) (File_call key 0) (Refused w) (seat_stand c m (Some z))) (sym is) (go fault takes.0)
   where
     before : b.state.counts ≡ a.state.counts
@@ -180,7 +233,7 @@ file_refused a b c m x y z key fault word is lets takes l =
     go : (f : StoreFault) → RefusedBy (TakePasses key b.state y) f b.state c.state → Kept true (seat_stand a m (Some x)) (File_call key 0) (Refused (fault_in f c.state.counts.faults)) (seat_stand c m (Some z))
     go D.Disk broke =
         let broke' = broke_from (TakePasses key b.state y) (Passes 0 (node_of a.state m (Some x)) (File_call key 0)) a.state b.state c.state (take_passes a b m x y key lets) before broke in
-        kept_of a c m m (Some x) (Some z) (File_call key 0) (Refused (Disk c.state.counts.faults)) (inr (lets.whole, broke'.rose, broke'.counts)) (inr (breaks (Passes 0 (node_of a.state m (Some x)) (File_call key 0)) a.state c.state m (Some x) (Some z) (File_call key 0) lets.whole own (λ d p. p) broke')) passes (λ answered. absurd answered)
+        kept_of a c m m (Some x) (Some z) (File_call key 0) (Refused (Disk c.state.counts.faults)) (inr (lets.whole, broke'.rose, broke'.counts)) (inr (breaks (Passes 0 (node_of a.state m (Some x)) (File_call key 0)) a.state c.state m (Some x) (Some z) (File_call key 0) lets.whole own (λ d p. p) broke')) passes (λ settles. absurd settles)
     go D.Read broke = absurd broke
     go D.Full after =
         let counts : c.state.counts ≡ record a.state.counts { fulls = risen a.state.counts.fulls } = ap (λ (t : StoreState). t.counts) after ∙ ap (λ (k : Counts). record k { fulls = risen k.fulls }) before in
@@ -188,33 +241,36 @@ file_refused a b c m x y z key fault word is lets takes l =
         let rose : Rose a.state.counts.fulls c.state.counts.fulls = omega (arith, fulls) in
         let same : c.state.counts ≡ record a.state.counts { fulls = c.state.counts.fulls } = counts ∙ ap (λ (n : ℕ). record a.state.counts { fulls = n }) (sym fulls) in
         let ended : node_of c.state m (Some z) ≡ record (released 0 (session_in a.state x) (node_of a.state m (Some x))) { fulls = risen a.state.counts.fulls } = fulls_node b.state c.state m (Some z) (Some z) refl after ∙ (ap (λ (n : Node). record n { fulls = risen b.state.counts.fulls }) node ∙ ap (λ (k : Counts). record (released 0 (session_in a.state x) (node_of a.state m (Some x))) { fulls = risen k.fulls }) before) in
-        kept_of a c m m (Some x) (Some z) (File_call key 0) (Refused Full) (rose, same) (lets.whole, record { session = session_in a.state x; has = refl; after = ended }) passes (λ answered. absurd answered)
+        kept_of a c m m (Some x) (Some z) (File_call key 0) (Refused Full) (rose, same) (lets.whole, record { session = session_in a.state x; has = refl; after = ended }) passes (λ settles. settled (ap (λ (k : Counts). k.broken) counts ∙ lets.whole))
     go D.NoMemory after =
         let counts : c.state.counts ≡ a.state.counts = ap (λ (t : StoreState). t.counts) after ∙ before in
         let ended : node_of c.state m (Some z) ≡ released 0 (session_in a.state x) (node_of a.state m (Some x)) = ap (λ (t : StoreState). node_of t m (Some z)) after ∙ node in
-        kept_of a c m m (Some x) (Some z) (File_call key 0) (Refused No_memory) counts (lets.whole, record { session = session_in a.state x; has = refl; after = ended }) passes (λ answered. absurd answered)
+        kept_of a c m m (Some x) (Some z) (File_call key 0) (Refused No_memory) counts (lets.whole, record { session = session_in a.state x; has = refl; after = ended }) passes (λ settles. settled (ap (λ (k : Counts). k.broken) counts ∙ lets.whole))
 
 -- No session number is left.
 
-pub begin_refused : (a b : StoreStand) (m : ℕ) (x : Option Sitting) (role : Role) (peers : List Address) (secure : Bool) (moment : ℕ) (fault : StoreFault) (word : Fault) → m ≡ 4294967295 → word ≡ fault_in fault b.state.counts.faults → a.state.counts.broken ≡ None → RefusedBy (λ d. d ≡ state_in a.state) fault a.state b.state → Leaves (λ d. d ≡ state_in a.state) a b → Kept true (seat_stand a m x) (Open_call role peers secure moment) (Refused word) (seat_stand b m x)
-begin_refused a b m x role peers secure moment fault word last is whole refused l =
+pub begin_refused : (a b : StoreStand) (m : ℕ) (x : Option Sitting) (role : Role) (peers : List Address) (secure : Bool) (moment : ℕ) (fault : StoreFault) (word : Fault) → m ≡ 4294967295 → word ≡ fault_in fault b.state.counts.faults → a.state.counts.broken ≡ None → RefusedBy (λ d. d ≡ state_in a.state) fault a.state b.state → Leaves (λ d. d ≡ state_in a.state) a b → IsSettled (state_in a.state) a → Kept true (seat_stand a m x) (Open_call role peers secure moment) (Refused word) (seat_stand b m x)
+begin_refused a b m x role peers secure moment fault word last is whole refused l settled =
     subst (λ (w : Fault). Kept true (seat_stand a m x) (Open_call role peers secure moment) (Refused w) (seat_stand b m x)) (sym is) (go fault refused)
   where
     passes : Leaves (Passes 0 (node_of a.state m x) (Open_call role peers secure moment)) a b
     passes = leaves_as (λ d. d ≡ state_in a.state) (Passes 0 (node_of a.state m x) (Open_call role peers secure moment)) a b (λ d same. Before_it same) l
 
+    still : IsSettled (state_in a.state) b
+    still = still_settled (state_in a.state) a b l settled
+
     go : (f : StoreFault) → RefusedBy (λ d. d ≡ state_in a.state) f a.state b.state → Kept true (seat_stand a m x) (Open_call role peers secure moment) (Refused (fault_in f b.state.counts.faults)) (seat_stand b m x)
     go D.Disk broke =
-        kept_of a b m m x x (Open_call role peers secure moment) (Refused (Disk b.state.counts.faults)) (inr (whole, broke.rose, broke.counts)) (inr (breaks (λ d. d ≡ state_in a.state) a.state b.state m x x (Open_call role peers secure moment) whole (own_same a.state b.state x) (λ d same. Before_it same) broke)) passes (λ answered. absurd answered)
+        kept_of a b m m x x (Open_call role peers secure moment) (Refused (Disk b.state.counts.faults)) (inr (whole, broke.rose, broke.counts)) (inr (breaks (λ d. d ≡ state_in a.state) a.state b.state m x x (Open_call role peers secure moment) whole (own_same a.state b.state x) (λ d same. Before_it same) broke)) passes (λ settles. absurd settles)
     go D.Read broke = absurd broke
     go D.Full after =
         let counts : b.state.counts ≡ record a.state.counts { fulls = risen a.state.counts.fulls } = ap (λ (t : StoreState). t.counts) after in
         let fulls : b.state.counts.fulls ≡ risen a.state.counts.fulls = ap (λ (k : Counts). k.fulls) counts in
         let rose : Rose a.state.counts.fulls b.state.counts.fulls = omega (arith, fulls) in
         let same : b.state.counts ≡ record a.state.counts { fulls = b.state.counts.fulls } = counts ∙ ap (λ (n : ℕ). record a.state.counts { fulls = n }) (sym fulls) in
-        kept_of a b m m x x (Open_call role peers secure moment) (Refused Full) (rose, same) (whole, last, fulls_node a.state b.state m x x refl after) passes (λ answered. absurd answered)
+        kept_of a b m m x x (Open_call role peers secure moment) (Refused Full) (rose, same) (whole, last, fulls_node a.state b.state m x x refl after) passes (λ settles. subst (λ (t : StoreState). IsSettled (state_in t) b) (sym after) still)
     go D.NoMemory after =
-        kept_of a b m m x x (Open_call role peers secure moment) (Refused No_memory) (ap (λ (t : StoreState). t.counts) after) (whole, ap (λ (t : StoreState). node_of t m x) after) passes (λ answered. absurd answered)
+        kept_of a b m m x x (Open_call role peers secure moment) (Refused No_memory) (ap (λ (t : StoreState). t.counts) after) (whole, ap (λ (t : StoreState). node_of t m x) after) passes (λ settles. subst (λ (t : StoreState). IsSettled (state_in t) b) (sym after) still)
 
 -- what is held after the offer of a file
 pub file_part : (old : DeskPart) (z : Sitting) (key : Key) (word : FileIn) → old.open_now ≡ true → part_in z.hold ≡ part_for word key → seat_part (Some z) ≡ part_after old (File_call key 0) (file_answer (Ok word))

@@ -1,4 +1,4 @@
-use Rattle.std.proofs.Common.{◌≡◌, Option, Some, option_map, sym, ◌∙◌, ap, subst}
+use Rattle.std.proofs.Common.{◌≡◌, Option, Some, None, option_map, sym, ◌∙◌, ap, subst}
 use Rattle.std.proofs.Common.{true, ℕ}
 use Rattle.std.specs.Prelude.{Ok}
 use Rattle.ftn_addr.specs.Key.{key_of}
@@ -6,8 +6,8 @@ use Rattle.node_model.specs.Calls.{File_call, Refused, Counts}
 use Rattle.node_model.specs.Images.{Kept}
 use Rattle.node_model.specs.Stores.{StoreState}
 use Rattle.hub_core.specs.Desks.{fault_of, file_answer, part_after}
-use Rattle.hub_core.specs.Seats.{Sitting, sitting, seat_stand, seat_part}
-use Rattle.hub_core.proofs.SeatCalls.{LetsGo, settled_after, file_made, file_refused, file_part}
+use Rattle.hub_core.specs.Seats.{Sitting, sitting, node_of, seat_stand, seat_part}
+use Rattle.hub_core.proofs.SeatCalls.{broken_kept, unheld_told, LetsGo, settled_after, file_made, file_refused, file_part}
 use Rattle.hub_core.proofs.seat.SeatDesk.file_in.Goals as goal
 
 pub returns-in-Ok-clause-made : goal.returns-in-Ok-clause-made
@@ -39,7 +39,7 @@ returns-in-Err-clause-made g c =
     let e = g.S.Store.stand c.take.new.store in
     let lets : LetsGo (g.S.Store.stand c.args.self.now.store) b x y = record { whole = whole; session = c.let_go.ensures.session; places = c.let_go.ensures.places; leaves = c.let_go.ensures.leaves } in
     subst (λ (n : ℕ). Kept true (seat_stand (g.S.Store.stand c.args.self.now.store) m (option_map sitting c.args.self.now.session)) (File_call key n) (Refused (fault_of c.refusal.result)) (seat_stand e m (Some z))) (sym c.requires.start)
-    (subst (λ (o : Option Sitting). Kept true (seat_stand (g.S.Store.stand c.args.self.now.store) m o) (File_call key 0) (Refused (fault_of c.refusal.result)) (seat_stand e m (Some z))) (sym (ap (option_map sitting) c.in-Some.is)) (file_refused (g.S.Store.stand c.args.self.now.store) b e m x y z key c.in-Err.fault (fault_of c.refusal.result) c.refusal.ensures lets c.in-Err.ensures.takes c.in-Err.ensures.leaves))
+    (subst (λ (o : Option Sitting). Kept true (seat_stand (g.S.Store.stand c.args.self.now.store) m o) (File_call key 0) (Refused (fault_of c.refusal.result)) (seat_stand e m (Some z))) (sym (ap (option_map sitting) c.in-Some.is)) (file_refused (g.S.Store.stand c.args.self.now.store) b e m x y z key c.in-Err.fault (fault_of c.refusal.result) c.refusal.ensures lets c.in-Err.ensures.takes c.in-Err.ensures.leaves (c.in-Err.ensures.settled (settled_after (g.S.Store.stand c.args.self.now.store) b x y lets (c.requires.ready.settled whole)))))
 
 pub returns-in-Ok-clause-part : goal.returns-in-Ok-clause-part
 returns-in-Ok-clause-part g c =
@@ -47,3 +47,11 @@ returns-in-Ok-clause-part g c =
     let z = sitting c.take.new.self in
     subst (λ (n : ℕ). seat_part (Some z) ≡ part_after (seat_part (option_map sitting c.args.self.now.session)) (File_call key n) (file_answer (Ok c.in-Ok.word))) (sym c.requires.start)
     (file_part (seat_part (option_map sitting c.args.self.now.session)) z key c.in-Ok.word c.requires.in_session c.in-Ok.ensures.part)
+
+pub returns-in-Some-broken-clause-made : goal.returns-in-Some-broken-clause-made
+returns-in-Some-broken-clause-made g c =
+    let a = g.S.Store.stand c.args.self.now.store in
+    let m = c.args.self.now.begun in
+    let x = sitting c.in-Some.session in
+    let broken = sym c.in-Some-broken.ensures in
+    broken_kept a m (option_map sitting c.args.self.now.session) (Some (record x { hold = None })) (File_call (key_of c.args.key.now) c.args._offset) c.in-Some-broken.count broken (unheld_told a.state m x c.in-Some-broken.count broken ∙ sym (ap (λ (o : Option Sitting). node_of a.state m o) (ap (option_map sitting) c.in-Some.is)))
