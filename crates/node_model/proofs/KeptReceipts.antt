@@ -4,8 +4,8 @@ use Rattle.node_model.specs.Durable.{Durable}
 use Rattle.node_model.specs.Node.{Node}
 use Rattle.node_model.specs.Calls.{Event, Knows, Tells, Counts_alone, DeskState, Turned, Beside, OwnRow, Made_row, Missing, Rowed, CallsBeside, Turns}
 use Rattle.node_model.specs.Images.{DriftPasses, BesidePass, OwnPasses, RowsPass, TurnPasses, IsState, OpensTo, Settles, AllSettle, Stand, Drifted, AlongAt, SettledAt, Rising, RanAt, last_of}
-use Rattle.node_model.specs.Receipts.{KnownStays}
-use Rattle.node_model.proofs.ReceiptsStay.{self_stays, known_on, known_step, drift_stays, in_on, drift_passes, known_passes, stays_inbox, StaysIn}
+use Rattle.node_model.specs.Receipts.{StaysReceived, KnownStays, StaysIn, HasAt}
+use Rattle.node_model.proofs.ReceiptsStay.{self_stays, known_on, known_step, drift_stays, in_on, drift_passes, known_passes, stays_inbox}
 
 same_stays : (a b : Knows) → b ≡ a → KnownStays a b
 same_stays a b same = subst (KnownStays a) (sym same) (self_stays a)
@@ -25,7 +25,7 @@ turn_stays alone a e b c =
     (known_on c.mid r.asks b.knows (beside_stays a.seat c.mid e.before r.asks r.before)
     (known_on r.asks r.answers b.knows (own_stays a.seat e.before r.asks e.asked r.answers r.own) (beside_stays a.seat r.answers e.after b.knows r.after)))
 
-turns_stay : (alone : Bool) (a : DeskState) (es : List Turned) (b : DeskState) → Turns alone a es b → KnownStays a.knows b.knows
+pub turns_stay : (alone : Bool) (a : DeskState) (es : List Turned) (b : DeskState) → Turns alone a es b → KnownStays a.knows b.knows
 turns_stay alone a [] b same = subst (λ (x : DeskState). KnownStays a.knows x.knows) (sym same) (self_stays a.knows)
 turns_stay alone a (e ∷ es) b (mid, made, rest) = known_on a.knows mid.knows b.knows (turn_stays alone a e mid made) (turns_stay alone mid es b rest)
 
@@ -49,18 +49,11 @@ turn_pass alone a e b c d (inr (inr (inr p))) =
     (in_on c.mid c.rows.asks d (beside_stays a.seat c.mid e.before c.rows.asks c.rows.before)
     (in_on c.rows.asks c.rows.answers d (own_stays a.seat e.before c.rows.asks e.asked c.rows.answers c.rows.own) (beside_pass a.seat c.rows.answers e.after b.knows c.rows.after d p)))
 
-along_pass : (alone : Bool) (a : DeskState) (es : List Turned) (b : DeskState) (c : Turns alone a es b) (from : ℕ) (ts : List ℕ) (k : ℕ) (d : Durable) → AlongAt alone a es b c from ts k d → StaysIn a.knows d
+pub along_pass : (alone : Bool) (a : DeskState) (es : List Turned) (b : DeskState) (c : Turns alone a es b) (from : ℕ) (ts : List ℕ) (k : ℕ) (d : Durable) → AlongAt alone a es b c from ts k d → StaysIn a.knows d
 along_pass alone a [] b c from ts k d p = absurd p
 along_pass alone a (e ∷ es) b (mid, made, rest) from [] k d p = absurd p
 along_pass alone a (e ∷ es) b (mid, made, rest) from (t ∷ ts) k d (inl p) = turn_pass alone a e mid made d p.2
 along_pass alone a (e ∷ es) b (mid, made, rest) from (t ∷ ts) k d (inr p) = in_on a.knows mid.knows d (turn_stays alone a e mid made) (along_pass alone mid es b rest t ts k d p)
-
--- of each call that ended by the moment k, and that no failing disk spoilt, the image has what the state after it has
-abbrev pub HasAt : (alone : Bool) (old : DeskState) (es : List Turned) (new : DeskState) → Turns alone old es new → List ℕ → ℕ → Durable → Type 0
-HasAt alone old [] new c ts k d = Unit {0}
-HasAt alone old (e ∷ es) new c [] k d = Unit {0}
-HasAt alone old (e ∷ es) new (mid, made, rest) (t ∷ ts) k d =
-    (t ≤ k → Settles e.asked.answer → AllSettle e.after → StaysIn mid.knows d) × HasAt alone mid es new rest ts k d
 
 is_state : (knows : Knows) (d : Durable) → IsState knows d → StaysIn knows d
 is_state (Tells n) d is = stays_inbox n.state d (ap (λ (x : Durable). x.inbox) is)
@@ -89,6 +82,10 @@ has_at alone a (e ∷ es) b (mid, made, rest) z tail from (t ∷ ts) k d r (inl 
     ((λ by settles after. along_pass alone mid es b rest t ts k d p), has_at alone mid es b rest z tail t ts k d r.1 (inl p) s.1)
 has_at alone a (e ∷ es) b (mid, made, rest) z tail from (t ∷ ts) k d r (inr p) s =
     ((λ by settles after. in_on mid.knows b.knows d (turns_stay alone mid es b rest) (drift_passes alone b.seat b.knows z.knows tail.drift d p.1)), has_at alone mid es b rest z tail t ts k d r.1 (inr p) s.1)
+
+-- From a desk that tells its node.
+pub along_stays : (alone : Bool) (a : DeskState) (es : List Turned) (b : DeskState) (old : Node) (c : Turns alone a es b) (from : ℕ) (ts : List ℕ) (k : ℕ) (d : Durable) → AlongAt alone a es b c from ts k d → a.knows ≡ Tells old → StaysReceived old.state d
+along_stays alone a es b old c from ts k d p tells = subst (λ (knows : Knows). StaysIn knows d) tells (along_pass alone a es b c from ts k d p)
 
 -- At each moment since, each image has what was received when any call before it ended.
 pub kept_receipts : (alone : Bool) (old : Stand) (es : List Turned) (new : Stand) (r : RanAt alone old es new) (k : ℕ) (d : Durable) → old.moment < k → k ≤ new.moment → new.images k (Some d) → HasAt alone old.state es r.last r.chain r.times k d

@@ -9,7 +9,7 @@ use Rattle.node_model.specs.Lists.{Each}
 use Rattle.node_model.specs.Durable.{Durable, is_received, is_refused, is_known, with_receipt}
 use Rattle.node_model.specs.Node.{Hold, Session, Node, session_at, with_session}
 use Rattle.node_model.specs.Rows.{FileAnswer, Have, Refuse, Elsewhere, Go, Whole, From, Late, Answered, unheld, released, DataWhole, LeaveRow}
-use Rattle.node_model.specs.Calls.{Call, Answer, Fault, Event, Knock_call, Open_call, File_call, Data_call, Leave_call, Let_in, Begun, Settled, Filed, More, Whole_now, Refused, Disk, Read, Full, No_memory, Made, Passes, Before_it, After_it, NotMade, NodeStep, KnownStep, Knows, Tells, Counts_alone, DeskState, Calls, Chain}
+use Rattle.node_model.specs.Calls.{Call, Answer, Fault, Event, Knock_call, Open_call, File_call, Data_call, Leave_call, Let_in, Begun, Settled, Filed, More, Whole_now, Refused, Disk, Read, Full, No_memory, Made, Passes, Before_it, After_it, NotMade, NodeStep, KnownStep, Knows, Tells, Counts_alone, DeskState, Turned, Beside, OwnRow, Made_row, Missing, CallsBeside, Turns}
 use Rattle.node_model.specs.Receipts.{OnceEach, HasOnce, TellsOnce}
 use Rattle.node_model.proofs.SameFiles.{is_same-refl, is_same_from, is_same_key}
 use Rattle.node_model.proofs.SeatSessions.{session_at-with_session}
@@ -204,26 +204,38 @@ pub step_sound : (seat : ℕ) (old : Node) (call : Call) (answer : Answer) (new 
 step_sound seat old call (Refused fault) new r s = record { once = refused_once seat old call fault new r s; fresh = refused_sound seat old call fault new r s }
 step_sound seat old call answer new m s = record { once = made_once seat old new call answer m.1 s.once (s.fresh m.0); fresh = λ none. made_new seat old new call answer m.1 (s.fresh m.0) }
 
--- A chain of calls.
+-- What a desk tells.
 
 -- the desk tells its node's state, and it is sound
 abbrev pub KnownSound : ℕ → Knows → Type 0
 KnownSound seat (Tells n) = Sound seat n
 KnownSound seat (Counts_alone c) = ⊥
 
-known_sound : (seat : ℕ) (old : Knows) (call : Call) (answer : Answer) (new : Knows) → KnownStep seat old call answer new → KnownSound seat old → KnownSound seat new
+pub known_sound : (seat : ℕ) (old : Knows) (call : Call) (answer : Answer) (new : Knows) → KnownStep seat old call answer new → KnownSound seat old → KnownSound seat new
 known_sound seat (Tells old) call answer (Tells new) step s = step_sound seat old call answer new step s
 known_sound seat (Tells old) call answer (Counts_alone c) step s = absurd step
 known_sound seat (Counts_alone c) call answer new step s = absurd s
 
-pub call_sound : (a : DeskState) (call : Call) (answer : Answer) (b : DeskState) → Calls true a call answer b → KnownSound a.seat a.knows → KnownSound b.seat b.knows
-call_sound a call answer b c s =
-    let mid = subst (KnownSound a.seat) (sym c.drift) s in
-    subst (λ (seat : ℕ). KnownSound seat b.knows) (sym c.seat) (known_sound a.seat c.mid call answer b.knows c.step mid)
+-- Rows beside a call.
 
-pub chain_sound : (a : DeskState) (es : List Event) (b : DeskState) → Chain true a es b → KnownSound a.seat a.knows → KnownSound b.seat b.knows
-chain_sound a [] b same s = subst (λ (x : DeskState). KnownSound x.seat x.knows) (sym same) s
-chain_sound a (e ∷ es) b (mid, made, rest) s = chain_sound mid es b rest (call_sound a e.call e.answer mid made s)
+pub beside_sound : (seat : ℕ) (a : Knows) (es : List Event) (b : Knows) → Beside seat a es b → KnownSound seat a → KnownSound seat b
+beside_sound seat a [] b same s = subst (KnownSound seat) (sym same) s
+beside_sound seat a (e ∷ es) b (mid, caused, step, rest) s = beside_sound seat mid es b rest (known_sound seat a e.call e.answer mid step s)
+
+pub own_sound : (seat : ℕ) (rows : List Event) (a : Knows) (asked : Event) (b : Knows) → OwnRow seat rows a asked b → KnownSound seat a → KnownSound seat b
+own_sound seat rows a asked b (Made_row made caused step) s = known_sound seat a asked.call asked.answer b step s
+own_sound seat rows a asked b (Missing fault refused is same) s = subst (KnownSound seat) (sym same) s
+
+pub turn_sound : (a : DeskState) (e : Turned) (b : DeskState) → CallsBeside true a e b → KnownSound a.seat a.knows → KnownSound b.seat b.knows
+turn_sound a e b c s =
+    let r = c.rows in
+    let asks = beside_sound a.seat c.mid e.before r.asks r.before (subst (KnownSound a.seat) (sym c.drift) s) in
+    let answers = own_sound a.seat e.before r.asks e.asked r.answers r.own asks in
+    subst (λ (seat : ℕ). KnownSound seat b.knows) (sym c.seat) (beside_sound a.seat r.answers e.after b.knows r.after answers)
+
+turns_sound : (a : DeskState) (es : List Turned) (b : DeskState) → Turns true a es b → KnownSound a.seat a.knows → KnownSound b.seat b.knows
+turns_sound a [] b same s = subst (λ (x : DeskState). KnownSound x.seat x.knows) (sym same) s
+turns_sound a (e ∷ es) b (mid, made, rest) s = turns_sound mid es b rest (turn_sound a e mid made s)
 
 -- without a session nothing is held
 pub closed_new : (seat : ℕ) (n : Node) → session_at n seat ≡ None → HoldsNew seat n
@@ -238,6 +250,6 @@ tells_once seat (Tells n) s = record { node = n; tells = refl; once = s.once }
 tells_once seat (Counts_alone c) s = absurd s
 
 -- From a seat without a session, whatever is called.
-pub chain_once : (a : DeskState) (es : List Event) (b : DeskState) (old : Node) → Chain true a es b → a.knows ≡ Tells old → session_at old a.seat ≡ None → HasOnce old.state → TellsOnce b.knows
-chain_once a es b old chain tells none once =
-    tells_once b.seat b.knows (chain_sound a es b chain (closed_sound a.seat a.knows old tells none once))
+pub turns_once : (a : DeskState) (es : List Turned) (b : DeskState) (old : Node) → Turns true a es b → a.knows ≡ Tells old → session_at old a.seat ≡ None → HasOnce old.state → TellsOnce b.knows
+turns_once a es b old chain tells none once =
+    tells_once b.seat b.knows (turns_sound a es b chain (closed_sound a.seat a.knows old tells none once))

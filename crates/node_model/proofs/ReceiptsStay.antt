@@ -7,9 +7,9 @@ use Rattle.node_model.specs.Lists.{some_passes}
 use Rattle.node_model.specs.Durable.{Durable}
 use Rattle.node_model.specs.Node.{Session, Node}
 use Rattle.node_model.specs.Rows.{FileAnswer, Have, Refuse, Elsewhere, Go, Whole, From, Late, Answered, unheld, released, LeaveRow}
-use Rattle.node_model.specs.Calls.{Call, Answer, Fault, Event, Knock_call, Open_call, File_call, Data_call, Leave_call, Let_in, Begun, Settled, Filed, More, Whole_now, Refused, Disk, Read, Full, No_memory, Made, Passes, Before_it, After_it, NotMade, NodeStep, OtherSteps, KnownStep, Drifts, Knows, Tells, Counts_alone, DeskState, Calls, Chain}
-use Rattle.node_model.specs.Images.{OthersPass, DriftPasses, KnownPasses, Along}
-use Rattle.node_model.specs.Receipts.{StaysReceived, KnownStays}
+use Rattle.node_model.specs.Calls.{Call, Answer, Fault, Event, Knock_call, Open_call, File_call, Data_call, Leave_call, Let_in, Begun, Settled, Filed, More, Whole_now, Refused, Disk, Read, Full, No_memory, Made, Passes, Before_it, After_it, NotMade, NodeStep, OtherSteps, KnownStep, Drifts, Knows, Tells, Counts_alone}
+use Rattle.node_model.specs.Images.{OthersPass, DriftPasses, KnownPasses}
+use Rattle.node_model.specs.Receipts.{StaysReceived, KnownStays, StaysIn}
 
 either : (a b c : Bool) → (b ≡ true → c ≡ true) → (a || b) ≡ true → (a || c) ≡ true
 either true b c more e = refl
@@ -86,7 +86,7 @@ others_stay zero seat old new same = stays_inbox old.state new.state (ap (λ (x 
 others_stay (suc n) seat old new (mid, before, last) =
     stays_on old.state mid.state new.state (others_stay n seat old mid before) (step_stays last.other mid last.call last.answer new last.step)
 
--- A chain of calls.
+-- What a desk tells.
 
 pub self_stays : (knows : Knows) → KnownStays knows knows
 self_stays (Tells n) = λ from key has. has
@@ -109,21 +109,7 @@ drift_stays false seat (Tells old) (Tells new) (n, steps) = others_stay n seat o
 drift_stays false seat (Tells old) (Counts_alone c) none = absurd none
 drift_stays false seat (Counts_alone c) new rise = tt
 
-call_stays : (alone : Bool) (a : DeskState) (call : Call) (answer : Answer) (b : DeskState) → Calls alone a call answer b → KnownStays a.knows b.knows
-call_stays alone a call answer b c =
-    known_on a.knows c.mid b.knows (drift_stays alone a.seat a.knows c.mid c.drift) (known_step a.seat c.mid call answer b.knows c.step)
-
-pub chain_stays : (alone : Bool) (a : DeskState) (es : List Event) (b : DeskState) → Chain alone a es b → KnownStays a.knows b.knows
-chain_stays alone a [] b same = subst (λ (x : DeskState). KnownStays a.knows x.knows) (sym same) (self_stays a.knows)
-chain_stays alone a (e ∷ es) b (mid, made, rest) =
-    known_on a.knows mid.knows b.knows (call_stays alone a e.call e.answer mid made) (chain_stays alone mid es b rest)
-
 -- A stop.
-
--- what a desk tells as received is received in that state
-abbrev pub StaysIn : Knows → Durable → Type 0
-StaysIn (Tells n) d = StaysReceived n.state d
-StaysIn (Counts_alone c) d = Unit {0}
 
 pub in_on : (a b : Knows) (d : Durable) → KnownStays a b → StaysIn b d → StaysIn a d
 in_on (Tells a) (Tells b) d first second = stays_on a.state b.state d first second
@@ -145,14 +131,3 @@ drift_passes false seat (Counts_alone c) new rise d passes = tt
 pub known_passes : (seat : ℕ) (knows : Knows) (call : Call) (d : Durable) → KnownPasses seat knows call d → StaysIn knows d
 known_passes seat (Tells n) call d passes = passes_stays seat n call d passes
 known_passes seat (Counts_alone c) call d passes = tt
-
-along_stays_in : (alone : Bool) (a : DeskState) (es : List Event) (b : DeskState) (chain : Chain alone a es b) (d : Durable) → Along alone a es b chain d → StaysIn a.knows d
-along_stays_in alone a [] b chain d along = absurd along
-along_stays_in alone a (e ∷ es) b (mid, made, rest) d (inl (inl passes)) = drift_passes alone a.seat a.knows made.mid made.drift d passes
-along_stays_in alone a (e ∷ es) b (mid, made, rest) d (inl (inr passes)) =
-    in_on a.knows made.mid d (drift_stays alone a.seat a.knows made.mid made.drift) (known_passes a.seat made.mid e.call d passes)
-along_stays_in alone a (e ∷ es) b (mid, made, rest) d (inr along) =
-    in_on a.knows mid.knows d (call_stays alone a e.call e.answer mid made) (along_stays_in alone mid es b rest d along)
-
-pub along_stays : (alone : Bool) (a : DeskState) (es : List Event) (b : DeskState) (old : Node) (chain : Chain alone a es b) (d : Durable) → Along alone a es b chain d → a.knows ≡ Tells old → StaysReceived old.state d
-along_stays alone a es b old chain d along tells = subst (λ (knows : Knows). StaysIn knows d) tells (along_stays_in alone a es b chain d along)

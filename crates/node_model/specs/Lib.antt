@@ -6,7 +6,6 @@ pub mod ListStates
 pub mod Lists
 pub mod Node
 pub mod Receipts
-pub mod Refusals
 pub mod Rows
 pub mod Stores
 pub mod Talk
