@@ -12,12 +12,12 @@ use Rattle.node_model.specs.Rows.{unheld, released, left_by, FileAnswer, FileRow
 use Rattle.node_model.specs.Calls.{Call, Queue_call, Knock_call, Offer_call, Read_call, Got_call, Skip_call, Act_call, Give_call, StandBeside, Made_row, Answer, Begun, File_call, Data_call, Open_call, Leave_call, Refused, Filed, More, Whole_now, Settled, Disk, Full, No_memory, Fault, Caused, Counts, NodeStep, Breaks, Passes, Before_it, After_it, unheld_in, Tells}
 use Rattle.node_model.specs.Images.{Kept, OpensTo, Settles}
 use Rattle.node_model.specs.Stores.{StoreState, StoreStand}
-use Rattle.hub_core.specs.declared.desk.FileIn.{FileIn}
-use Rattle.hub_core.specs.declared.desk.FileIn.TheVariants as F
-use Rattle.hub_core.specs.declared.desk.DataIn.{DataIn}
-use Rattle.hub_core.specs.declared.desk.DataIn.TheVariants as I
+use Rattle.node_model.specs.declared.desk.FileIn.{FileIn}
+use Rattle.node_model.specs.declared.desk.FileIn.TheVariants as F
+use Rattle.node_model.specs.declared.desk.DataIn.{DataIn}
+use Rattle.node_model.specs.declared.desk.DataIn.TheVariants as I
 use Rattle.node_model.specs.Talk.{Part}
-use Rattle.hub_core.specs.Desks.{DeskPart, file_answer, data_answer, part_after}
+use Rattle.node_model.specs.Desks.{DeskPart, file_answer, data_answer, part_after}
 use Rattle.hub_core.specs.Seats.{Holding, Sitting, told, IsSettled, unless_broken, hold_of, places_of, session_of, node_of, seat_stand, seat_part, part_in, IsSeated, IsHolding}
 use Rattle.ftn_addr.specs.Limits.{IsAddress}
 use Rattle.std.specs.List.{All}

@@ -1,6 +1,7 @@
 -- Data that a seat's session takes is a row of the node that the seat tells.
 use Rattle.std.proofs.Common.{◌≡◌, ℕ, ◌+◌, ◌-◌, ◌≤◌, Bool, true, false, cond, List, ◌++◌, Option, Some, None, length, refl, sym, ◌∙◌, ap, subst, inl, inr, arith}
-use Rattle.std.specs.Prelude.{Result, Err}
+use Rattle.std.specs.Prelude.{Result, Err, ◌==◌}
+use Rattle.std.proofs.lemmas.Bool.Decides.{Decides-eqb}
 use Rattle.node_model.specs.declared.store.StoreFault.{StoreFault}
 use Rattle.node_model.specs.declared.store.StoreFault.TheVariants as D
 use Rattle.node_model.specs.Durable.{Durable, with_receipt}
@@ -8,11 +9,13 @@ use Rattle.node_model.specs.Node.{Hold, Node, Session, Logged}
 use Rattle.node_model.specs.Rows.{by, DataWhole, receipt_of, received_record, released}
 use Rattle.node_model.specs.Calls.{Counts}
 use Rattle.node_model.specs.Stores.{Stored, StoreState, StoreStand, StoreTied, IfTold, Changes, Opened, PutsPart, PutsBody, longer, StoreKept, Part_put, Well, PassesTold, TellsPass}
-use Rattle.node_model.proofs.PartPlaces.{eqb_refl}
-use Rattle.hub_core.specs.declared.desk.DataIn.{DataIn}
+use Rattle.node_model.specs.declared.desk.DataIn.{DataIn}
 use Rattle.hub_core.specs.Seats.{Holding, Sitting, told, IsMarkFree, IsTaking, unless_broken, places_of, session_of, node_of}
 use Rattle.hub_core.specs.SeatSteps.{Leaves, HoldsFor, Puts, PutPasses, ReceivePasses, Receives, BrokenBy, state_in, session_in, received}
 use Rattle.hub_core.proofs.Seats.{node_eq, broke_from, leaves_as, leaves_then, opens_to}
+
+eqb_refl : (n : ℕ) → (n == n) ≡ true
+eqb_refl n = (Decides-eqb n n).1 refl
 
 pub held_is : (n : ℕ) (x : Sitting) (s : StoreState) (h : Holding) → HoldsFor n x s → x.hold ≡ Some h → IsTaking x.first h s × (n ≤ h.left)
 held_is n x s h f is =

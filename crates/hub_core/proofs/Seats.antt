@@ -18,7 +18,7 @@ use Rattle.ftn_addr.specs.Counts.{Rose}
 use Rattle.ftn_addr.specs.Files.{is_same}
 use Rattle.node_model.specs.declared.store.StoreFault.{StoreFault}
 use Rattle.node_model.specs.declared.store.StoreFault.TheVariants as D
-use Rattle.hub_core.specs.declared.desk.FileIn.{FileIn}
+use Rattle.node_model.specs.declared.desk.FileIn.{FileIn}
 use Rattle.hub_core.specs.Seats.{Holding, Sitting, told, IsMarkFree, unless_broken, hold_of, session_of, node_of}
 use Rattle.hub_core.specs.SeatSteps.{Leaves, OpensUnder, Receives, ReceivePasses, state_in, session_in, received, TakePasses, Broke, BrokenBy, Takes}
 

@@ -1,3 +1,3 @@
-pub mod Desks
+pub use Rattle.node_model.specs.Desks
 pub mod SeatSteps
 pub mod Seats

@@ -14,10 +14,10 @@ use Rattle.node_model.specs.Calls as C
 use Rattle.node_model.specs.Images.{OpensTo}
 use Rattle.node_model.specs.Stores.{Opened, StoreState, StoreStand, IsPartNumber, committed}
 use Rattle.node_model.specs.Talk.{Part}
-use Rattle.hub_core.specs.declared.desk.FileIn.{FileIn}
-use Rattle.hub_core.specs.declared.desk.FileIn.TheVariants as F
-use Rattle.hub_core.specs.declared.desk.DataIn.{DataIn}
-use Rattle.hub_core.specs.declared.desk.DataIn.TheVariants as I
+use Rattle.node_model.specs.declared.desk.FileIn.{FileIn}
+use Rattle.node_model.specs.declared.desk.FileIn.TheVariants as F
+use Rattle.node_model.specs.declared.desk.DataIn.{DataIn}
+use Rattle.node_model.specs.declared.desk.DataIn.TheVariants as I
 use Rattle.hub_core.specs.Seats.{Holding, Sitting, told, IsMarkFree, IsTaking, session_of, node_of}
 
 -- no image of an earlier moment is new, and each since is such a state

@@ -10,7 +10,7 @@ use Rattle.node_model.specs.Calls.{Tells}
 use Rattle.node_model.specs.Images.{Stand, OpensTo}
 use Rattle.node_model.specs.Stores.{Stored, StoreState, StoreStand}
 use Rattle.node_model.specs.Talk.{Part}
-use Rattle.hub_core.specs.Desks.{DeskPart}
+use Rattle.node_model.specs.Desks.{DeskPart}
 use Rattle.hub_core.specs.declared.seat_open.Taken.{Taken}
 use Rattle.hub_core.specs.declared.seat_open.Open.{Open}
 

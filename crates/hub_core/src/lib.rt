@@ -1,14 +1,14 @@
 //! What a session asks of its node.
 //!
-//! [`Desk`] is the trait: each of its calls is one step of the node, with what a stop may leave of it.
+//! [`Desk`] is the trait, given on from `node_model`: each of its calls is one step of the node, with what a stop
+//! may leave of it.
 //! [`Seat`] is the desk of one session that is alone at a store.
 //!
 //! Left out: several sessions over one store, and files that a node offers.
 #![tactic(auto)]
 
-mod desk;
 mod seat;
 mod seat_open;
 
-pub use desk::{DataIn, Desk, DeskFault, FileIn, Knock};
+pub use node_model::{DataIn, Desk, DeskFault, FileIn, Knock};
 pub use seat::Seat;

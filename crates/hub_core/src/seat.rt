@@ -21,8 +21,8 @@ pub struct Seat<S: Store> {
 impl<S: Store> Seat<S> {
     ghost use Rattle.std.specs.Prelude.{false, ◌≢◌};
     ghost use Rattle.node_model.specs.declared.store.StoreFault.TheVariants.{Read};
-    ghost use Rattle.hub_core.specs.Desks.{fault_of};
-    ghost use Rattle.hub_core.specs.Seats.{IsMarkFree, IsSettled, IsSeated, node_of, seat_part, sitting, told};
+    ghost use Rattle.node_model.specs.Desks.{fault_of};
+    ghost use Rattle.hub_core.specs.Seats.{IsMarkFree, IsSettled, IsSeated, seat_part, sitting, told};
     ghost use Rattle.hub_core.specs.SeatSteps.{fault_in};
 
     /// A seat at which no session is open. What a stop now leaves of the store is what it keeps.
@@ -31,7 +31,8 @@ impl<S: Store> Seat<S> {
         requires whole { (S.stand store).state.counts.broken ≡ None }
         requires settled { IsSettled (told (S.stand store).state.content).state (S.stand store) }
         ensures store { result.store ≡ store }
-        ensures node { node_of (S.stand result.store).state result.begun (option_map sitting result.session) ≡ node_of (S.stand store).state 0 None }
+        ensures begun { result.begun ≡ 0 }
+        ensures session { option_map sitting result.session ≡ None }
         ensures part { seat_part (option_map sitting result.session) ≡ record { open_now = false; held = None } }
         ensures ready { IsSeated (S.stand result.store) (option_map sitting result.session) }
     {

@@ -1,14 +1,10 @@
 pub mod Alone
 pub mod Drifting
 pub mod KeptReceipts
-pub mod ListCalls
 pub mod OneReceipt
-pub mod Orderly
-pub mod PartPlaces
 pub mod Rans
 pub mod ReceiptsAlong
 pub mod ReceiptsStay
-pub mod ReceivedFiles
 pub mod SameFiles
 pub mod SeatSessions
 pub mod SharedHub

@@ -1,8 +1,8 @@
 pub mod Calls
+pub mod Desks
 pub mod Durable
 pub mod Images
 pub mod Items
-pub mod ListStates
 pub mod Lists
 pub mod Node
 pub mod Receipts

@@ -7,9 +7,9 @@ use Rattle.ftn_addr.specs.Key.{Key}
 use Rattle.node_model.specs.Calls.{Open_call, File_call, Data_call, Answer, Filed, Event, turned, asked_of}
 use Rattle.node_model.specs.Images.{Stand, Kept}
 use Rattle.node_model.specs.Talk.{Message, Got, Talk, Part, Verdict, on, AfterFile, FileTaken, Asks, AfterData, DataTaken, Fits}
-use Rattle.hub_core.specs.declared.desk.DeskFault.{DeskFault}
+use Rattle.node_model.specs.declared.desk.DeskFault.{DeskFault}
 use Rattle.session_core.specs.declared.receiver.RecvStep.{RecvStep}
-use Rattle.hub_core.specs.Desks.{held_after}
+use Rattle.node_model.specs.Desks.{held_after}
 use Rattle.ftn_addr.specs.Address.{Address, same_address}
 use Rattle.ftn_addr.specs.Limits.{IsAddress}
 use Rattle.std.specs.List.{All}

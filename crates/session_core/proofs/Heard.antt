@@ -11,7 +11,7 @@ use Rattle.node_model.specs.Rows.{Have, Refuse, Elsewhere, Go, Whole, From, Late
 use Rattle.node_model.specs.Calls.{Answer, Filed, More, Whole_now, Refused, Event, asked_of}
 use Rattle.node_model.specs.Images.{Stand}
 use Rattle.node_model.specs.Talk.{on, End as EndMessage, Talk, Part, Message, Verdict, TakeRow, AfterFile, FileTaken, Asks, Not_yet, AfterData, DataTaken, Nothing_held, Drops, Exceeds, Fits, Outcome}
-use Rattle.hub_core.specs.declared.desk.DeskFault.{DeskFault}
+use Rattle.node_model.specs.declared.desk.DeskFault.{DeskFault}
 use Rattle.session_core.specs.declared.ending.Cause.TheVariants as C
 use Rattle.session_core.specs.declared.ending.End.TheVariants as E
 use Rattle.session_core.specs.declared.ending.Took.{Took}

@@ -9,8 +9,8 @@ use Rattle.binkp_args.specs.declared.fault.ArgFault.TheVariants.{NoMemory}
 use Rattle.node_model.specs.Calls.{Event, Turned, asked_of}
 use Rattle.node_model.specs.Images.{Stand, RanAt}
 use Rattle.node_model.specs.Talk.{Got, Talk, Part, Out_of_turn, Too_much, Refused_by, Outcome, Goes_on, Ends, Verdict}
-use Rattle.hub_core.specs.declared.desk.DeskFault.{DeskFault}
-use Rattle.hub_core.specs.declared.desk.DeskFault.TheVariants as D
+use Rattle.node_model.specs.declared.desk.DeskFault.{DeskFault}
+use Rattle.node_model.specs.declared.desk.DeskFault.TheVariants as D
 use Rattle.session_core.specs.declared.ending.Cause.{Cause}
 use Rattle.session_core.specs.declared.ending.Cause.TheVariants as C
 use Rattle.session_core.specs.declared.ending.End.TheVariants as E
@@ -28,7 +28,7 @@ use Rattle.session_core.specs.declared.stage.Stage.{Stage as CodeStage}
 use Rattle.session_core.specs.declared.stage.Stage.TheVariants as K
 use Rattle.session_core.specs.declared.stage.Talking.{Talking}
 use Rattle.session_core.specs.declared.terms.Setting.{Setting as CodeSetting}
-use Rattle.hub_core.specs.Desks.{DeskPart, fault_of}
+use Rattle.node_model.specs.Desks.{DeskPart, fault_of}
 use Rattle.session_core.specs.Sessions.{Heard, Passed, Addresses, Password, Offers, Ends_batch, Unbuilt, Setting, Stage, IsSound, desk_part, Awaits_address, Awaits_password, Talks, Reply, Turn, Said, GiveRow, unreadable, broken_frame, offset_again, said_bytes, held_along}
 
 -- Views.

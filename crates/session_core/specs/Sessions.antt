@@ -22,7 +22,7 @@ use Rattle.session_core.specs.declared.ending.Took.{Took}
 use Rattle.session_core.specs.declared.ending.Took.TheVariants as T
 use Rattle.session_core.specs.declared.ending.Gave.{Gave}
 use Rattle.session_core.specs.declared.ending.Gave.TheVariants as G
-use Rattle.hub_core.specs.Desks.{DeskPart, held_after}
+use Rattle.node_model.specs.Desks.{DeskPart, held_after}
 
 -- what a session is lent: its own address, the moment, and the most bytes that it takes and writes
 pub record Setting : Type 0 where

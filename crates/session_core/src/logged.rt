@@ -14,8 +14,7 @@ use crate::saying::{break_off, refuse, say_end};
 use crate::stage::{Stage, Talking, is_none, out_of_turn};
 use crate::{Cause, End, Gave, Took};
 use ftn_addr::{Bytes, FileKey};
-use hub_core::{Desk, DeskFault};
-use node_model::Role;
+use node_model::{Desk, DeskFault, Role};
 use std::alloc::Global;
 
 /// Tells what became of a message.

@@ -15,8 +15,7 @@ use crate::terms::Setting;
 use crate::{Cause, End, Took};
 use binkp_args::ArgFault;
 use ftn_addr::{Addr, Bytes, NoMemory, is_same_address};
-use hub_core::Desk;
-use node_model::Role;
+use node_model::{Desk, Role};
 use std::alloc::Global;
 
 fn push_other(home: &Addr, addr: Addr, others: &mut Vec<Addr>) -> Result<(), NoMemory>

@@ -9,7 +9,7 @@ ghost use Rattle.session_core.specs.declared.holding.Receiver.TheVariants as R;
 use crate::holding::{Held, Receiver};
 use crate::saying::say_got;
 use ftn_addr::{Bytes, FileKey};
-use hub_core::{DataIn, Desk, DeskFault, FileIn};
+use node_model::{DataIn, Desk, DeskFault, FileIn};
 use std::alloc::Global;
 use std::mem;
 

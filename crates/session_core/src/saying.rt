@@ -5,7 +5,7 @@ ghost use Rattle.binkp_args.specs.Command.{Accept, Eob, Error, Got, Adr};
 ghost use Rattle.ftn_addr.specs.Address.{address};
 ghost use Rattle.ftn_addr.specs.Limits.{IsAddress, IsKey};
 ghost use Rattle.session_core.specs.Replies.{Writes, cause_bytes};
-ghost use Rattle.hub_core.specs.Desks.{fault_of};
+ghost use Rattle.node_model.specs.Desks.{fault_of};
 ghost use Rattle.session_core.specs.Sessions.{command_bytes, disk_fault, fault_bytes, fault_end, ledger_full, greeting, version, welcome};
 ghost use Rattle.session_core.specs.declared.ending.Took.TheVariants as T;
 ghost use Rattle.session_core.specs.declared.ending.End.TheVariants as E;
@@ -13,7 +13,7 @@ ghost use Rattle.session_core.specs.declared.ending.End.TheVariants as E;
 use crate::{Cause, End, Took};
 use binkp_args::{Command, fits_a_frame, write_command};
 use ftn_addr::{Addr, Bytes, FileKey, NoMemory};
-use hub_core::DeskFault;
+use node_model::DeskFault;
 use std::alloc::Global;
 
 /// M_OK `non-secure`.

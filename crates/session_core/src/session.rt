@@ -18,7 +18,7 @@ use crate::{End, Gave, Took};
 use binkp_args::{ArgFault, read_command};
 use binkp_frame::Frame;
 use ftn_addr::Bytes;
-use hub_core::Desk;
+use node_model::Desk;
 use std::alloc::Global;
 use std::mem;
 

@@ -2,12 +2,13 @@ ghost use Rattle.std.specs.Prelude.{◌≡◌, ◌≢◌, ◌∷◌, [], ◌+◌
 ghost use Rattle.ftn_addr.specs.Address.{address};
 ghost use Rattle.ftn_addr.specs.Key.{key_of};
 ghost use Rattle.ftn_addr.specs.Limits.{IsAddress, IsKey};
-ghost use Rattle.node_model.specs.ListStates.{stand_of};
+ghost use Rattle.list_store.specs.ListStates.{stand_of};
 ghost use Rattle.hub_core.specs.Seats.{IsSeated, seat_part, sitting};
 
 use crate::{DataIn, Desk, DeskFault, FileIn, Knock, Seat};
 use ftn_addr::{Addr, Bytes, FileKey, NoMemory};
-use node_model::{ListStore, Role};
+use list_store::ListStore;
+use node_model::Role;
 use std::alloc::Global;
 use std::test::Fail;
 

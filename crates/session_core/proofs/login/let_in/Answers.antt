@@ -1,7 +1,7 @@
 use Rattle.std.proofs.Common.{refl, ap, map}
 use Rattle.ftn_addr.specs.Address.{address}
 use Rattle.node_model.specs.Calls.{Begun, Refused}
-use Rattle.hub_core.specs.Desks.{fault_of}
+use Rattle.node_model.specs.Desks.{fault_of}
 use Rattle.session_core.specs.Sessions.{welcome, fault_bytes}
 use Rattle.session_core.specs.declared.ending.Took.TheVariants as T
 use Rattle.session_core.proofs.Dids.{did_login}

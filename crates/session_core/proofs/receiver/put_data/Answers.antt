@@ -1,7 +1,7 @@
 use Rattle.std.proofs.Common.{[], ◌∷◌, refl, ap}
 use Rattle.node_model.specs.Calls.{More, Whole_now, Refused}
 use Rattle.node_model.specs.Talk.{Got, on, ends, Refused_by}
-use Rattle.hub_core.specs.Desks.{fault_of, DeskPart}
+use Rattle.node_model.specs.Desks.{fault_of, DeskPart}
 use Rattle.ftn_addr.specs.Key.{key_of}
 use Rattle.session_core.proofs.Dids.{did_data, quiet, acknowledged}
 use Rattle.session_core.proofs.receiver.put_data.Goals as goal

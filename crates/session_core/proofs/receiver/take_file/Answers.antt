@@ -2,7 +2,7 @@ use Rattle.std.proofs.Common.{[], ◌∷◌, refl}
 use Rattle.node_model.specs.Calls.{Filed, Refused}
 use Rattle.node_model.specs.Rows.{Go, Whole, Have}
 use Rattle.node_model.specs.Talk.{Got, on, ends, Out_of_turn, Refused_by, Not_yet}
-use Rattle.hub_core.specs.Desks.{fault_of}
+use Rattle.node_model.specs.Desks.{fault_of}
 use Rattle.ftn_addr.specs.Key.{key_of}
 use Rattle.session_core.proofs.Dids.{did_file, did_plain, quiet, acknowledged, from_start}
 use Rattle.session_core.proofs.receiver.take_file.Goals as goal

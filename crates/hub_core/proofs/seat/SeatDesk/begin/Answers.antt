@@ -2,7 +2,7 @@ use Rattle.std.proofs.Common.{option_map, refl, sym}
 use Rattle.node_model.specs.Calls.{Open_call, Refused, No_memory}
 use Rattle.ftn_addr.specs.Address.{address}
 use Rattle.std.proofs.Common.{map}
-use Rattle.hub_core.specs.Desks.{fault_of}
+use Rattle.node_model.specs.Desks.{fault_of}
 use Rattle.hub_core.specs.Seats.{sitting}
 use Rattle.hub_core.proofs.SeatCalls.{kept_still, broken_kept, begun_kept, begin_refused, begun_ready}
 use Rattle.std.proofs.Common.{◌+◌, arith}

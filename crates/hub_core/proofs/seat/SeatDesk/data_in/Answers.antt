@@ -2,7 +2,7 @@ use Rattle.std.proofs.Common.{Option, Some, option_map, sym, ◌∙◌, ap, subs
 use Rattle.node_model.specs.Calls.{Data_call, Refused}
 use Rattle.node_model.specs.Images.{Kept}
 use Rattle.std.proofs.Common.{true}
-use Rattle.hub_core.specs.Desks.{fault_of, data_answer}
+use Rattle.node_model.specs.Desks.{fault_of, data_answer}
 use Rattle.std.specs.Prelude.{Ok}
 use Rattle.hub_core.specs.Seats.{Sitting, sitting, node_of, seat_stand}
 use Rattle.hub_core.proofs.SeatCalls.{broken_kept, data_made, data_refused}

@@ -5,7 +5,7 @@ use Rattle.ftn_addr.specs.Key.{key_of}
 use Rattle.node_model.specs.Calls.{File_call, Refused, Counts}
 use Rattle.node_model.specs.Images.{Kept}
 use Rattle.node_model.specs.Stores.{StoreState}
-use Rattle.hub_core.specs.Desks.{fault_of, file_answer, part_after}
+use Rattle.node_model.specs.Desks.{fault_of, file_answer, part_after}
 use Rattle.hub_core.specs.Seats.{Sitting, sitting, node_of, seat_stand, seat_part}
 use Rattle.hub_core.proofs.SeatCalls.{broken_kept, unheld_told, LetsGo, settled_after, file_made, file_refused, file_part}
 use Rattle.hub_core.proofs.seat.SeatDesk.file_in.Goals as goal

@@ -1,6 +1,6 @@
 use Rattle.std.proofs.Common.{◌≡◌, ◌-◌, Some, true, refl, ◌∙◌, ap, arith, length}
 use Rattle.ftn_addr.specs.Key.{key_of}
-use Rattle.hub_core.specs.Desks.{DeskPart, less}
+use Rattle.node_model.specs.Desks.{DeskPart, less}
 use Rattle.hub_core.proofs.seat.tests.receive.Goals as goal
 
 pub data_in-requires-clause-fits : goal.data_in-requires-clause-fits

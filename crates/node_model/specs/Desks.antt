@@ -1,13 +1,13 @@
 -- What a desk's answers say, and what every desk tells of its session.
 use Rattle.std.specs.Prelude.{◌≡◌, ℕ, ◌-◌, ◌≤◌, Bool, true, false, Option, Some, None, Result, Ok, Err, length}
-use Rattle.hub_core.specs.declared.desk.DeskFault.{DeskFault}
-use Rattle.hub_core.specs.declared.desk.DeskFault.TheVariants as D
-use Rattle.hub_core.specs.declared.desk.Knock.{Knock}
-use Rattle.hub_core.specs.declared.desk.Knock.TheVariants.{Come}
-use Rattle.hub_core.specs.declared.desk.FileIn.{FileIn}
-use Rattle.hub_core.specs.declared.desk.FileIn.TheVariants as F
-use Rattle.hub_core.specs.declared.desk.DataIn.{DataIn}
-use Rattle.hub_core.specs.declared.desk.DataIn.TheVariants as I
+use Rattle.node_model.specs.declared.desk.DeskFault.{DeskFault}
+use Rattle.node_model.specs.declared.desk.DeskFault.TheVariants as D
+use Rattle.node_model.specs.declared.desk.Knock.{Knock}
+use Rattle.node_model.specs.declared.desk.Knock.TheVariants.{Come}
+use Rattle.node_model.specs.declared.desk.FileIn.{FileIn}
+use Rattle.node_model.specs.declared.desk.FileIn.TheVariants as F
+use Rattle.node_model.specs.declared.desk.DataIn.{DataIn}
+use Rattle.node_model.specs.declared.desk.DataIn.TheVariants as I
 use Rattle.node_model.specs.Rows.{Have, Go, Whole, From}
 use Rattle.node_model.specs.Calls.{Call, File_call, Data_call, Open_call, Leave_call, Fault, Disk, Full, No_memory, Answer, Let_in, Begun, Filed, More, Whole_now, Settled, Refused}
 use Rattle.node_model.specs.Talk.{Part}

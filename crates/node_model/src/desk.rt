@@ -6,10 +6,10 @@ ghost use Rattle.ftn_addr.specs.Limits.{IsAddress, IsKey};
 ghost use Rattle.std.specs.List.{All};
 ghost use Rattle.node_model.specs.Calls.{Knock_call, Open_call, File_call, Data_call, Leave_call};
 ghost use Rattle.node_model.specs.Images.{Stand, Kept};
-ghost use Rattle.hub_core.specs.Desks.{DeskPart, Fits, part_after, knock_answer, begin_answer, file_answer, data_answer, leave_answer};
+ghost use Rattle.node_model.specs.Desks.{DeskPart, Fits, part_after, knock_answer, begin_answer, file_answer, data_answer, leave_answer};
 
+use crate::Role;
 use ftn_addr::{Addr, FileKey};
-use node_model::Role;
 use std::alloc::Global;
 use thiserror::Error;
 

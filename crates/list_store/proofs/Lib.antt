@@ -1,0 +1,4 @@
+pub mod ListCalls
+pub mod Orderly
+pub mod PartPlaces
+pub mod ReceivedFiles
