@@ -1,12 +1,19 @@
 -- What a held session tells of the call's status, and of receipts.
-use Rattle.std.proofs.Common.{◌≡◌, ◌⊎◌, ◌∙◌, ℕ, ◌+◌, ◌-◌, ◌≤◌, arith, true, List, ◌++◌, length, Option, Some, None, refl, sym, ap, subst, inl, inr}
+use Rattle.std.proofs.Common.{◌≡◌, ◌⊎◌, ◌∙◌, ℕ, ◌+◌, ◌-◌, ◌≤◌, ◌<◌, arith, true, List, ◌++◌, length, Option, Some, None, refl, sym, ap, subst, inl, inr}
 use Rattle.ftn_addr.specs.Address.{Address}
 use Rattle.node_model.specs.Calls.{Counts, counts_of, DeskState, Knows, Tells}
 use Rattle.node_model.specs.Node.{Node}
-use Rattle.node_model.specs.Receipts.{HasOnce, TellsOnce, KnownStays}
+use Rattle.node_model.specs.Receipts.{HasOnce, TellsOnce, KnownStays, StaysReceived}
 use Rattle.node_model.specs.Stores.{Stored, StoreState}
-use Rattle.node_model.proofs.OneReceipt.{chain_once}
-use Rattle.node_model.proofs.ReceiptsStay.{chain_stays}
+use Rattle.node_model.specs.Durable.{Durable}
+use Rattle.node_model.specs.Images.{RanAt}
+use Rattle.node_model.specs.Stores.{StoreStand}
+use Rattle.node_model.proofs.Alone.{exact}
+use Rattle.node_model.proofs.KeptReceipts.{turns_stay, along_stays, kept_receipts}
+use Rattle.node_model.proofs.OneReceipt.{turns_once}
+use Rattle.node_model.proofs.Rans.{opens_weaker}
+use Rattle.node_model.proofs.ReceiptsAlong.{along_once}
+use Rattle.session_run.proofs.Chains.{whole_leads}
 use Rattle.session_core.specs.declared.ending.End.{End}
 use Rattle.session_core.specs.declared.ending.End.TheVariants as E
 use Rattle.binkp_mailer.specs.declared.status.Status.{Status}
@@ -16,11 +23,12 @@ use Rattle.binkp_link.specs.Lines.{LineBytes, LineState, Moves}
 use Rattle.session_run.proofs.Settings.{reach_setting}
 use Rattle.session_run.specs.Machine.{Phase, opening}
 use Rattle.session_core.specs.Sessions.{Setting, Stage}
-use Rattle.session_run.specs.Laws.{IsSession, Facts, OwnCause, OwnCauseAt, EndCount, EndCountAt, LineCause, LineCauseAt, DeskCause, DeskCauseAt}
-use Rattle.hub_core.specs.Seats.{node_of, told}
+use Rattle.session_run.specs.Laws.{WholeRun, IsSession, Facts, OwnCause, OwnCauseAt, EndCount, EndCountAt, LineCause, LineCauseAt, DeskCause, DeskCauseAt}
+use Rattle.hub_core.specs.Seats.{Sitting, node_of, seat_stand, told}
 use Rattle.binkp_mailer.specs.Statuses.{status_after}
 use Rattle.binkp_mailer.specs.declared.status.Status.TheVariants as S
-use Rattle.binkp_mailer.specs.TopCall.{Calls_in_turn, none_yet, one_more, ReachesLimit, HeldSession, HasOnceTold, StaysTold, StatusCause, Answers_line, Turned_away, Held_one, one_seat, lent}
+use Rattle.binkp_mailer.specs.TopCall.{Calls_in_turn, none_yet, one_more, ReachesLimit, HeldSession, HasOnceTold, StaysTold, StatusCause, Answers_line, Turned_away, Held_one, StopsOf, IsCall, EachStop, one_seat, lent}
+use Rattle.binkp_mailer.specs.Words.{AreWords}
 
 -- Endless comes only where the limit was reached
 abbrev pub LimitCause : End → Option LineBytes → Option LineBytes → Type 0
@@ -64,7 +72,7 @@ held_causes home moment line store status line' store' h whole =
     let f : Facts true line (one_seat store 0 None) s.last = s.facts in
     let ends : EndCount h.end line.ends line'.ends = subst (λ (x : LineState). EndCount h.end line.ends x.ends) s.line_is (subst (λ (p : Phase). EndCountAt p line.ends s.last.line.ends) s.closed f.ends) in
     let lines : LineCause h.end line.faults line'.faults line'.calm = subst (λ (x : LineState). LineCause h.end line.faults x.faults x.calm) s.line_is (subst (λ (p : Phase). LineCauseAt p line.faults s.last.line.faults s.last.line.calm) s.closed f.line_cause) in
-    let desks : DeskCause h.end store.counts store'.counts = subst (λ (x : DeskState). DeskCause h.end store.counts (counts_of x.knows)) s.desk_is (subst (λ (p : Phase). DeskCauseAt p store.counts (counts_of s.last.desk.knows)) s.closed (f.desk_cause refl)) in
+    let desks : DeskCause h.end store.counts store'.counts = subst (λ (x : Knows). DeskCause h.end store.counts (counts_of x)) (sym s.desk_is.drift) (subst (λ (p : Phase). DeskCauseAt p store.counts (counts_of s.last.desk.knows)) s.closed (f.desk_cause refl)) in
     let own : OwnCause h.end s.last.setting s.last.stage s.last.frames s.last.taken s.last.sent = subst (λ (p : Phase). OwnCauseAt p s.last.setting s.last.stage s.last.frames s.last.taken s.last.sent) s.closed f.own_cause in
     let setting : s.last.setting.limit ≡ 17592186044416 = ap (λ (x : Setting). x.limit) (reach_setting true (opening (lent home moment) line (one_seat store 0 None)) s.last s.run) in
     let limit : LimitCause h.end line.bytes line'.bytes = subst (λ (x : LineState). LimitCause h.end line.bytes x.bytes) s.line_is (own_limit h.end s.last.setting s.last.stage s.last.frames s.last.taken s.last.sent line.bytes s.last.line.bytes setting f.moves own) in
@@ -87,8 +95,8 @@ known_node knows n t is =
 pub held_once : (home : Address) (moment : ℕ) (line : LineState) (store : StoreState) (status : Status) (line' : LineState) (store' : StoreState) → HeldSession home moment line store status line' store' → HasOnceTold store.content → HasOnceTold store'.content
 held_once home moment line store status line' store' h once =
     let s = h.session in
-    let kept : TellsOnce s.last.desk.knows = chain_once (one_seat store 0 None) s.last.events s.last.desk (node_of store 0 None) s.facts.chain refl refl (once_told store.content once) in
-    told_once store'.content (known_node s.last.desk.knows (node_of store' h.begun h.sitting) kept (ap (λ (x : DeskState). x.knows) s.desk_is))
+    let kept : TellsOnce s.last.desk.knows = turns_once (one_seat store 0 None) s.last.events s.last.desk (node_of store 0 None) (whole_leads _ _ _ _ _ _ _ _ s) refl refl (once_told store.content once) in
+    told_once store'.content (known_node s.last.desk.knows (node_of store' h.begun h.sitting) kept (sym s.desk_is.drift))
 
 pub answers_once : (words : List (List ℕ)) (moment : ℕ) (line : LineState) (store : StoreState) (status : Status) (line' : LineState) (store' : StoreState) → Answers_line words moment line store status line' store' → HasOnceTold store.content → HasOnceTold store'.content
 answers_once words moment line store status line' store' (Turned_away why line_is store_is) once = subst (λ (x : StoreState). HasOnceTold x.content) (sym store_is) once
@@ -98,8 +106,8 @@ answers_once words moment line store status line' store' (Held_one home are h) o
 pub held_stays : (home : Address) (moment : ℕ) (line : LineState) (store : StoreState) (status : Status) (line' : LineState) (store' : StoreState) → HeldSession home moment line store status line' store' → StaysTold store.content store'.content
 held_stays home moment line store status line' store' h =
     let s = h.session in
-    let stays : KnownStays (Tells (node_of store 0 None)) s.last.desk.knows = chain_stays true (one_seat store 0 None) s.last.events s.last.desk s.facts.chain in
-    subst (λ (x : DeskState). KnownStays (Tells (node_of store 0 None)) x.knows) s.desk_is stays
+    let stays : KnownStays (Tells (node_of store 0 None)) s.last.desk.knows = turns_stay true (one_seat store 0 None) s.last.events s.last.desk (whole_leads _ _ _ _ _ _ _ _ s) in
+    subst (λ (x : Knows). KnownStays (Tells (node_of store 0 None)) x) (sym s.desk_is.drift) stays
 
 pub answers_stay : (words : List (List ℕ)) (moment : ℕ) (line : LineState) (store : StoreState) (status : Status) (line' : LineState) (store' : StoreState) → Answers_line words moment line store status line' store' → StaysTold store.content store'.content
 answers_stay words moment line store status line' store' (Turned_away why line_is store_is) = subst (λ (x : StoreState). StaysTold store.content x.content) (sym store_is) (λ from key has. has)
@@ -125,6 +133,36 @@ answers_causes words moment line store status line' store' (Turned_away why line
     subst (λ (x : LineState). StatusCause status line x store.counts store'.counts) (sym line_is) (subst (λ (x : StoreState). StatusCause status line line store.counts x.counts) (sym store_is) (turned_causes status line store.counts why))
 answers_causes words moment line store status line' store' (Held_one home are h) whole = held_causes home moment line store status line' store' h whole
 
--- a seat that tells the same node
-pub from_node : (s : Setting) (line : LineState) (a b : Node) (end : End) (taken : ℕ) (line' : LineState) (desk' : DeskState) → a ≡ b → IsSession true s line (record { seat = 0; knows = Tells a }) end taken line' desk' → IsSession true s line (record { seat = 0; knows = Tells b }) end taken line' desk'
-from_node s line a b end taken line' desk' e session = subst (λ (n : Node). IsSession true s line (record { seat = 0; knows = Tells n }) end taken line' desk') e session
+-- What a stop may leave.
+
+-- the call, from the session that its seat held
+pub held_call : (words : List (List ℕ)) (home : Address) (moment : ℕ) (line : LineState) (store : StoreStand) (status : Status) (line' : LineState) (store' : StoreStand) (end : End) (taken begun : ℕ) (sitting : Option Sitting) → AreWords words home → status ≡ status_after end → IsSession true (lent home moment) line (seat_stand store 0 None) end taken line' (seat_stand store' begun sitting) → IsCall words moment line store status line' store'
+held_call words home moment line store status line' store' end taken begun sitting are is x = record {
+  answers = Held_one home are (record { end = end; status_is = is; taken = taken; begun = begun; sitting = sitting; session = x.whole });
+  stops = record { ran = x.ran; kept = λ k d after until i. kept_receipts true (seat_stand store 0 None) x.whole.last.events (seat_stand store' begun sitting) x.ran k d after until i };
+}
+
+-- nothing was done
+pub turned_call : (words : List (List ℕ)) (moment : ℕ) (line : LineState) (store : StoreStand) (status : Status) → (status ≡ S.Usage) ⊎ (status ≡ S.NoMemory) → IsCall words moment line store status line store
+turned_call words moment line store status why = record { answers = Turned_away why refl refl; stops = record { moment = refl; images = λ k d i. i } }
+
+no_moment : {A : Type 0} (m k : ℕ) → m < k → k ≤ m → A
+no_moment m k a b = absurd (omega (arith, a, b))
+
+pub stops_once : (words : List (List ℕ)) (moment : ℕ) (line : LineState) (store : StoreStand) (status : Status) (line' : LineState) (store' : StoreStand) → IsCall words moment line store status line' store' → HasOnceTold store.state.content → EachStop store store' HasOnce
+stops_once words moment line store status line' store' call once = go call.answers call.stops
+  where
+    go : (a : Answers_line words moment line store.state status line' store'.state) → StopsOf words moment line store status line' store' a → EachStop store store' HasOnce
+    go (Turned_away why line_is store_is) same = λ k d after until i. no_moment store.moment k after (subst (λ (m : ℕ). k ≤ m) same.moment until)
+    go (Held_one home are h) s = λ k d after until i.
+        opens_weaker _ _ (λ e p. along_once (one_seat store.state 0 None) h.session.last.events s.ran.last (node_of store.state 0 None) s.ran.chain store.moment s.ran.times k e p refl refl (once_told store.state.content once)) d
+        ((exact (seat_stand store 0 None) h.session.last.events (seat_stand store' h.begun h.sitting) s.ran).since k d after until i)
+
+pub stops_stay : (words : List (List ℕ)) (moment : ℕ) (line : LineState) (store : StoreStand) (status : Status) (line' : LineState) (store' : StoreStand) → IsCall words moment line store status line' store' → EachStop store store' (StaysReceived (told store.state.content).state)
+stops_stay words moment line store status line' store' call = go call.answers call.stops
+  where
+    go : (a : Answers_line words moment line store.state status line' store'.state) → StopsOf words moment line store status line' store' a → EachStop store store' (StaysReceived (told store.state.content).state)
+    go (Turned_away why line_is store_is) same = λ k d after until i. no_moment store.moment k after (subst (λ (m : ℕ). k ≤ m) same.moment until)
+    go (Held_one home are h) s = λ k d after until i.
+        opens_weaker _ _ (λ e p. along_stays true (one_seat store.state 0 None) h.session.last.events s.ran.last (node_of store.state 0 None) s.ran.chain store.moment s.ran.times k e p refl) d
+        ((exact (seat_stand store 0 None) h.session.last.events (seat_stand store' h.begun h.sitting) s.ran).since k d after until i)

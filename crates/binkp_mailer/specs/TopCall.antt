@@ -1,17 +1,19 @@
 -- What the program's call does (own, after FTS-1026).
-use Rattle.std.specs.Prelude.{◌≡◌, ◌⊎◌, ℕ, ◌+◌, ◌-◌, ◌≤◌, true, List, length, Option, Some, None}
+use Rattle.std.specs.Prelude.{◌≡◌, ◌⊎◌, ℕ, ◌+◌, ◌-◌, ◌≤◌, ◌<◌, true, List, length, Option, Some, None}
 use Rattle.ftn_addr.specs.Address.{Address}
 use Rattle.ftn_addr.specs.Counts.{Rose, risen}
 use Rattle.node_model.specs.Calls.{Counts, DeskState, Tells}
-use Rattle.node_model.specs.Receipts.{HasOnce, StaysReceived}
-use Rattle.node_model.specs.Stores.{Stored, StoreState, IfTold}
+use Rattle.node_model.specs.Durable.{Durable}
+use Rattle.node_model.specs.Images.{OpensTo, RanAt}
+use Rattle.node_model.specs.Receipts.{HasOnce, StaysReceived, HasAt}
+use Rattle.node_model.specs.Stores.{Stored, StoreState, StoreStand, IfTold}
 use Rattle.session_core.specs.declared.ending.End.{End}
 use Rattle.binkp_mailer.specs.declared.status.Status.{Status}
 use Rattle.binkp_mailer.specs.declared.status.Status.TheVariants as S
 use Rattle.binkp_link.specs.Lines.{LineBytes, LineState}
 use Rattle.session_core.specs.Sessions.{Setting}
-use Rattle.session_run.specs.Laws.{IsSession}
-use Rattle.hub_core.specs.Seats.{Sitting, node_of, told}
+use Rattle.session_run.specs.Laws.{WholeRun}
+use Rattle.hub_core.specs.Seats.{Sitting, node_of, seat_stand, told}
 use Rattle.binkp_mailer.specs.Statuses.{status_after}
 use Rattle.binkp_mailer.specs.Words.{AreWords}
 
@@ -30,12 +32,35 @@ pub record HeldSession (home : Address) (moment : ℕ) (line : LineState) (store
   pub taken : ℕ
   pub begun : ℕ
   pub sitting : Option Sitting
-  pub session : IsSession true (lent home moment) line (one_seat store 0 None) end taken line' (one_seat store' begun sitting)
+  pub session : WholeRun true (lent home moment) line (one_seat store 0 None) end taken line' (one_seat store' begun sitting)
 
 -- A session was held, where the words are those of a call; else nothing was done.
 pub data Answers_line (words : List (List ℕ)) (moment : ℕ) (line : LineState) (store : StoreState) (status : Status) (line' : LineState) (store' : StoreState) : Type 0 where
   Turned_away : (status ≡ S.Usage) ⊎ (status ≡ S.NoMemory) → line' ≡ line → store' ≡ store → Answers_line words moment line store status line' store'
   Held_one : (home : Address) → AreWords words home → HeldSession home moment line store status line' store' → Answers_line words moment line store status line' store'
+
+-- What a stop may leave of a store that was only handed back: what it might have left before.
+pub record SameImages (store store' : StoreStand) : Type 0 where
+  pub moment : store'.moment ≡ store.moment
+  pub images : (k : ℕ) (d : Option Durable) → store'.images k d → store.images k d
+
+-- What a stop may leave of a session's calls, and that each image has what was received when any call before it ended.
+pub record HeldImages (home : Address) (moment : ℕ) (line : LineState) (store : StoreStand) (status : Status) (line' : LineState) (store' : StoreStand) (held : HeldSession home moment line store.state status line' store'.state) : Type 0 where
+  pub ran : RanAt true (seat_stand store 0 None) held.session.last.events (seat_stand store' held.begun held.sitting)
+  pub kept : (k : ℕ) (d : Durable) → store.moment < k → k ≤ store'.moment → store'.images k (Some d) → HasAt true (one_seat store.state 0 None) held.session.last.events ran.last ran.chain ran.times k d
+
+abbrev pub StopsOf : (words : List (List ℕ)) (moment : ℕ) (line : LineState) (store : StoreStand) (status : Status) (line' : LineState) (store' : StoreStand) → Answers_line words moment line store.state status line' store'.state → Type 0
+StopsOf words moment line store status line' store' (Turned_away why line_is store_is) = SameImages store store'
+StopsOf words moment line store status line' store' (Held_one home are held) = HeldImages home moment line store status line' store' held
+
+-- the whole call: what it did, and what a stop at each moment since may leave of it
+pub record IsCall (words : List (List ℕ)) (moment : ℕ) (line : LineState) (store : StoreStand) (status : Status) (line' : LineState) (store' : StoreStand) : Type 0 where
+  pub answers : Answers_line words moment line store.state status line' store'.state
+  pub stops : StopsOf words moment line store status line' store' answers
+
+-- a stop at any moment since leaves a durable state of which this holds
+abbrev pub EachStop : StoreStand → StoreStand → (Durable → Type 0) → Type 0
+EachStop store store' P = (k : ℕ) (d : Option Durable) → store.moment < k → k ≤ store'.moment → store'.images k d → OpensTo P d
 
 -- the bytes taken from a line and sent on it reached 16 TiB, where it tells them
 abbrev pub ReachesLimit : Option LineBytes → Option LineBytes → Type 0

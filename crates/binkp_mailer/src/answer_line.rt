@@ -1,9 +1,10 @@
 //! The program's call.
 ghost use Rattle.std.specs.Prelude.{◌≡◌, false, None};
 ghost use Rattle.ftn_addr.specs.Address.{Address};
+ghost use Rattle.node_model.specs.Receipts.{HasOnce, StaysReceived};
 ghost use Rattle.node_model.specs.Stores.{StoreState};
 ghost use Rattle.hub_core.specs.Seats.{IsMarkFree, IsSettled, told};
-ghost use Rattle.binkp_mailer.specs.TopCall.{Answers_line, Calls_in_turn, HasOnceTold, StatusCause, StaysTold};
+ghost use Rattle.binkp_mailer.specs.TopCall.{Calls_in_turn, EachStop, HasOnceTold, IsCall, StatusCause, StaysTold};
 ghost use Rattle.binkp_mailer.specs.Words.{AreWords, texts};
 ghost use Rattle.binkp_mailer.specs.declared.status.Status.TheVariants.{Usage};
 
@@ -39,13 +40,15 @@ pub fn run_line<S: Store, L: Line, O: Sink>(
     requires calm { (L.state line.old).calm ≡ 0 }
     requires open { (L.state line.old).closed ≡ false }
     ensures usage { result.0 ≡ Usage → (home : Address) → AreWords (texts words.now) home → ⊥ }
-    ensures session { Answers_line (texts words.now) now (L.state line.old) (S.stand store).state result.0 (L.state line.new) (S.stand result.1).state }
+    ensures call { IsCall (texts words.now) now (L.state line.old) (S.stand store) result.0 (L.state line.new) (S.stand result.1) }
     ensures cause { StatusCause result.0 (L.state line.old) (L.state line.new) (S.stand store).state.counts (S.stand result.1).state.counts }
     ensures silent { O.state _out.new ≡ O.state _out.old }
     ensures free { IsMarkFree (S.stand result.1).state.content }
     ensures settled { (S.stand result.1).state.counts.broken ≡ None → IsSettled (told (S.stand result.1).state.content).state (S.stand result.1) }
     ensures once { HasOnceTold (S.stand store).state.content → HasOnceTold (S.stand result.1).state.content }
     ensures stays { StaysTold (S.stand store).state.content (S.stand result.1).state.content }
+    ensures stop_once { HasOnceTold (S.stand store).state.content → EachStop (S.stand store) (S.stand result.1) HasOnce }
+    ensures stop_stays { EachStop (S.stand store) (S.stand result.1) (StaysReceived (told (S.stand store).state.content).state) }
 {
     let home = match read_words(alloc, words) {
         Ok(home) => home,

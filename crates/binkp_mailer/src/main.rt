@@ -12,7 +12,7 @@ mod words;
 pub use answer_line::{SESSION_LIMIT, one_receipt_over_calls, receipts_stay_over_calls, run_line};
 use binkp_link::{MemSink, StdLine};
 use ftn_addr::{Bytes, NoMemory};
-use node_model::ListStore;
+use list_store::ListStore;
 pub use status::{Status, status_of};
 use std::process::ExitCode;
 use std::rt::{Clock, Env};

@@ -34,18 +34,20 @@ reach_shared w v here = here
 reach_shared w v (next {u} r s) = next (reach_shared w u r) (step_shared u v s)
 
 facts_shared : (line : LineState) (desk : DeskState) (w : World) → Facts true line desk w → Facts false line desk w
-facts_shared line desk w f = record { pieces = f.pieces; moves = f.moves; chain = chain_shared desk w.events w.desk f.chain; left = f.left; front = f.front; whole = f.whole; faults = f.faults; ends = f.ends; line_cause = f.line_cause; counts = λ is. absurd (let clash : false ≡ true = is in cc); desk_cause = λ is. absurd (let clash : false ≡ true = is in cc); own_cause = f.own_cause }
+facts_shared line desk w f = record { pieces = f.pieces; moves = f.moves; left = f.left; front = f.front; whole = f.whole; faults = f.faults; ends = f.ends; line_cause = f.line_cause; counts = λ is. absurd (let clash : false ≡ true = is in cc); desk_cause = λ is. absurd (let clash : false ≡ true = is in cc); own_cause = f.own_cause }
 
 pub session_shared : (s : Setting) (line : LineState) (desk : Stand) (end : End) (taken : ℕ) (line' : LineState) (desk' : Stand) → IsSession true s line desk end taken line' desk' → IsSession false s line desk end taken line' desk'
 session_shared s line desk end taken line' desk' x = record {
-  last = x.last;
-  run = reach_shared _ x.last x.run;
-  closed = x.closed;
-  line_is = x.line_is;
-  desk_is = drifted_shared x.last.desk desk'.state x.desk_is;
-  taken_is = x.taken_is;
-  ran = ran_shared_too desk x.last.events desk' x.ran;
-  facts = facts_shared line desk.state x.last x.facts;
+  whole = record {
+    last = x.whole.last;
+    run = reach_shared _ x.whole.last x.whole.run;
+    closed = x.whole.closed;
+    line_is = x.whole.line_is;
+    desk_is = drifted_shared x.whole.last.desk desk'.state x.whole.desk_is;
+    taken_is = x.whole.taken_is;
+    facts = facts_shared line desk.state x.whole.last x.whole.facts;
+  };
+  ran = ran_shared_too desk x.whole.last.events desk' x.ran;
 }
 
 -- A step of a session that is alone, from a desk that other seats step from.

@@ -18,7 +18,6 @@ use Rattle.binkp_link.specs.Lines.{LineState, Moves, came, went}
 use Rattle.session_core.specs.Sessions.{Setting, frame_number}
 use Rattle.session_run.specs.Machine.{World, Phase, Starting, Taking, Writing, Reading, Over, Draining, Closed, MayGiveUp, Step, greets, takes_frame, makes_turn, writes, passes_write, reads, gives_up, leaves, drains, closes, Reach, here, next, opening, after_took, after_gave, after_read, after_write, after_drain}
 use Rattle.session_run.specs.Laws.{Facts, OwnCauseAt, EndCount, EndCountAt, LineCause, LineCauseAt, WholeAt, DeskCause, DeskCauseAt, Since}
-use Rattle.node_model.proofs.Rans.{joined}
 use Rattle.session_run.proofs.Causes.{RowCause, row_cause, said_cause, knock_cause, Finished_alone, turn_finishes, since_same, since_chain, row_desk}
 use Rattle.session_run.proofs.OwnCauses.{no_broke, took_own, said_broke, gave_own, read_own, write_own, drain_own, leave_own}
 use Rattle.session_run.proofs.LineLaws.{joined-last, moves_on, moves_not, took_ends, took_line, read_ends, read_faults, read_line, write_ends, write_faults, write_line, leave_ends, leave_drain, leave_desk, drain_ends, drain_line, drain_whole, close_line, close_whole, rest_of, sent_on}
@@ -134,7 +133,6 @@ keeps alone line desk w v f (greets s) =
     subst (Facts alone line desk) (sym s.is) (record {
       pieces = f.pieces;
       moves = f.moves;
-      chain = (joined alone desk w.events w.desk (e ∷ []) s.desk f.chain chain).chain;
       left = f.left ++ s.output;
       front = ap (λ x. x ++ s.output) f.front ∙ append_assoc w.sent f.left s.output;
       whole = took_whole s.took _ _ _ _;
@@ -151,7 +149,6 @@ keeps alone line desk w v f (takes_frame s) =
     subst (Facts alone line desk) (sym s.is) (record {
       pieces = f.pieces;
       moves = f.moves;
-      chain = (joined alone desk w.events w.desk s.events s.desk f.chain s.chain).chain;
       left = f.left ++ s.output;
       front = ap (λ x. x ++ s.output) f.front ∙ append_assoc w.sent f.left s.output;
       whole = took_whole s.took _ _ _ _;
@@ -167,7 +164,6 @@ keeps alone line desk w v f (makes_turn s) =
     subst (Facts alone line desk) (sym s.is) (record {
       pieces = f.pieces;
       moves = f.moves;
-      chain = f.chain;
       left = f.left ++ s.turn.output;
       front = ap (λ x. x ++ s.turn.output) f.front ∙ append_assoc w.sent f.left s.turn.output;
       whole = gave_whole s.turn.gave _ _ _ _;
@@ -181,7 +177,6 @@ keeps alone line desk w v f (makes_turn s) =
 keeps alone line desk w v f (writes s) = subst (Facts alone line desk) (sym s.is) (record {
   pieces = f.pieces;
   moves = subst (λ x. Moves x (w.sent ++ went s.answer s.left) line.bytes s.line.bytes) (append-nil w.taken) (moves_on w.taken [] w.sent (went s.answer s.left) line.bytes w.line.bytes s.line.bytes f.moves s.step.moves);
-  chain = f.chain;
   left = rest_of s.answer s.left;
   front = sent_on w.output w.sent s.left s.answer s.unsent;
   whole = on_whole _ _ _ _ _ (write_on s.answer w.setting.limit _ s.line.calm s.waits);
@@ -195,7 +190,6 @@ keeps alone line desk w v f (writes s) = subst (Facts alone line desk) (sym s.is
 keeps alone line desk w v f (passes_write s) = subst (Facts alone line desk) (sym s.is) (record {
   pieces = f.pieces;
   moves = f.moves;
-  chain = f.chain;
   left = f.left;
   front = f.front;
   whole = tt;
@@ -209,7 +203,6 @@ keeps alone line desk w v f (passes_write s) = subst (Facts alone line desk) (sy
 keeps alone line desk w v f (reads s) = subst (Facts alone line desk) (sym s.is) (record {
   pieces = joined-last w.pieces (came s.answer s.buffer) ∙ ap (λ x. x ++ came s.answer s.buffer) f.pieces;
   moves = subst (λ x. Moves (w.taken ++ came s.answer s.buffer) x line.bytes s.line.bytes) (append-nil w.sent) (moves_on w.taken (came s.answer s.buffer) w.sent [] line.bytes w.line.bytes s.line.bytes f.moves s.step.moves);
-  chain = f.chain;
   left = f.left;
   front = f.front;
   whole = on_whole _ _ _ _ _ (read_on s.answer w.setting.limit _ s.line.calm);
@@ -223,7 +216,6 @@ keeps alone line desk w v f (reads s) = subst (Facts alone line desk) (sym s.is)
 keeps alone line desk w v f (gives_up s) = subst (Facts alone line desk) (sym s.is) (record {
   pieces = f.pieces;
   moves = f.moves;
-  chain = f.chain;
   left = f.left;
   front = f.front;
   whole = tt;
@@ -240,7 +232,6 @@ keeps alone line desk w v f (leaves s) =
     subst (Facts alone line desk) (sym s.is) (record {
       pieces = f.pieces;
       moves = f.moves;
-      chain = (joined alone desk w.events w.desk (e ∷ []) s.desk f.chain chain).chain;
       left = f.left;
       front = f.front;
       whole = tt;
@@ -255,7 +246,6 @@ keeps alone line desk w v f (leaves s) =
 keeps alone line desk w v f (drains s) = subst (Facts alone line desk) (sym s.is) (record {
   pieces = f.pieces;
   moves = subst (λ x. Moves x (w.sent ++ went s.answer s.left) line.bytes s.line.bytes) (append-nil w.taken) (moves_on w.taken [] w.sent (went s.answer s.left) line.bytes w.line.bytes s.line.bytes f.moves s.step.moves);
-  chain = f.chain;
   left = rest_of s.answer s.left;
   front = sent_on w.output w.sent s.left s.answer s.unsent;
   whole = drain_whole w.line s.line s.answer s.left s.end line.faults _ _ s.step f.faults;
@@ -269,7 +259,6 @@ keeps alone line desk w v f (drains s) = subst (Facts alone line desk) (sym s.is
 keeps alone line desk w v f (closes s) = subst (Facts alone line desk) (sym s.is) (record {
   pieces = f.pieces;
   moves = f.moves;
-  chain = f.chain;
   left = f.left;
   front = f.front;
   whole = close_whole s.mute s.end line.faults w.line w.output w.sent (subst (λ p. LineCauseAt p line.faults w.line.faults w.line.calm) s.phase f.line_cause) s.done;
@@ -287,4 +276,4 @@ facts_on alone line desk w v f (next {u} r s) = keeps alone line desk u v (facts
 
 pub facts_open : (alone : Bool) (s : Setting) (line : LineState) (desk : DeskState) → Facts alone line desk (opening s line desk)
 facts_open alone s line desk =
-    record { pieces = refl; moves = moves_not line.bytes; chain = refl; left = []; front = refl; whole = tt; faults = omega arith; ends = refl; line_cause = tt; counts = λ is. since_same (counts_of desk.knows); desk_cause = λ is. tt; own_cause = tt }
+    record { pieces = refl; moves = moves_not line.bytes; left = []; front = refl; whole = tt; faults = omega arith; ends = refl; line_cause = tt; counts = λ is. since_same (counts_of desk.knows); desk_cause = λ is. tt; own_cause = tt }

@@ -3,7 +3,7 @@ use Rattle.std.specs.Prelude.{◌≡◌, ◌⊎◌, ℕ, ◌+◌, ◌≤◌, Boo
 use Rattle.ftn_addr.specs.Counts.{Rose, risen}
 use Rattle.ftn_addr.specs.Frames.{FrameText}
 use Rattle.binkp_frame.specs.Stream.{Begins}
-use Rattle.node_model.specs.Calls.{Counts, counts_of, DeskState, Turned, Turns, Event}
+use Rattle.node_model.specs.Calls.{Counts, counts_of, DeskState, Event}
 use Rattle.node_model.specs.Images.{Stand, Drifted, RanAt}
 use Rattle.node_model.specs.Talk.{is_finished}
 use Rattle.session_core.specs.declared.ending.Cause.{Cause}
@@ -112,8 +112,6 @@ pub record Facts (alone : Bool) (line : LineState) (desk : DeskState) (w : World
   -- the pieces joined are the bytes taken; the line has taken these and sent those
   pub pieces : joined w.pieces ≡ w.taken
   pub moves : Moves w.taken w.sent line.bytes w.line.bytes
-  -- the calls of the desk form a chain
-  pub chain : Turns alone desk w.events w.desk
   -- the bytes sent are a front of the output
   pub left : List ℕ
   pub front : w.output ≡ w.sent ++ left
@@ -128,14 +126,17 @@ pub record Facts (alone : Bool) (line : LineState) (desk : DeskState) (w : World
 
 -- A session that ended so, over this line and this desk: a run from the opening to its close, and what holds of it. The
 -- line is then closed on this side.
-pub record IsSession (alone : Bool) (setting : Setting) (line : LineState) (desk : Stand) (end : End) (taken : ℕ) (line' : LineState) (desk' : Stand) : Type 0 where
+pub record WholeRun (alone : Bool) (setting : Setting) (line : LineState) (desk : DeskState) (end : End) (taken : ℕ) (line' : LineState) (desk' : DeskState) : Type 0 where
   pub last : World
-  pub run : Reach alone (opening setting line desk.state) last
+  pub run : Reach alone (opening setting line desk) last
   pub closed : last.phase ≡ Closed end
   pub line_is : shut last.line ≡ line'
-  pub desk_is : Drifted alone last.desk desk'.state
+  pub desk_is : Drifted alone last.desk desk'
   pub taken_is : length last.taken ≡ taken
-  -- these calls of the desk, with the moments at which they ended: at each moment since the opening each image is one of
-  -- the call of that moment, and at its end the state after it
-  pub ran : RanAt alone desk last.events desk'
-  pub facts : Facts alone line desk.state last
+  pub facts : Facts alone line desk last
+
+-- The same with what a stop may leave of it: its calls of the desk, with the moments at which they ended. At each moment
+-- since the opening each image is one of the call of that moment, and at its end the state after it.
+pub record IsSession (alone : Bool) (setting : Setting) (line : LineState) (desk : Stand) (end : End) (taken : ℕ) (line' : LineState) (desk' : Stand) : Type 0 where
+  pub whole : WholeRun alone setting line desk.state end taken line' desk'.state
+  pub ran : RanAt alone desk whole.last.events desk'

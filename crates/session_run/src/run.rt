@@ -4,7 +4,7 @@ ghost use Rattle.ftn_addr.specs.Address.{address};
 ghost use Rattle.ftn_addr.specs.Limits.{IsAddress};
 ghost use Rattle.binkp_frame.specs.Views.{frame_texts};
 ghost use Rattle.node_model.specs.Calls.{DeskState};
-ghost use Rattle.hub_core.specs.Desks.{leave_answer};
+ghost use Rattle.node_model.specs.Desks.{leave_answer};
 ghost use Rattle.binkp_link.specs.Lines.{LineState, LineBytes, MayRead, MayWrite, came, went};
 ghost use Rattle.session_core.specs.Replies.{Sits, SitsStill, setting_of, stage_of};
 ghost use Rattle.session_core.specs.Sessions.{Setting as Lent, IsSound, desk_part};
@@ -19,8 +19,7 @@ ghost use Rattle.session_core.specs.declared.ending.Gave.TheVariants as G;
 use binkp_frame::{Decoder, Frame, pieces_add_up};
 use binkp_link::{Line, ReadAnswer, WriteAnswer};
 use ftn_addr::{Bytes, NoMemory};
-use hub_core::{Desk, DeskFault, Knock};
-use node_model::Role;
+use node_model::{Desk, DeskFault, Knock, Role};
 use session_core::{End, Gave, Session, Setting, Took, refuse, say_greeting};
 use std::alloc::Global;
 

@@ -1,12 +1,13 @@
 ghost use Rattle.std.specs.Prelude.{◌≡◌, ◌<◌, false, None, IfOk, IfSome};
-ghost use Rattle.node_model.specs.ListStates.{stand_of};
+ghost use Rattle.list_store.specs.ListStates.{stand_of};
 ghost use Rattle.binkp_link.specs.MemLines.{mem_state};
 ghost use Rattle.hub_core.specs.Seats.{IsMarkFree};
 
 use crate::{Status, run_line};
 use binkp_link::{MemLine, MemSink, ReadAct};
 use ftn_addr::{Bytes, NoMemory};
-use node_model::{ListStore, Store};
+use list_store::ListStore;
+use node_model::Store;
 use session_core::Cause;
 use std::alloc::Global;
 use std::test::Fail;

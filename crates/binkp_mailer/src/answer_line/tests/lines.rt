@@ -7,7 +7,7 @@ use super::{END, GREETING, LOGIN, OFFER, WELCOME, answer, fast_line, joined};
 use crate::Status;
 use binkp_link::{MemLine, ReadAct, WriteAct};
 use ftn_addr::{Bytes, NoMemory};
-use node_model::ListStore;
+use list_store::ListStore;
 use std::alloc::Global;
 use std::test::Fail;
 

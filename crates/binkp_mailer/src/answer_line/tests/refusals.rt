@@ -3,7 +3,7 @@ use super::{BROKEN_FRAME, END, GOT, GREETING, LOGIN, OFFER, WELCOME, answer, fas
 use crate::Status;
 use binkp_args::ArgFault;
 use ftn_addr::NoMemory;
-use node_model::ListStore;
+use list_store::ListStore;
 use session_core::Cause;
 use std::alloc::Global;
 use std::test::Fail;

@@ -1,7 +1,7 @@
 use Rattle.std.proofs.Common.{ap, sym, subst, ◌∙◌, length, List, Bool}
 use Rattle.node_model.specs.Calls.{Turned, DeskState}
 use Rattle.node_model.specs.Images.{Stand, Drifted, RanAt}
-use Rattle.hub_core.specs.Desks.{leave_answer}
+use Rattle.node_model.specs.Desks.{leave_answer}
 use Rattle.binkp_link.specs.Lines.{LineState, shut}
 use Rattle.session_core.specs.Replies.{setting_of}
 use Rattle.session_run.specs.Machine.{World, Draining, opening, is_mute}
@@ -21,12 +21,14 @@ returns-clause-session g c =
     let x = y.goes.goes w (at_opening g.K.Desk.alone (setting_of c.args.setting.now) c.new-run.result line desk c.new-run.ensures) in
     let z = c.drain.ensures g.K.Desk.alone c.turned-end.result x.0 (record { line_is = x.2.line_is; unsent = x.2.unsent; phase = x.2.phase_is ∙ ap (λ (b : Bool). Draining b c.turned-end.result) (sym c.is_mute-mute.ensures) }) in
     record {
-      last = z.last;
-      run = reach_trans x.1 z.reached;
-      closed = z.phase;
-      line_is = ap shut z.line_is ∙ sym c.close.ensures;
-      desk_is = subst (λ (d : DeskState). Drifted g.K.Desk.alone d new.state) (sym z.desk_is) x.2.desk_is;
-      taken_is = ap length z.taken_is ∙ x.2.taken;
+      whole = record {
+        last = z.last;
+        run = reach_trans x.1 z.reached;
+        closed = z.phase;
+        line_is = ap shut z.line_is ∙ sym c.close.ensures;
+        desk_is = subst (λ (d : DeskState). Drifted g.K.Desk.alone d new.state) (sym z.desk_is) x.2.desk_is;
+        taken_is = ap length z.taken_is ∙ x.2.taken;
+        facts = facts_on g.K.Desk.alone line desk w z.last (facts_open g.K.Desk.alone (setting_of c.args.setting.now) line desk) (reach_trans x.1 z.reached);
+      };
       ran = subst (λ (es : List Turned). RanAt g.K.Desk.alone old es new) (sym (z.events_is ∙ x.3)) y.ran;
-      facts = facts_on g.K.Desk.alone line desk w z.last (facts_open g.K.Desk.alone (setting_of c.args.setting.now) line desk) (reach_trans x.1 z.reached);
     }

@@ -3,10 +3,10 @@ use Rattle.ftn_addr.specs.Address.{address}
 use Rattle.node_model.specs.Calls.{Answer, Let_in, Refused, Knock_call}
 use Rattle.node_model.specs.Images.{Kept}
 use Rattle.node_model.specs.declared.words.Role.TheVariants.{Answers}
-use Rattle.hub_core.specs.declared.desk.Knock.{Knock}
-use Rattle.hub_core.specs.declared.desk.Knock.TheVariants.{Come}
+use Rattle.node_model.specs.declared.desk.Knock.{Knock}
+use Rattle.node_model.specs.declared.desk.Knock.TheVariants.{Come}
 use Rattle.session_core.specs.declared.ending.Took.TheVariants as T
-use Rattle.hub_core.specs.Desks.{knock_answer, fault_of}
+use Rattle.node_model.specs.Desks.{knock_answer, fault_of}
 use Rattle.session_core.specs.Sessions.{Awaits_address, on, greeting, fault_bytes, fault_end}
 use Rattle.session_core.specs.Replies.{setting_of}
 use Rattle.session_run.proofs.Runs.{greeted_it}
