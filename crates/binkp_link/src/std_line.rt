@@ -174,6 +174,52 @@ mod tests {
         Ok(())
     }
 
+    // A writer that takes at most 10,000 bytes a call, and counts what it took and how often it was flushed.
+    #[derive(Drop)]
+    struct Narrow {
+        taken: usize,
+        waiting: usize,
+        flushes: usize,
+    }
+
+    impl Write for Narrow {
+        fn write(&mut self, buf: &[u8]) -> io::Result<usize> {
+            let part = buf.len().min(10_000);
+            self.taken = self.taken.saturating_add(part);
+            self.waiting = self.waiting.saturating_add(part);
+            Ok(part)
+        }
+
+        fn flush(&mut self) -> io::Result<()> {
+            self.waiting = 0;
+            self.flushes = self.flushes.saturating_add(1);
+            Ok(())
+        }
+    }
+
+    #[test]
+    fn a_write_goes_out_whole_and_is_flushed(rt: HostRuntime) -> Result<(), Fail> {
+        let input: &[u8] = b"";
+        let mut line = StdLine::new(
+            input,
+            Narrow {
+                taken: 0,
+                waiting: 0,
+                flushes: 0,
+            },
+        );
+        assert_eq!(rt;
+            line.write([7u8; 25_000].as_slice()),
+            WriteAnswer::Wrote(25_000)
+        );
+        assert_eq!(rt; line.output.taken, 25_000);
+        assert_eq!(rt; line.output.waiting, 0);
+        assert_eq!(rt; line.output.flushes, 1);
+        assert_eq!(rt; line.write(b"!"), WriteAnswer::Wrote(1));
+        assert_eq!(rt; line.output.flushes, 2);
+        Ok(())
+    }
+
     #[test]
     fn faults_are_counted(rt: HostRuntime) -> Result<(), Fail> {
         let mut line = StdLine::new(Broken, Broken);

@@ -1,3 +1,4 @@
 pub mod Statuses
 pub mod TopCall
 pub mod Words
+pub mod Programs

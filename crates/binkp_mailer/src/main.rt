@@ -1,18 +1,20 @@
 //! `binkp_mailer` answers one caller over standard input and output, as under inetd.
 //!
-//! [`run_line`] is the program's call: it reads the words, holds one session over a line and a store, and
-//! answers the program's status. Its contract says what all of it does. `main` gives it standard input and
-//! output, the words behind the program's name, and a store in memory.
+//! [`run_program`] is the whole program but for what only the system has: it is given the words behind the
+//! program's name, a line and the moment, and answers the exit status. It calls [`run_line`], which reads the
+//! words, holds one session over a line and a store, and answers the program's status. Their contracts say what
+//! all of it does. `main` hands on standard input and output, the words and the clock.
 #![tactic(auto)]
 
 mod answer_line;
+mod program;
 mod status;
 mod words;
 
 pub use answer_line::{SESSION_LIMIT, one_receipt_over_calls, receipts_stay_over_calls, run_line};
 use binkp_link::{MemSink, StdLine};
 use ftn_addr::{Bytes, NoMemory};
-use list_store::ListStore;
+pub use program::{Ended, explanation, run_program};
 pub use status::{Status, status_of};
 use std::process::ExitCode;
 use std::rt::{Clock, Env};
@@ -43,22 +45,16 @@ fn moment<R: Clock>(rt: &R) -> u64 {
     }
 }
 
-/// Answers the caller on standard input and output. The exit status is the status's number.
+/// Answers the caller on standard input and output, and says on standard error what words there are, where these
+/// are others.
 fn main(rt: HostRuntime) -> ExitCode {
-    let Ok(words) = own_words(&rt) else {
-        return ExitCode::from(Status::NoMemory.number());
-    };
-    let store = ListStore::new(rt.alloc());
     let mut line = StdLine::new(rt.reader(), io::writer(&rt));
     let mut out = MemSink::new(rt.alloc(), Vec::new(rt.alloc()));
-    let (status, _store) = run_line(
-        rt.alloc(),
-        words.as_slice(),
-        store,
-        &mut line,
-        moment(&rt),
-        [0; 16],
-        &mut out,
-    );
-    ExitCode::from(status.number())
+    let words = own_words(&rt);
+    let ended = run_program(rt.alloc(), words, &mut line, moment(&rt), &mut out);
+    if let Some(told) = ended.told {
+        // Where nobody can be told, the exit status tells.
+        let _ = eprintln!(rt; "{told}");
+    }
+    ExitCode::from(ended.exit)
 }

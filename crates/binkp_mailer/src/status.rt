@@ -75,4 +75,17 @@ mod tests {
         assert_eq!(rt; status.number(), 12);
         assert_eq!(rt; status_of(End::Finished).number(), 0);
     }
+
+    // The numbers stand in the README's table; a sysop's scripts read them.
+    #[test]
+    fn each_end_has_its_number(rt: HostRuntime) {
+        assert_eq!(rt; Status::Usage.number(), 1);
+        assert_eq!(rt; status_of(End::DiskFault(9)).number(), 3);
+        assert_eq!(rt; status_of(End::LedgerFull).number(), 5);
+        assert_eq!(rt; status_of(End::LineFault).number(), 6);
+        assert_eq!(rt; status_of(End::Dropped).number(), 7);
+        assert_eq!(rt; status_of(End::Quiet).number(), 8);
+        assert_eq!(rt; status_of(End::Endless).number(), 13);
+        assert_eq!(rt; status_of(End::NoMemory).number(), 17);
+    }
 }
