@@ -12,7 +12,7 @@ use Rattle.binkp_mailer.specs.declared.status.Status.{Status}
 use Rattle.binkp_mailer.specs.declared.status.Status.TheVariants as S
 use Rattle.binkp_link.specs.Lines.{LineBytes, LineState}
 use Rattle.session_core.specs.Sessions.{Setting}
-use Rattle.session_run.specs.Laws.{WholeRun}
+use Rattle.session_run.specs.Laws.{WholeRun, Stays_or_rose}
 use Rattle.hub_core.specs.Seats.{Sitting, node_of, seat_stand, told}
 use Rattle.binkp_mailer.specs.Statuses.{status_after}
 use Rattle.binkp_mailer.specs.Words.{AreWords}
@@ -68,12 +68,12 @@ ReachesLimit (Some old) (Some new) = 17592186044416 ≤ (length new.taken - leng
 ReachesLimit (Some old) None = Unit {0}
 ReachesLimit None new = Unit {0}
 
--- What a status tells of the counts of line and store. The line's count of ends rose exactly at Dropped, and at a
--- DiskFault that came after.
+-- What a status tells of the counts of line and store. The number of a DiskFault is a count to which the store's faults
+-- rose. The line's count of ends rose exactly at Dropped, and at a DiskFault that came after.
 abbrev pub StatusCause : Status → (line line' : LineState) → (counts counts' : Counts) → Type 0
 StatusCause S.Dropped line line' counts counts' = line'.ends ≡ risen line.ends
 StatusCause (S.DiskFault count) line line' counts counts' =
-    Rose counts.faults counts'.faults × ((line'.ends ≡ line.ends) ⊎ (line'.ends ≡ risen line.ends))
+    Rose counts.faults count × Stays_or_rose count counts'.faults × ((line'.ends ≡ line.ends) ⊎ (line'.ends ≡ risen line.ends))
 StatusCause S.LedgerFull line line' counts counts' = Rose counts.fulls counts'.fulls × (line'.ends ≡ line.ends)
 StatusCause S.LineFault line line' counts counts' = Rose line.faults line'.faults × (line'.ends ≡ line.ends)
 StatusCause S.Quiet line line' counts counts' = (60 ≤ line'.calm) × (line'.ends ≡ line.ends)
