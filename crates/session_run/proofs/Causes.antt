@@ -4,7 +4,7 @@ use Rattle.std.specs.Prelude.{MatchBool}
 use Rattle.ftn_addr.specs.Address.{Address, same_address}
 use Rattle.ftn_addr.specs.Frames.{FrameText, Command, Data}
 use Rattle.ftn_addr.specs.Key.{Key}
-use Rattle.ftn_addr.specs.Counts.{Rose}
+use Rattle.ftn_addr.specs.Counts.{Increased}
 use Rattle.binkp_args.specs.declared.fault.ArgFault.{ArgFault}
 use Rattle.binkp_args.specs.Command.{CommandText, command_of}
 use Rattle.node_model.specs.Lists.{without}
@@ -216,22 +216,22 @@ turn_finishes (Awaits_password peers) t row = subst (λ (x : Turn). Finished_alo
 
 -- Counts.
 
-pub rose_on : (a b c : ℕ) → Rose a b → Stays_or_rose b c → Rose a c
+pub rose_on : (a b c : ℕ) → Increased a b → Stays_or_rose b c → Increased a c
 rose_on a b c r (inl e) = omega (arith, r, e)
 rose_on a b c r (inr s) = omega (arith, r, s)
 
 stays_on : (a b c : ℕ) → Stays_or_rose a b → Stays_or_rose b c → Stays_or_rose a c
 stays_on a b c (inl e) (inl f) = inl (f ∙ e)
-stays_on a b c (inl e) (inr f) = inr (subst (λ x. Rose x c) e f)
+stays_on a b c (inl e) (inr f) = inr (subst (λ x. Increased x c) e f)
 stays_on a b c (inr e) next = inr (rose_on a b c e next)
 
-broke_on : (a b : Counts) (now : ℕ) (count : ℕ) → Stays_or_rose b.faults now → FaultSince count a b → (a.broken ≡ Some count) ⊎ (Rose a.faults count × Stays_or_rose count now)
+broke_on : (a b : Counts) (now : ℕ) (count : ℕ) → Stays_or_rose b.faults now → FaultSince count a b → (a.broken ≡ Some count) ⊎ (Increased a.faults count × Stays_or_rose count now)
 broke_on a b now count later (inl e) = inl e
 broke_on a b now count later (inr r) = inr (r.0, stays_on count b.faults now r.1 later)
 
 -- from counts that came from those before
-pub rose_from : (a b c : ℕ) → Stays_or_rose a b → Rose b c → Rose a c
-rose_from a b c (inl e) r = subst (λ x. Rose x c) e r
+pub rose_from : (a b c : ℕ) → Stays_or_rose a b → Increased b c → Increased a c
+rose_from a b c (inl e) r = subst (λ x. Increased x c) e r
 rose_from a b c (inr s) r = rose_on a b c s (inr r)
 
 pub since_same : (a : Counts) → Since a a
@@ -243,7 +243,7 @@ since_is a b c s e = subst (λ x. Since a x) (sym e) s
 pub since_on : (a b c : Counts) (answer : Answer) → Since a b → Caused b answer c → Since a c
 since_on a b c (Refused (Disk count)) s (inl same) = since_is a b c s same.1
 since_on a b c (Refused (Disk count)) s (inr broke) = subst (λ x. Since a x) (sym broke.2)
-    (record { faults = inr (rose_from a.faults b.faults count s.faults broke.1); fulls = s.fulls; broke = λ n e. inr (let same : count ≡ n = cc in subst (λ (k : ℕ). Rose a.faults k × Stays_or_rose k count) same (rose_from a.faults b.faults count s.faults broke.1, inl refl)) })
+    (record { faults = inr (rose_from a.faults b.faults count s.faults broke.1); fulls = s.fulls; broke = λ n e. inr (let same : count ≡ n = cc in subst (λ (k : ℕ). Increased a.faults k × Stays_or_rose k count) same (rose_from a.faults b.faults count s.faults broke.1, inl refl)) })
 since_on a b c (Refused (Read count)) s read = subst (λ x. Since a x) (sym read.1)
     (record { faults = inr (rose_from a.faults b.faults count s.faults read.0); fulls = s.fulls; broke = λ n e. broke_on a b count n (inr read.0) (s.broke n e) })
 since_on a b c (Refused Full) s full = subst (λ x. Since a x) (sym full.1)

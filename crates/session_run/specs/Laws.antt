@@ -1,6 +1,6 @@
 -- What holds of every session, in the subject's own words (own, after FTS-1026).
 use Rattle.std.specs.Prelude.{◌≡◌, ◌⊎◌, ℕ, ◌+◌, ◌≤◌, Bool, true, false, List, [], ◌∷◌, ◌++◌, length, Some}
-use Rattle.ftn_addr.specs.Counts.{Rose, risen}
+use Rattle.ftn_addr.specs.Counts.{Increased, next_count}
 use Rattle.ftn_addr.specs.Frames.{FrameText}
 use Rattle.binkp_frame.specs.Stream.{Begins}
 use Rattle.node_model.specs.Calls.{Counts, counts_of, DeskState, Turned, asked_of}
@@ -20,8 +20,8 @@ joined (piece ∷ pieces) = piece ++ joined pieces
 
 -- the count of ends rose exactly at Dropped, which a failing `leave` may turn into DiskFault
 abbrev pub EndCount : End → ℕ → ℕ → Type 0
-EndCount E.Dropped before now = now ≡ risen before
-EndCount (E.DiskFault count) before now = (now ≡ before) ⊎ (now ≡ risen before)
+EndCount E.Dropped before now = now ≡ next_count before
+EndCount (E.DiskFault count) before now = (now ≡ before) ⊎ (now ≡ next_count before)
 EndCount _ before now = now ≡ before
 
 abbrev pub EndCountAt : Phase → ℕ → ℕ → Type 0
@@ -32,13 +32,13 @@ EndCountAt _ before now = now ≡ before
 
 -- LineFault comes only where a fault of the line was counted, Quiet only where the line was quiet sixty times on end
 abbrev pub LineCause : End → (before now calm : ℕ) → Type 0
-LineCause E.LineFault before now calm = Rose before now
+LineCause E.LineFault before now calm = Increased before now
 LineCause E.Quiet before now calm = 60 ≤ calm
 LineCause _ before now calm = Unit {0}
 
 -- why nothing more is written: the line failed, or it was quiet sixty times on end; else the end is neither
 abbrev pub DrainCause : (mute : Bool) → End → (before now calm : ℕ) → Type 0
-DrainCause true end before now calm = LineCause end before now calm × (Rose before now ⊎ (60 ≤ calm))
+DrainCause true end before now calm = LineCause end before now calm × (Increased before now ⊎ (60 ≤ calm))
 DrainCause false end before now calm = is_mute end ≡ false
 
 abbrev pub LineCauseAt : Phase → (before now calm : ℕ) → Type 0
@@ -49,17 +49,17 @@ LineCauseAt _ before now calm = Unit {0}
 
 -- a count stays or rises
 abbrev pub Stays_or_rose : ℕ → ℕ → Type 0
-Stays_or_rose before now = (now ≡ before) ⊎ Rose before now
+Stays_or_rose before now = (now ≡ before) ⊎ Increased before now
 
 -- the store was broken before with that count, or its faults rose to that count since
 abbrev pub FaultSince : (count : ℕ) → (before now : Counts) → Type 0
-FaultSince count before now = (before.broken ≡ Some count) ⊎ (Rose before.faults count × Stays_or_rose count now.faults)
+FaultSince count before now = (before.broken ≡ Some count) ⊎ (Increased before.faults count × Stays_or_rose count now.faults)
 
 -- DiskFault comes only with a count of faults of the store, at which it was broken before or to which they rose;
 -- LedgerFull only where a Full was counted
 abbrev pub DeskCause : End → (before now : Counts) → Type 0
 DeskCause (E.DiskFault count) before now = FaultSince count before now
-DeskCause E.LedgerFull before now = Rose before.fulls now.fulls
+DeskCause E.LedgerFull before now = Increased before.fulls now.fulls
 DeskCause _ before now = Unit {0}
 
 abbrev pub DeskCauseAt : Phase → (before now : Counts) → Type 0
@@ -102,7 +102,7 @@ OwnCauseAt _ setting stage frames met made taken sent = Unit {0}
 
 -- once closed, all was sent, or the line failed, or it was quiet sixty times on end
 abbrev pub WholeAt : Phase → ℕ → LineState → (output sent : List ℕ) → Type 0
-WholeAt (Closed end) before line output sent = (output ≡ sent) ⊎ (Rose before line.faults ⊎ (60 ≤ line.calm))
+WholeAt (Closed end) before line output sent = (output ≡ sent) ⊎ (Increased before line.faults ⊎ (60 ≤ line.calm))
 WholeAt _ before line output sent = Unit {0}
 
 -- counts now, and how they came from those before
