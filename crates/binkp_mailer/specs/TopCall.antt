@@ -1,7 +1,7 @@
 -- What the program's call does (own, after FTS-1026).
 use Rattle.std.specs.Prelude.{◌≡◌, ◌⊎◌, ℕ, ◌+◌, ◌-◌, ◌≤◌, ◌<◌, true, List, length, Option, Some, None}
 use Rattle.ftn_addr.specs.Address.{Address}
-use Rattle.ftn_addr.specs.Counts.{Increased, next_count}
+use Rattle.ftn_addr.specs.Counts.{Increased, CountGrew, next_count}
 use Rattle.node_model.specs.Calls.{Counts, DeskState, Tells}
 use Rattle.node_model.specs.Durable.{Durable}
 use Rattle.node_model.specs.Images.{OpensTo, RanAt}
@@ -12,7 +12,7 @@ use Rattle.binkp_mailer.specs.declared.status.Status.{Status}
 use Rattle.binkp_mailer.specs.declared.status.Status.TheVariants as S
 use Rattle.binkp_link.specs.Lines.{LineBytes, LineState}
 use Rattle.session_core.specs.Sessions.{Setting}
-use Rattle.session_run.specs.Laws.{WholeRun, Stays_or_rose}
+use Rattle.session_run.specs.Laws.{WholeRun}
 use Rattle.hub_core.specs.Seats.{Sitting, node_of, seat_stand, told}
 use Rattle.binkp_mailer.specs.Statuses.{status_after}
 use Rattle.binkp_mailer.specs.Words.{AreWords}
@@ -73,7 +73,7 @@ ReachesLimit None new = Unit {0}
 abbrev pub StatusCause : Status → (line line' : LineState) → (counts counts' : Counts) → Type 0
 StatusCause S.Dropped line line' counts counts' = line'.ends ≡ next_count line.ends
 StatusCause (S.DiskFault count) line line' counts counts' =
-    Increased counts.faults count × Stays_or_rose count counts'.faults × ((line'.ends ≡ line.ends) ⊎ (line'.ends ≡ next_count line.ends))
+    Increased counts.faults count × CountGrew count counts'.faults × ((line'.ends ≡ line.ends) ⊎ (line'.ends ≡ next_count line.ends))
 StatusCause S.LedgerFull line line' counts counts' = Increased counts.fulls counts'.fulls × (line'.ends ≡ line.ends)
 StatusCause S.LineFault line line' counts counts' = Increased line.faults line'.faults × (line'.ends ≡ line.ends)
 StatusCause S.Quiet line line' counts counts' = (60 ≤ line'.calm) × (line'.ends ≡ line.ends)
@@ -91,4 +91,4 @@ StaysTold old new = StaysReceived (told old).state (told new).state
 -- calls of the program over one store, one after another: each begins with what the one before it left
 pub data Calls_in_turn (store : StoreState) : StoreState → Type 0 where
   none_yet : Calls_in_turn store store
-  one_more : {old new : StoreState} → Calls_in_turn store old → (words : List (List ℕ)) (moment : ℕ) (status : Status) (line line' : LineState) → Answers_line words moment line old status line' new → Calls_in_turn store new
+  next_count : {old new : StoreState} → Calls_in_turn store old → (words : List (List ℕ)) (moment : ℕ) (status : Status) (line line' : LineState) → Answers_line words moment line old status line' new → Calls_in_turn store new

@@ -1,3 +1,4 @@
-pub mod Seats
-pub mod SeatData
 pub mod SeatCalls
+pub mod SeatData
+pub mod SeatLaws
+pub mod Seats

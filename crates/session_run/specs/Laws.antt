@@ -1,6 +1,6 @@
 -- What holds of every session, in the subject's own words (own, after FTS-1026).
 use Rattle.std.specs.Prelude.{◌≡◌, ◌⊎◌, ℕ, ◌+◌, ◌≤◌, Bool, true, false, List, [], ◌∷◌, ◌++◌, length, Some}
-use Rattle.ftn_addr.specs.Counts.{Increased, next_count}
+use Rattle.ftn_addr.specs.Counts.{Increased, CountGrew, next_count}
 use Rattle.ftn_addr.specs.Frames.{FrameText}
 use Rattle.binkp_frame.specs.Stream.{Begins}
 use Rattle.node_model.specs.Calls.{Counts, counts_of, DeskState, Turned, asked_of}
@@ -47,13 +47,9 @@ LineCauseAt (Draining mute end) before now calm = DrainCause mute end before now
 LineCauseAt (Closed end) before now calm = LineCause end before now calm
 LineCauseAt _ before now calm = Unit {0}
 
--- a count stays or rises
-abbrev pub Stays_or_rose : ℕ → ℕ → Type 0
-Stays_or_rose before now = (now ≡ before) ⊎ Increased before now
-
 -- the store was broken before with that count, or its faults rose to that count since
 abbrev pub FaultSince : (count : ℕ) → (before now : Counts) → Type 0
-FaultSince count before now = (before.broken ≡ Some count) ⊎ (Increased before.faults count × Stays_or_rose count now.faults)
+FaultSince count before now = (before.broken ≡ Some count) ⊎ (Increased before.faults count × CountGrew count now.faults)
 
 -- DiskFault comes only with a count of faults of the store, at which it was broken before or to which they rose;
 -- LedgerFull only where a Full was counted
@@ -107,8 +103,8 @@ WholeAt _ before line output sent = Unit {0}
 
 -- counts now, and how they came from those before
 pub record Since (before now : Counts) : Type 0 where
-  pub faults : Stays_or_rose before.faults now.faults
-  pub fulls : Stays_or_rose before.fulls now.fulls
+  pub faults : CountGrew before.faults now.faults
+  pub fulls : CountGrew before.fulls now.fulls
   pub broke : (count : ℕ) → now.broken ≡ Some count → FaultSince count before now
 
 -- what holds at each moment of a session that began over this line and this desk
