@@ -1,4 +1,3 @@
 pub mod SeatCalls
 pub mod SeatData
-pub mod SeatLaws
 pub mod Seats

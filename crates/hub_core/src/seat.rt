@@ -72,7 +72,7 @@ impl<S: Store> Seat<S> {
 impl<S: Store> Desk for Seat<S> {
     ghost use Rattle.std.specs.Prelude.{true};
     ghost use Rattle.hub_core.specs.Seats.{IsSeated, seat_stand, seat_part, sitting};
-    ghost use Rattle.hub_core.proofs.SeatLaws.{seat_tied};
+    ghost use Rattle.hub_core.specs.SeatLaws.{seat_tied};
 
     ghost alone = { true };
 

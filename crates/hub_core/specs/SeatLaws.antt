@@ -1,12 +1,18 @@
--- What a seat tells of its session fits the node that it tells.
-use Rattle.std.proofs.Common.{◌≡◌, ℕ, ◌-◌, ◌≤◌, List, Option, Some, None, length, refl, sym, ◌∙◌, ap, arith}
+-- What a seat tells of its session fits the node that it tells: the proof of the desk's law.
+use Rattle.std.proofs.Common.{◌≡◌, ℕ, ◌-◌, ◌≤◌, true, List, Option, Some, None, length, refl, sym, ◌∙◌, ap, arith}
 use Rattle.ftn_addr.specs.Address.{Address}
 use Rattle.node_model.specs.Calls.{Tells}
-use Rattle.node_model.specs.Stores.{StoreState, StoreStand, StoreTied}
+use Rattle.node_model.specs.Stores.{Opened, Stored, StoreState, StoreStand, StoreTied, IfTold}
 use Rattle.node_model.specs.Talk.{Part, part_of}
 use Rattle.node_model.specs.Desks.{PartTold}
 use Rattle.hub_core.specs.Seats.{Holding, Sitting, told, IsMarkFree, unless_broken, hold_of, node_of, seat_part, part_in, IsSeated, IsTaking, IsHolding}
-use Rattle.hub_core.proofs.SeatData.{told_bodies}
+
+pub told_bodies : (s : StoreState) → IsMarkFree s.content → StoreTied s → (n : ℕ) (p : Opened) → s.parts n ≡ Some p → length ((told s.content).bodies n) ≡ p.have
+told_bodies s free tied n p is = go s.content free tied.bodies
+  where
+    go : (c : Option Stored) → IsMarkFree c → IfTold c (λ a. (m : ℕ) (q : Opened) → s.parts m ≡ Some q → length (a.bodies m) ≡ q.have) → length ((told c).bodies n) ≡ p.have
+    go None free bodies = absurd free
+    go (Some a) free bodies = bodies n p is
 
 left_is : (size left long : ℕ) → left ≤ size → long ≡ size - left → left ≡ size - long
 left_is size left long within is = omega (arith, within, is)
