@@ -1,7 +1,7 @@
 -- What a held session tells of the call's status, and of receipts.
 use Rattle.std.proofs.Common.{◌≡◌, ◌⊎◌, ◌∙◌, ℕ, ◌+◌, ◌-◌, ◌≤◌, ◌<◌, arith, true, List, ◌++◌, length, Option, Some, None, refl, sym, ap, subst, inl, inr}
 use Rattle.ftn_addr.specs.Address.{Address}
-use Rattle.node_model.specs.Calls.{Counts, counts_of, DeskState, Knows, Tells}
+use Rattle.node_model.specs.Calls.{Counts, counts_of, DeskState, Turned, Knows, Tells}
 use Rattle.node_model.specs.Node.{Node}
 use Rattle.node_model.specs.Receipts.{HasOnce, TellsOnce, KnownStays, StaysReceived}
 use Rattle.node_model.specs.Stores.{Stored, StoreState}
@@ -43,16 +43,16 @@ reaches taken sent (Some old) (Some new) m most = omega (arith, most, grown old.
 reaches taken sent (Some old) None m most = tt
 reaches taken sent None new m most = tt
 
-own_limit : (end : End) (s : Setting) (stage : Stage) (frames : List FrameText) (taken sent : List ℕ) (old new : Option LineBytes) → s.limit ≡ 17592186044416 → Moves taken sent old new → OwnCause end s stage frames taken sent → LimitCause end old new
-own_limit E.Endless s stage frames taken sent old new is m c = reaches taken sent old new m (subst (λ (n : ℕ). n ≤ length taken + length sent) is c)
-own_limit E.Finished s stage frames taken sent old new is m c = tt
-own_limit (E.Broke cause n) s stage frames taken sent old new is m c = tt
-own_limit E.Dropped s stage frames taken sent old new is m c = tt
-own_limit E.LineFault s stage frames taken sent old new is m c = tt
-own_limit (E.DiskFault count) s stage frames taken sent old new is m c = tt
-own_limit E.LedgerFull s stage frames taken sent old new is m c = tt
-own_limit E.Quiet s stage frames taken sent old new is m c = tt
-own_limit E.NoMemory s stage frames taken sent old new is m c = tt
+own_limit : (end : End) (s : Setting) (stage : Stage) (frames : List FrameText) (met : Stage) (made : List Turned) (taken sent : List ℕ) (old new : Option LineBytes) → s.limit ≡ 17592186044416 → Moves taken sent old new → OwnCause end s stage frames met made taken sent → LimitCause end old new
+own_limit E.Endless s stage frames met made taken sent old new is m c = reaches taken sent old new m (subst (λ (n : ℕ). n ≤ length taken + length sent) is c)
+own_limit E.Finished s stage frames met made taken sent old new is m c = tt
+own_limit (E.Broke cause n) s stage frames met made taken sent old new is m c = tt
+own_limit E.Dropped s stage frames met made taken sent old new is m c = tt
+own_limit E.LineFault s stage frames met made taken sent old new is m c = tt
+own_limit (E.DiskFault count) s stage frames met made taken sent old new is m c = tt
+own_limit E.LedgerFull s stage frames met made taken sent old new is m c = tt
+own_limit E.Quiet s stage frames met made taken sent old new is m c = tt
+own_limit E.NoMemory s stage frames met made taken sent old new is m c = tt
 
 from_causes : (end : End) (line line' : LineState) (counts counts' : Counts) → counts.broken ≡ None → EndCount end line.ends line'.ends → LineCause end line.faults line'.faults line'.calm → DeskCause end counts counts' → LimitCause end line.bytes line'.bytes → StatusCause (status_after end) line line' counts counts'
 from_causes E.Finished line line' counts counts' whole e l d m = e
@@ -60,7 +60,7 @@ from_causes (E.Broke cause n) line line' counts counts' whole e l d m = e
 from_causes E.Dropped line line' counts counts' whole e l d m = e
 from_causes E.LineFault line line' counts counts' whole e l d m = (l, e)
 from_causes (E.DiskFault count) line line' counts counts' whole e l (inl broke) m = absurd (let clash : None ≡ Some count = sym whole ∙ broke in cc)
-from_causes (E.DiskFault count) line line' counts counts' whole e l (inr rose) m = (rose, e)
+from_causes (E.DiskFault count) line line' counts counts' whole e l (inr rose) m = (rose.0, rose.1, e)
 from_causes E.LedgerFull line line' counts counts' whole e l d m = (d, e)
 from_causes E.Quiet line line' counts counts' whole e l d m = (l, e)
 from_causes E.Endless line line' counts counts' whole e l d m = (m, e)
@@ -73,9 +73,9 @@ held_causes home moment line store status line' store' h whole =
     let ends : EndCount h.end line.ends line'.ends = subst (λ (x : LineState). EndCount h.end line.ends x.ends) s.line_is (subst (λ (p : Phase). EndCountAt p line.ends s.last.line.ends) s.closed f.ends) in
     let lines : LineCause h.end line.faults line'.faults line'.calm = subst (λ (x : LineState). LineCause h.end line.faults x.faults x.calm) s.line_is (subst (λ (p : Phase). LineCauseAt p line.faults s.last.line.faults s.last.line.calm) s.closed f.line_cause) in
     let desks : DeskCause h.end store.counts store'.counts = subst (λ (x : Knows). DeskCause h.end store.counts (counts_of x)) (sym s.desk_is.drift) (subst (λ (p : Phase). DeskCauseAt p store.counts (counts_of s.last.desk.knows)) s.closed (f.desk_cause refl)) in
-    let own : OwnCause h.end s.last.setting s.last.stage s.last.frames s.last.taken s.last.sent = subst (λ (p : Phase). OwnCauseAt p s.last.setting s.last.stage s.last.frames s.last.taken s.last.sent) s.closed f.own_cause in
+    let own : OwnCause h.end s.last.setting s.last.stage s.last.frames s.last.last_stage s.last.last_calls s.last.taken s.last.sent = subst (λ (p : Phase). OwnCauseAt p s.last.setting s.last.stage s.last.frames s.last.last_stage s.last.last_calls s.last.taken s.last.sent) s.closed f.own_cause in
     let setting : s.last.setting.limit ≡ 17592186044416 = ap (λ (x : Setting). x.limit) (reach_setting true (opening (lent home moment) line (one_seat store 0 None)) s.last s.run) in
-    let limit : LimitCause h.end line.bytes line'.bytes = subst (λ (x : LineState). LimitCause h.end line.bytes x.bytes) s.line_is (own_limit h.end s.last.setting s.last.stage s.last.frames s.last.taken s.last.sent line.bytes s.last.line.bytes setting f.moves own) in
+    let limit : LimitCause h.end line.bytes line'.bytes = subst (λ (x : LineState). LimitCause h.end line.bytes x.bytes) s.line_is (own_limit h.end s.last.setting s.last.stage s.last.frames s.last.last_stage s.last.last_calls s.last.taken s.last.sent line.bytes s.last.line.bytes setting f.moves own) in
     subst (λ (x : Status). StatusCause x line line' store.counts store'.counts) (sym h.status_is) (from_causes h.end line line' store.counts store'.counts whole ends lines desks limit)
 
 once_told : (content : Option Stored) → HasOnceTold content → HasOnce (told content).state

@@ -1,7 +1,7 @@
 -- What the program's call does (own, after FTS-1026).
 use Rattle.std.specs.Prelude.{◌≡◌, ◌⊎◌, ℕ, ◌+◌, ◌-◌, ◌≤◌, ◌<◌, true, List, length, Option, Some, None}
 use Rattle.ftn_addr.specs.Address.{Address}
-use Rattle.ftn_addr.specs.Counts.{Rose, risen}
+use Rattle.ftn_addr.specs.Counts.{Increased, CountGrew, next_count}
 use Rattle.node_model.specs.Calls.{Counts, DeskState, Tells}
 use Rattle.node_model.specs.Durable.{Durable}
 use Rattle.node_model.specs.Images.{OpensTo, RanAt}
@@ -68,14 +68,14 @@ ReachesLimit (Some old) (Some new) = 17592186044416 ≤ (length new.taken - leng
 ReachesLimit (Some old) None = Unit {0}
 ReachesLimit None new = Unit {0}
 
--- What a status tells of the counts of line and store. The line's count of ends rose exactly at Dropped, and at a
--- DiskFault that came after.
+-- What a status tells of the counts of line and store. The number of a DiskFault is a count to which the store's faults
+-- rose. The line's count of ends rose exactly at Dropped, and at a DiskFault that came after.
 abbrev pub StatusCause : Status → (line line' : LineState) → (counts counts' : Counts) → Type 0
-StatusCause S.Dropped line line' counts counts' = line'.ends ≡ risen line.ends
+StatusCause S.Dropped line line' counts counts' = line'.ends ≡ next_count line.ends
 StatusCause (S.DiskFault count) line line' counts counts' =
-    Rose counts.faults counts'.faults × ((line'.ends ≡ line.ends) ⊎ (line'.ends ≡ risen line.ends))
-StatusCause S.LedgerFull line line' counts counts' = Rose counts.fulls counts'.fulls × (line'.ends ≡ line.ends)
-StatusCause S.LineFault line line' counts counts' = Rose line.faults line'.faults × (line'.ends ≡ line.ends)
+    Increased counts.faults count × CountGrew count counts'.faults × ((line'.ends ≡ line.ends) ⊎ (line'.ends ≡ next_count line.ends))
+StatusCause S.LedgerFull line line' counts counts' = Increased counts.fulls counts'.fulls × (line'.ends ≡ line.ends)
+StatusCause S.LineFault line line' counts counts' = Increased line.faults line'.faults × (line'.ends ≡ line.ends)
 StatusCause S.Quiet line line' counts counts' = (60 ≤ line'.calm) × (line'.ends ≡ line.ends)
 StatusCause S.Endless line line' counts counts' = ReachesLimit line.bytes line'.bytes × (line'.ends ≡ line.ends)
 StatusCause status line line' counts counts' = line'.ends ≡ line.ends
@@ -91,4 +91,4 @@ StaysTold old new = StaysReceived (told old).state (told new).state
 -- calls of the program over one store, one after another: each begins with what the one before it left
 pub data Calls_in_turn (store : StoreState) : StoreState → Type 0 where
   none_yet : Calls_in_turn store store
-  one_more : {old new : StoreState} → Calls_in_turn store old → (words : List (List ℕ)) (moment : ℕ) (status : Status) (line line' : LineState) → Answers_line words moment line old status line' new → Calls_in_turn store new
+  next_count : {old new : StoreState} → Calls_in_turn store old → (words : List (List ℕ)) (moment : ℕ) (status : Status) (line line' : LineState) → Answers_line words moment line old status line' new → Calls_in_turn store new

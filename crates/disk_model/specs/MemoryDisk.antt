@@ -1,6 +1,6 @@
 -- A disk in memory: what a read gives, and what a stop may leave after so many of its calls (own).
 use Rattle.std.specs.Prelude.{◌≡◌, ◌⊎◌, ℕ, List, [], ◌∷◌, ◌++◌, ◌+◌, length, take, Some, None, Contains, Result, Ok, Err, MatchResult, IsErr}
-use Rattle.ftn_addr.specs.Counts.{risen}
+use Rattle.ftn_addr.specs.Counts.{next_count}
 use Rattle.ftn_addr.specs.declared.refusals.NoMemory.{NoMemory}
 use Rattle.disk_model.specs.World.{World}
 use Rattle.disk_model.specs.Changes.{OnOwn, OnOutside, Rewrites, Torn, Cut, Puts, PutsPart, Renames, Moves, Gives}
@@ -91,16 +91,16 @@ pub record Unnumbered (old new : MemDisk) : Type 0 where
 
 -- whether the next call is one of those that are to fail
 abbrev pub IsToFail : MemDisk → Type 0
-IsToFail d = Contains d.failing.items (risen (calls_in d.log.items))
+IsToFail d = Contains d.failing.items (next_count (calls_in d.log.items))
 
 -- A call whose number is one of those that are to fail fails. Another fails only for want of memory, and then it takes no
 -- number.
 abbrev pub FailsAsSet : {T E : Type 0} → Result T E → MemDisk → MemDisk → Type 0
 FailsAsSet (Ok v) old new = (IsToFail old → ⊥) × Numbered old new × (new.faults ≡ old.faults)
-FailsAsSet (Err e) old new = ((IsToFail old × Numbered old new) ⊎ Unnumbered old new) × (new.faults ≡ risen old.faults)
+FailsAsSet (Err e) old new = ((IsToFail old × Numbered old new) ⊎ Unnumbered old new) × (new.faults ≡ next_count old.faults)
 
 -- the same of a call that lists: where it found no memory for the list, it took no number and counts no fault
 abbrev pub ListsAsSet : {T : Type 0} → Result T ListFault → MemDisk → MemDisk → Type 0
 ListsAsSet (Ok v) old new = (IsToFail old → ⊥) × Numbered old new × (new.faults ≡ old.faults)
-ListsAsSet (Err Failed) old new = ((IsToFail old × Numbered old new) ⊎ Unnumbered old new) × (new.faults ≡ risen old.faults)
+ListsAsSet (Err Failed) old new = ((IsToFail old × Numbered old new) ⊎ Unnumbered old new) × (new.faults ≡ next_count old.faults)
 ListsAsSet (Err NoRoom) old new = Unnumbered old new × (new.faults ≡ old.faults)

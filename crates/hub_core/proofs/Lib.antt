@@ -1,3 +1,3 @@
-pub mod Seats
-pub mod SeatData
 pub mod SeatCalls
+pub mod SeatData
+pub mod Seats

@@ -12,6 +12,7 @@ use Rattle.node_model.specs.Stores.{Stored, StoreState, StoreStand, StoreTied, I
 use Rattle.node_model.specs.declared.desk.DataIn.{DataIn}
 use Rattle.hub_core.specs.Seats.{Holding, Sitting, told, IsMarkFree, IsTaking, unless_broken, places_of, session_of, node_of}
 use Rattle.hub_core.specs.SeatSteps.{Leaves, HoldsFor, Puts, PutPasses, ReceivePasses, Receives, BrokenBy, state_in, session_in, received}
+use Rattle.hub_core.specs.SeatLaws.{told_bodies}
 use Rattle.hub_core.proofs.Seats.{node_eq, broke_from, leaves_as, leaves_then, opens_to}
 
 eqb_refl : (n : ℕ) → (n == n) ≡ true
@@ -32,13 +33,6 @@ pub free_after : (P : Stored → Stored → Type 0) (a b : Option Stored) → Is
 free_after P None b free change is = absurd free
 free_after P (Some a) None free change is = absurd change
 free_after P (Some a) (Some b) free change is = ap (λ (d : Durable). d.marks) is ∙ free
-
-pub told_bodies : (s : StoreState) → IsMarkFree s.content → StoreTied s → (n : ℕ) (p : Opened) → s.parts n ≡ Some p → length ((told s.content).bodies n) ≡ p.have
-told_bodies s free tied n p is = go s.content free tied.bodies
-  where
-    go : (c : Option Stored) → IsMarkFree c → IfTold c (λ a. (m : ℕ) (q : Opened) → s.parts m ≡ Some q → length (a.bodies m) ≡ q.have) → length ((told c).bodies n) ≡ p.have
-    go None free bodies = absurd free
-    go (Some a) free bodies = bodies n p is
 
 -- the held part grew
 pub record IsPut (bytes : List ℕ) (x : Sitting) (h : Holding) (old mid : StoreState) : Type 0 where

@@ -72,6 +72,7 @@ impl<S: Store> Seat<S> {
 impl<S: Store> Desk for Seat<S> {
     ghost use Rattle.std.specs.Prelude.{true};
     ghost use Rattle.hub_core.specs.Seats.{IsSeated, seat_stand, seat_part, sitting};
+    ghost use Rattle.hub_core.specs.SeatLaws.{seat_tied};
 
     ghost alone = { true };
 
@@ -152,6 +153,8 @@ impl<S: Store> Desk for Seat<S> {
         }
         Ok(())
     }
+
+    ghost tied = { λ s ready. seat_tied (S.stand s.store) s.begun (option_map sitting s.session) (S.tied s.store) ready };
 }
 
 #[cfg(test)]

@@ -9,8 +9,10 @@ use Rattle.node_model.specs.declared.desk.FileIn.TheVariants as F
 use Rattle.node_model.specs.declared.desk.DataIn.{DataIn}
 use Rattle.node_model.specs.declared.desk.DataIn.TheVariants as I
 use Rattle.node_model.specs.Rows.{Have, Go, Whole, From}
-use Rattle.node_model.specs.Calls.{Call, File_call, Data_call, Open_call, Leave_call, Fault, Disk, Full, No_memory, Answer, Let_in, Begun, Filed, More, Whole_now, Settled, Refused}
-use Rattle.node_model.specs.Talk.{Part}
+use Rattle.node_model.specs.Calls.{Call, File_call, Data_call, Open_call, Leave_call, Fault, Disk, Full, No_memory, Answer, Let_in, Begun, Filed, More, Whole_now, Settled, Refused, Knows, Tells, Counts_alone}
+use Rattle.std.specs.Option.{is_some}
+use Rattle.node_model.specs.Node.{Node, session_at}
+use Rattle.node_model.specs.Talk.{Part, part_at}
 
 abbrev pub fault_of : DeskFault → Fault
 fault_of (D.Disk count) = Disk count
@@ -73,3 +75,13 @@ pub record Fits (part : DeskPart) (n : ℕ) : Type 0 where
   pub is : part.held ≡ Some held
   pub taking : held.taking ≡ true
   pub fits : n ≤ held.left
+
+-- the part is that of the seat's session: whether one is open, and the file that it holds
+pub record IsPartAt (part : DeskPart) (seat : ℕ) (n : Node) : Type 0 where
+  pub opened : part.open_now ≡ is_some (session_at n seat)
+  pub held : part.held ≡ part_at n seat
+
+-- the same where a desk tells its node, and that isn't broken: of a broken store no held file is told
+abbrev pub PartTold : DeskPart → ℕ → Knows → Type 0
+PartTold part seat (Tells n) = n.broken ≡ None → IsPartAt part seat n
+PartTold part seat (Counts_alone c) = Unit {0}

@@ -6,7 +6,7 @@ ghost use Rattle.ftn_addr.specs.Limits.{IsAddress, IsKey};
 ghost use Rattle.std.specs.List.{All};
 ghost use Rattle.node_model.specs.Calls.{Knock_call, Open_call, File_call, Data_call, Leave_call};
 ghost use Rattle.node_model.specs.Images.{Stand, Kept};
-ghost use Rattle.node_model.specs.Desks.{DeskPart, Fits, part_after, knock_answer, begin_answer, file_answer, data_answer, leave_answer};
+ghost use Rattle.node_model.specs.Desks.{DeskPart, PartTold, Fits, part_after, knock_answer, begin_answer, file_answer, data_answer, leave_answer};
 
 use crate::Role;
 use ftn_addr::{Addr, FileKey};
@@ -113,4 +113,7 @@ pub trait Desk {
         ensures made { Kept alone (stand self.old) Leave_call (leave_answer result) (stand self.new) }
         ensures part { part self.new ≡ part_after (part self.old) Leave_call (leave_answer result) }
         ensures ready { ready self.new };
+
+    /// Where it tells its node, and that isn't broken, its part is that of the seat's session.
+    ghost tied: { (d : Self) → ready d → PartTold (part d) (stand d).state.seat (stand d).state.knows };
 }

@@ -4,7 +4,8 @@ use Rattle.std.specs.Prelude.{MatchBool}
 use Rattle.ftn_addr.specs.Address.{Address, same_address}
 use Rattle.ftn_addr.specs.Frames.{FrameText, Command, Data}
 use Rattle.ftn_addr.specs.Key.{Key}
-use Rattle.ftn_addr.specs.Counts.{Rose}
+use Rattle.ftn_addr.specs.Counts.{Increased, CountGrew}
+use Rattle.ftn_addr.proofs.CountsGrow.{count_grew-refl, count_grew-increased, count_grew-then, increased-then, then-increased}
 use Rattle.binkp_args.specs.declared.fault.ArgFault.{ArgFault}
 use Rattle.binkp_args.specs.Command.{CommandText, command_of}
 use Rattle.node_model.specs.Lists.{without}
@@ -18,7 +19,7 @@ use Rattle.session_core.specs.declared.ending.Took.TheVariants as T
 use Rattle.session_core.specs.declared.ending.Gave.{Gave}
 use Rattle.session_core.specs.declared.ending.Gave.TheVariants as G
 use Rattle.session_core.specs.Sessions.{Setting, Stage, Awaits_address, Awaits_password, Talks, Reply, Row, ReadRow, HeardRow, PasswordRow, LoggedRow, LoginRow, TalkRow, DataRow, AfterBegin, AfterKnock, Plain, Heard, Passed, Addresses, Password, Offers, Ends_batch, Unbuilt, heard_of, before_address, named, is_none, is_unbuilt, fault_end, outcome_took, outcome_gave, Said, Turn, GiveRow}
-use Rattle.session_run.specs.Laws.{Since, Stays_or_rose, DeskCause}
+use Rattle.session_run.specs.Laws.{FaultSince, Since, DeskCause}
 
 -- the ends that a row of the frame with that number gives without another object
 abbrev pub Plain_end : ℕ → End → Type 0
@@ -216,26 +217,12 @@ turn_finishes (Awaits_password peers) t row = subst (λ (x : Turn). Finished_alo
 
 -- Counts.
 
-pub rose_on : (a b c : ℕ) → Rose a b → Stays_or_rose b c → Rose a c
-rose_on a b c r (inl e) = omega (arith, r, e)
-rose_on a b c r (inr s) = omega (arith, r, s)
-
-stays_on : (a b c : ℕ) → Stays_or_rose a b → Stays_or_rose b c → Stays_or_rose a c
-stays_on a b c (inl e) (inl f) = inl (f ∙ e)
-stays_on a b c (inl e) (inr f) = inr (subst (λ x. Rose x c) e f)
-stays_on a b c (inr e) next = inr (rose_on a b c e next)
-
-broke_on : (a b : Counts) (now : ℕ) (count : ℕ) → Stays_or_rose b.faults now → (a.broken ≡ Some count) ⊎ Rose a.faults b.faults → (a.broken ≡ Some count) ⊎ Rose a.faults now
+broke_on : (a b : Counts) (now : ℕ) (count : ℕ) → CountGrew b.faults now → FaultSince count a b → (a.broken ≡ Some count) ⊎ (Increased a.faults count × CountGrew count now)
 broke_on a b now count later (inl e) = inl e
-broke_on a b now count later (inr r) = inr (rose_on a.faults b.faults now r later)
-
--- from counts that came from those before
-pub rose_from : (a b c : ℕ) → Stays_or_rose a b → Rose b c → Rose a c
-rose_from a b c (inl e) r = subst (λ x. Rose x c) e r
-rose_from a b c (inr s) r = rose_on a b c s (inr r)
+broke_on a b now count later (inr r) = inr (r.0, count_grew-then count b.faults now r.1 later)
 
 pub since_same : (a : Counts) → Since a a
-since_same a = record { faults = inl refl; fulls = inl refl; broke = λ count e. inl e }
+since_same a = record { faults = count_grew-refl a.faults; fulls = count_grew-refl a.fulls; broke = λ count e. inl e }
 
 since_is : (a b c : Counts) → Since a b → c ≡ b → Since a c
 since_is a b c s e = subst (λ x. Since a x) (sym e) s
@@ -243,11 +230,11 @@ since_is a b c s e = subst (λ x. Since a x) (sym e) s
 pub since_on : (a b c : Counts) (answer : Answer) → Since a b → Caused b answer c → Since a c
 since_on a b c (Refused (Disk count)) s (inl same) = since_is a b c s same.1
 since_on a b c (Refused (Disk count)) s (inr broke) = subst (λ x. Since a x) (sym broke.2)
-    (record { faults = inr (rose_from a.faults b.faults count s.faults broke.1); fulls = s.fulls; broke = λ n e. inr (rose_from a.faults b.faults count s.faults broke.1) })
+    (record { faults = count_grew-increased a.faults count (then-increased a.faults b.faults count s.faults broke.1); fulls = s.fulls; broke = λ n e. inr (let same : count ≡ n = cc in subst (λ (k : ℕ). Increased a.faults k × CountGrew k count) same (then-increased a.faults b.faults count s.faults broke.1, count_grew-refl count)) })
 since_on a b c (Refused (Read count)) s read = subst (λ x. Since a x) (sym read.1)
-    (record { faults = inr (rose_from a.faults b.faults count s.faults read.0); fulls = s.fulls; broke = λ n e. broke_on a b count n (inr read.0) (s.broke n e) })
+    (record { faults = count_grew-increased a.faults count (then-increased a.faults b.faults count s.faults read.0); fulls = s.fulls; broke = λ n e. broke_on a b count n (count_grew-increased b.faults count read.0) (s.broke n e) })
 since_on a b c (Refused Full) s full = subst (λ x. Since a x) (sym full.1)
-    (record { faults = s.faults; fulls = inr (rose_from a.fulls b.fulls c.fulls s.fulls full.0); broke = s.broke })
+    (record { faults = s.faults; fulls = count_grew-increased a.fulls c.fulls (then-increased a.fulls b.fulls c.fulls s.fulls full.0); broke = s.broke })
 since_on a b c (Refused No_memory) s e = since_is a b c s e
 since_on a b c (Queued slots) s e = since_is a b c s e
 since_on a b c Let_in s e = since_is a b c s e
@@ -290,10 +277,10 @@ since_chain before a b (e ∷ es) s (mid, made, rest) = since_chain before mid b
 
 -- a refusal, by its count
 pub fault_cause : (a b c : Counts) (fault : Fault) → Since a b → Caused b (Refused fault) c → DeskCause (fault_end fault) a c
-fault_cause a b c (Disk count) s (inl same) = broke_on a b c.faults count (inl (ap (λ (x : Counts). x.faults) same.1)) (s.broke count same.0)
-fault_cause a b c (Disk count) s (inr broke) = inr (rose_from a.faults b.faults c.faults s.faults (subst (λ x. Rose b.faults x) (sym (ap (λ (x : Counts). x.faults) broke.2)) broke.1))
-fault_cause a b c (Read count) s read = inr (rose_from a.faults b.faults c.faults s.faults (subst (λ x. Rose b.faults x) (sym (ap (λ (x : Counts). x.faults) read.1)) read.0))
-fault_cause a b c Full s full = rose_from a.fulls b.fulls c.fulls s.fulls full.0
+fault_cause a b c (Disk count) s (inl same) = broke_on a b c.faults count (subst (CountGrew b.faults) (sym (ap (λ (x : Counts). x.faults) same.1)) (count_grew-refl b.faults)) (s.broke count same.0)
+fault_cause a b c (Disk count) s (inr broke) = inr (then-increased a.faults b.faults count s.faults broke.1, subst (CountGrew count) (sym (ap (λ (x : Counts). x.faults) broke.2)) (count_grew-refl count))
+fault_cause a b c (Read count) s read = inr (then-increased a.faults b.faults count s.faults read.0, subst (CountGrew count) (sym (ap (λ (x : Counts). x.faults) read.1)) (count_grew-refl count))
+fault_cause a b c Full s full = then-increased a.fulls b.fulls c.fulls s.fulls full.0
 fault_cause a b c No_memory s e = tt
 
 plain_desk : (m : ℕ) (end : End) (a c : Counts) → Plain_end m end → DeskCause end a c
@@ -308,9 +295,8 @@ plain_desk m E.Quiet a c p = absurd p
 plain_desk m E.Endless a c p = absurd p
 
 pub later_desk : (end : End) (a b c : Counts) → DeskCause end a b → Since b c → DeskCause end a c
-later_desk (E.DiskFault count) a b c (inl e) s = inl e
-later_desk (E.DiskFault count) a b c (inr r) s = inr (rose_on a.faults b.faults c.faults r s.faults)
-later_desk E.LedgerFull a b c r s = rose_on a.fulls b.fulls c.fulls r s.fulls
+later_desk (E.DiskFault count) a b c d s = broke_on a b c.faults count s.faults d
+later_desk E.LedgerFull a b c r s = increased-then a.fulls b.fulls c.fulls r s.fulls
 later_desk E.Finished a b c d s = tt
 later_desk (E.Broke cause n) a b c d s = tt
 later_desk E.Dropped a b c d s = tt

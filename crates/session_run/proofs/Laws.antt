@@ -141,7 +141,7 @@ keeps alone line desk w v f (greets s) =
       line_cause = took_line 0 s.took _ _ _ _ cause;
       counts = since_after alone _ w.desk s.desk (e ∷ []) f.counts chain;
       desk_cause = took_desk 0 alone _ w.desk s.desk (e ∷ []) s.took f.counts chain cause;
-      own_cause = took_own 0 s.took (one (Knock_call Answers) s.answer) w.setting s.reply.stage w.frames w.taken w.sent cause (λ c e. absurd (no_broke c 0 (one (Knock_call Answers) s.answer) (subst (λ (t : Took). RowCause 1 t (one (Knock_call Answers) s.answer)) e later)));
+      own_cause = took_own 0 s.took (one (Knock_call Answers) s.answer) w.setting s.reply.stage w.frames w.last_stage w.last_calls w.taken w.sent cause (λ c e. absurd (no_broke c 0 (one (Knock_call Answers) s.answer) (subst (λ (t : Took). RowCause 1 t (one (Knock_call Answers) s.answer)) e later)));
     })
 keeps alone line desk w v f (takes_frame s) =
     let n = frame_number (w.frames ++ s.frame ∷ []) in
@@ -157,7 +157,7 @@ keeps alone line desk w v f (takes_frame s) =
       line_cause = took_line n s.took (asked_of s.events) _ _ _ cause;
       counts = since_after alone _ w.desk s.desk s.events f.counts s.chain;
       desk_cause = took_desk n alone _ w.desk s.desk s.events s.took f.counts s.chain cause;
-      own_cause = took_own n s.took (asked_of s.events) w.setting s.reply.stage (w.frames ++ s.frame ∷ []) w.taken w.sent cause (λ c e. record { rest = s.rest; begins = s.next; earlier = w.frames; frame = s.frame; last = refl; number = refl; stage = w.stage; events = asked_of s.events; reply = s.reply; row = s.row; took = said_broke s.reply.output s.reply.took s.output s.took c n s.said e });
+      own_cause = took_own n s.took (asked_of s.events) w.setting s.reply.stage (w.frames ++ s.frame ∷ []) w.stage s.events w.taken w.sent cause (λ c e. record { rest = s.rest; begins = s.next; earlier = w.frames; frame = s.frame; last = refl; number = refl; reply = s.reply; row = s.row; took = said_broke s.reply.output s.reply.took s.output s.took c n s.said e });
     })
 keeps alone line desk w v f (makes_turn s) =
     let alone_is = turn_finishes w.stage s.turn s.row in
@@ -172,7 +172,7 @@ keeps alone line desk w v f (makes_turn s) =
       line_cause = turn_line s.turn.gave _ _ _ alone_is;
       counts = f.counts;
       desk_cause = λ is. turn_desk s.turn.gave _ _ alone_is;
-      own_cause = gave_own w.stage s.turn w.setting w.frames w.taken w.sent s.row;
+      own_cause = gave_own w.stage s.turn w.setting w.frames w.last_stage w.last_calls w.taken w.sent s.row;
     })
 keeps alone line desk w v f (writes s) = subst (Facts alone line desk) (sym s.is) (record {
   pieces = f.pieces;
@@ -185,7 +185,7 @@ keeps alone line desk w v f (writes s) = subst (Facts alone line desk) (sym s.is
   line_cause = write_line w.line s.line s.answer s.left w.setting.limit _ line.faults s.waits s.step f.faults;
   counts = f.counts;
   desk_cause = λ is. on_desk _ _ _ (write_on s.answer w.setting.limit _ s.line.calm s.waits);
-  own_cause = write_own s.answer s.line.calm s.waits w.setting w.stage w.frames w.taken (w.sent ++ went s.answer s.left);
+  own_cause = write_own s.answer s.line.calm s.waits w.setting w.stage w.frames w.last_stage w.last_calls w.taken (w.sent ++ went s.answer s.left);
 })
 keeps alone line desk w v f (passes_write s) = subst (Facts alone line desk) (sym s.is) (record {
   pieces = f.pieces;
@@ -211,7 +211,7 @@ keeps alone line desk w v f (reads s) = subst (Facts alone line desk) (sym s.is)
   line_cause = read_line _ w.line s.line s.answer s.buffer w.setting.limit _ line.faults s.step f.faults;
   counts = f.counts;
   desk_cause = λ is. on_desk _ _ _ (read_on s.answer w.setting.limit _ s.line.calm);
-  own_cause = read_own s.answer s.line.calm w.setting w.stage w.frames (w.taken ++ came s.answer s.buffer) w.sent;
+  own_cause = read_own s.answer s.line.calm w.setting w.stage w.frames w.last_stage w.last_calls (w.taken ++ came s.answer s.buffer) w.sent;
 })
 keeps alone line desk w v f (gives_up s) = subst (Facts alone line desk) (sym s.is) (record {
   pieces = f.pieces;
@@ -241,7 +241,7 @@ keeps alone line desk w v f (leaves s) =
       counts = since_after alone _ w.desk s.desk (e ∷ []) f.counts chain;
       desk_cause = λ is. leave_desk s.end s.answer (counts_of desk.knows) w.desk s.desk s.rows_before s.rows_after (f.counts is) (subst (λ x. CallsBeside x w.desk e s.desk) is s.call)
           (subst (λ p. DeskCauseAt p (counts_of desk.knows) (counts_of w.desk.knows)) s.phase (f.desk_cause is));
-      own_cause = leave_own s.end s.answer w.setting w.stage w.frames w.taken w.sent (subst (λ (p : Phase). OwnCauseAt p w.setting w.stage w.frames w.taken w.sent) s.phase f.own_cause);
+      own_cause = leave_own s.end s.answer w.setting w.stage w.frames w.last_stage w.last_calls w.taken w.sent (subst (λ (p : Phase). OwnCauseAt p w.setting w.stage w.frames w.last_stage w.last_calls w.taken w.sent) s.phase f.own_cause);
     })
 keeps alone line desk w v f (drains s) = subst (Facts alone line desk) (sym s.is) (record {
   pieces = f.pieces;
@@ -254,7 +254,7 @@ keeps alone line desk w v f (drains s) = subst (Facts alone line desk) (sym s.is
   line_cause = drain_line s.answer s.end _ _ _ (subst (λ p. LineCauseAt p line.faults w.line.faults w.line.calm) s.phase f.line_cause);
   counts = f.counts;
   desk_cause = λ is. drain_desk s.answer s.end s.line.calm _ _ (subst (λ p. DeskCauseAt p (counts_of desk.knows) (counts_of w.desk.knows)) s.phase (f.desk_cause is));
-  own_cause = drain_own s.answer s.line.calm s.end w.setting w.stage w.frames w.taken w.sent (went s.answer s.left) (subst (λ (p : Phase). OwnCauseAt p w.setting w.stage w.frames w.taken w.sent) s.phase f.own_cause);
+  own_cause = drain_own s.answer s.line.calm s.end w.setting w.stage w.frames w.last_stage w.last_calls w.taken w.sent (went s.answer s.left) (subst (λ (p : Phase). OwnCauseAt p w.setting w.stage w.frames w.last_stage w.last_calls w.taken w.sent) s.phase f.own_cause);
 })
 keeps alone line desk w v f (closes s) = subst (Facts alone line desk) (sym s.is) (record {
   pieces = f.pieces;
@@ -267,7 +267,7 @@ keeps alone line desk w v f (closes s) = subst (Facts alone line desk) (sym s.is
   line_cause = close_line s.mute s.end _ _ _ (subst (λ p. LineCauseAt p line.faults w.line.faults w.line.calm) s.phase f.line_cause);
   counts = f.counts;
   desk_cause = λ is. subst (λ p. DeskCauseAt p (counts_of desk.knows) (counts_of w.desk.knows)) s.phase (f.desk_cause is);
-  own_cause = subst (λ (p : Phase). OwnCauseAt p w.setting w.stage w.frames w.taken w.sent) s.phase f.own_cause;
+  own_cause = subst (λ (p : Phase). OwnCauseAt p w.setting w.stage w.frames w.last_stage w.last_calls w.taken w.sent) s.phase f.own_cause;
 })
 
 pub facts_on : (alone : Bool) (line : LineState) (desk : DeskState) (w v : World) → Facts alone line desk w → Reach alone w v → Facts alone line desk v

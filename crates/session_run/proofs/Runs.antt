@@ -192,7 +192,7 @@ took_row alone s run run' line old new frame more took number d decoder piece ta
         let row2 = subst (λ (stage : Stage). Row s (frame_number (w.frames ++ frame ∷ [])) stage frame (asked_of d.events) d.reply) (sym st.stage_is) row1 in
         let row = subst (λ (x : Setting). Row x (frame_number (w.frames ++ frame ∷ [])) w.stage frame (asked_of d.events) d.reply) (sym at.setting_is) row2 in
         let z = absorbed alone w.desk old.state at.desk_is d.events d.ran.last d.ran.chain new.state d.ran.tail in
-        let v : World = record w { desk = z.last; stage = d.reply.stage; phase = after_took took; frames = w.frames ++ frame ∷ []; output = w.output ++ d.writes.written; events = w.events ++ d.events } in
+        let v : World = record w { desk = z.last; stage = d.reply.stage; phase = after_took took; frames = w.frames ++ frame ∷ []; last_stage = w.stage; last_calls = d.events; output = w.output ++ d.writes.written; events = w.events ++ d.events } in
         let step : TakesFrame alone w v = record {
           phase = at.phase_is;
           frame = frame;

@@ -1,9 +1,9 @@
 -- What holds of every session, in the subject's own words (own, after FTS-1026).
 use Rattle.std.specs.Prelude.{◌≡◌, ◌⊎◌, ℕ, ◌+◌, ◌≤◌, Bool, true, false, List, [], ◌∷◌, ◌++◌, length, Some}
-use Rattle.ftn_addr.specs.Counts.{Rose, risen}
+use Rattle.ftn_addr.specs.Counts.{Increased, CountGrew, next_count}
 use Rattle.ftn_addr.specs.Frames.{FrameText}
 use Rattle.binkp_frame.specs.Stream.{Begins}
-use Rattle.node_model.specs.Calls.{Counts, counts_of, DeskState, Event}
+use Rattle.node_model.specs.Calls.{Counts, counts_of, DeskState, Turned, asked_of}
 use Rattle.node_model.specs.Images.{Stand, Drifted, RanAt}
 use Rattle.node_model.specs.Talk.{is_finished}
 use Rattle.session_core.specs.declared.ending.Cause.{Cause}
@@ -20,8 +20,8 @@ joined (piece ∷ pieces) = piece ++ joined pieces
 
 -- the count of ends rose exactly at Dropped, which a failing `leave` may turn into DiskFault
 abbrev pub EndCount : End → ℕ → ℕ → Type 0
-EndCount E.Dropped before now = now ≡ risen before
-EndCount (E.DiskFault count) before now = (now ≡ before) ⊎ (now ≡ risen before)
+EndCount E.Dropped before now = now ≡ next_count before
+EndCount (E.DiskFault count) before now = (now ≡ before) ⊎ (now ≡ next_count before)
 EndCount _ before now = now ≡ before
 
 abbrev pub EndCountAt : Phase → ℕ → ℕ → Type 0
@@ -32,13 +32,13 @@ EndCountAt _ before now = now ≡ before
 
 -- LineFault comes only where a fault of the line was counted, Quiet only where the line was quiet sixty times on end
 abbrev pub LineCause : End → (before now calm : ℕ) → Type 0
-LineCause E.LineFault before now calm = Rose before now
+LineCause E.LineFault before now calm = Increased before now
 LineCause E.Quiet before now calm = 60 ≤ calm
 LineCause _ before now calm = Unit {0}
 
 -- why nothing more is written: the line failed, or it was quiet sixty times on end; else the end is neither
 abbrev pub DrainCause : (mute : Bool) → End → (before now calm : ℕ) → Type 0
-DrainCause true end before now calm = LineCause end before now calm × (Rose before now ⊎ (60 ≤ calm))
+DrainCause true end before now calm = LineCause end before now calm × (Increased before now ⊎ (60 ≤ calm))
 DrainCause false end before now calm = is_mute end ≡ false
 
 abbrev pub LineCauseAt : Phase → (before now calm : ℕ) → Type 0
@@ -47,10 +47,15 @@ LineCauseAt (Draining mute end) before now calm = DrainCause mute end before now
 LineCauseAt (Closed end) before now calm = LineCause end before now calm
 LineCauseAt _ before now calm = Unit {0}
 
--- DiskFault comes only where the store was broken before, or a fault of it was counted; LedgerFull only where a Full was
+-- the store was broken before with that count, or its faults rose to that count since
+abbrev pub FaultSince : (count : ℕ) → (before now : Counts) → Type 0
+FaultSince count before now = (before.broken ≡ Some count) ⊎ (Increased before.faults count × CountGrew count now.faults)
+
+-- DiskFault comes only with a count of faults of the store, at which it was broken before or to which they rose;
+-- LedgerFull only where a Full was counted
 abbrev pub DeskCause : End → (before now : Counts) → Type 0
-DeskCause (E.DiskFault count) before now = (before.broken ≡ Some count) ⊎ Rose before.faults now.faults
-DeskCause E.LedgerFull before now = Rose before.fulls now.fulls
+DeskCause (E.DiskFault count) before now = FaultSince count before now
+DeskCause E.LedgerFull before now = Increased before.fulls now.fulls
 DeskCause _ before now = Unit {0}
 
 abbrev pub DeskCauseAt : Phase → (before now : Counts) → Type 0
@@ -59,18 +64,17 @@ DeskCauseAt (Draining mute end) before now = DeskCause end before now
 DeskCauseAt (Closed end) before now = DeskCause end before now
 DeskCauseAt _ before now = Unit {0}
 
--- The frame with that number, the last that was taken of these bytes, was refused so.
-pub record Refuses (cause : Cause) (n : ℕ) (setting : Setting) (frames : List FrameText) (taken : List ℕ) : Type 0 where
+-- The frame with that number, the last that was taken of these bytes, was refused so: by its row at the stage that it
+-- met, with the calls that it made.
+pub record Refuses (cause : Cause) (n : ℕ) (setting : Setting) (frames : List FrameText) (met : Stage) (made : List Turned) (taken : List ℕ) : Type 0 where
   pub rest : List ℕ
   pub begins : Begins taken frames rest
   pub earlier : List FrameText
   pub frame : FrameText
   pub last : frames ≡ earlier ++ frame ∷ []
   pub number : n ≡ frame_number frames
-  pub stage : Stage
-  pub events : List Event
   pub reply : Reply
-  pub row : Row setting n stage frame events reply
+  pub row : Row setting n met frame (asked_of made) reply
   pub took : reply.took ≡ T.Ended (E.Broke cause n)
 
 -- both sides have said that they are done, and no file is held
@@ -80,32 +84,28 @@ IsDone stage = ⊥
 
 -- Finished comes only once both sides are done, Broke only where that frame was refused so, Endless only where the bytes
 -- taken and sent reach the limit
-abbrev pub OwnCause : End → Setting → Stage → List FrameText → (taken sent : List ℕ) → Type 0
-OwnCause E.Finished setting stage frames taken sent = IsDone stage
-OwnCause (E.Broke cause n) setting stage frames taken sent = Refuses cause n setting frames taken
-OwnCause E.Endless setting stage frames taken sent = setting.limit ≤ length taken + length sent
-OwnCause _ setting stage frames taken sent = Unit {0}
+abbrev pub OwnCause : End → Setting → Stage → List FrameText → (met : Stage) (made : List Turned) (taken sent : List ℕ) → Type 0
+OwnCause E.Finished setting stage frames met made taken sent = IsDone stage
+OwnCause (E.Broke cause n) setting stage frames met made taken sent = Refuses cause n setting frames met made taken
+OwnCause E.Endless setting stage frames met made taken sent = setting.limit ≤ length taken + length sent
+OwnCause _ setting stage frames met made taken sent = Unit {0}
 
-abbrev pub OwnCauseAt : Phase → Setting → Stage → List FrameText → (taken sent : List ℕ) → Type 0
-OwnCauseAt (Over end) setting stage frames taken sent = OwnCause end setting stage frames taken sent
-OwnCauseAt (Draining mute end) setting stage frames taken sent = OwnCause end setting stage frames taken sent
-OwnCauseAt (Closed end) setting stage frames taken sent = OwnCause end setting stage frames taken sent
-OwnCauseAt _ setting stage frames taken sent = Unit {0}
+abbrev pub OwnCauseAt : Phase → Setting → Stage → List FrameText → (met : Stage) (made : List Turned) (taken sent : List ℕ) → Type 0
+OwnCauseAt (Over end) setting stage frames met made taken sent = OwnCause end setting stage frames met made taken sent
+OwnCauseAt (Draining mute end) setting stage frames met made taken sent = OwnCause end setting stage frames met made taken sent
+OwnCauseAt (Closed end) setting stage frames met made taken sent = OwnCause end setting stage frames met made taken sent
+OwnCauseAt _ setting stage frames met made taken sent = Unit {0}
 
 -- once closed, all was sent, or the line failed, or it was quiet sixty times on end
 abbrev pub WholeAt : Phase → ℕ → LineState → (output sent : List ℕ) → Type 0
-WholeAt (Closed end) before line output sent = (output ≡ sent) ⊎ (Rose before line.faults ⊎ (60 ≤ line.calm))
+WholeAt (Closed end) before line output sent = (output ≡ sent) ⊎ (Increased before line.faults ⊎ (60 ≤ line.calm))
 WholeAt _ before line output sent = Unit {0}
-
--- a count stays or rises
-abbrev pub Stays_or_rose : ℕ → ℕ → Type 0
-Stays_or_rose before now = (now ≡ before) ⊎ Rose before now
 
 -- counts now, and how they came from those before
 pub record Since (before now : Counts) : Type 0 where
-  pub faults : Stays_or_rose before.faults now.faults
-  pub fulls : Stays_or_rose before.fulls now.fulls
-  pub broke : (count : ℕ) → now.broken ≡ Some count → (before.broken ≡ Some count) ⊎ Rose before.faults now.faults
+  pub faults : CountGrew before.faults now.faults
+  pub fulls : CountGrew before.fulls now.fulls
+  pub broke : (count : ℕ) → now.broken ≡ Some count → FaultSince count before now
 
 -- what holds at each moment of a session that began over this line and this desk
 pub record Facts (alone : Bool) (line : LineState) (desk : DeskState) (w : World) : Type 0 where
@@ -122,7 +122,7 @@ pub record Facts (alone : Bool) (line : LineState) (desk : DeskState) (w : World
   pub line_cause : LineCauseAt w.phase line.faults w.line.faults w.line.calm
   pub counts : alone ≡ true → Since (counts_of desk.knows) (counts_of w.desk.knows)
   pub desk_cause : alone ≡ true → DeskCauseAt w.phase (counts_of desk.knows) (counts_of w.desk.knows)
-  pub own_cause : OwnCauseAt w.phase w.setting w.stage w.frames w.taken w.sent
+  pub own_cause : OwnCauseAt w.phase w.setting w.stage w.frames w.last_stage w.last_calls w.taken w.sent
 
 -- A session that ended so, over this line and this desk: a run from the opening to its close, and what holds of it. The
 -- line is then closed on this side.

@@ -29,7 +29,8 @@ pub data Phase : Type 0 where
   Closed : (end : End) → Phase
 
 -- what has happened: where line, desk and session stand now, the pieces read and the bytes that they make, the frames
--- taken, all that was to be written and what of it was sent, and the calls of the desk
+-- taken, with the stage that the last of them met and the calls of the desk that it made, all that was to be written and
+-- what of it was sent, and all calls of the desk
 pub record World : Type 0 where
   pub setting : Setting
   pub line : LineState
@@ -39,6 +40,8 @@ pub record World : Type 0 where
   pub pieces : List (List ℕ)
   pub taken : List ℕ
   pub frames : List FrameText
+  pub last_stage : Stage
+  pub last_calls : List Turned
   pub output : List ℕ
   pub sent : List ℕ
   pub events : List Turned
@@ -106,7 +109,7 @@ pub record TakesFrame (alone : Bool) (w v : World) : Type 0 where
   pub output : List ℕ
   pub took : Took
   pub said : Said reply.output reply.took output took
-  pub is : v ≡ record w { desk = desk; stage = reply.stage; phase = after_took took; frames = w.frames ++ frame ∷ []; output = w.output ++ output; events = w.events ++ events }
+  pub is : v ≡ record w { desk = desk; stage = reply.stage; phase = after_took took; frames = w.frames ++ frame ∷ []; last_stage = w.stage; last_calls = events; output = w.output ++ output; events = w.events ++ events }
 
 -- no further frame is whole, and the own turn is made
 pub record MakesTurn (w v : World) : Type 0 where
@@ -222,7 +225,7 @@ pub data Reach (alone : Bool) (w : World) : World → Type 0 where
 -- nothing has happened yet
 abbrev pub opening : Setting → LineState → DeskState → World
 opening setting line desk =
-    record { setting = setting; line = line; desk = desk; stage = Awaits_address; phase = Starting; pieces = []; taken = []; frames = []; output = []; sent = []; events = [] }
+    record { setting = setting; line = line; desk = desk; stage = Awaits_address; phase = Starting; pieces = []; taken = []; frames = []; last_stage = Awaits_address; last_calls = []; output = []; sent = []; events = [] }
 
 -- the session is over, and this is left to write
 pub record IsLeft (line : LineState) (left : List ℕ) (mute : Bool) (end : End) (w : World) : Type 0 where

@@ -13,6 +13,7 @@ use std::alloc::Global;
 use std::test::Fail;
 
 mod lines;
+mod ordinary;
 mod refusals;
 
 const LOGIN: &[u8] = b"\x80\x12\x012:5047/13@fidonet\x80\x02\x02-";

@@ -1,6 +1,6 @@
 //! Making a disk in memory, and noting its calls.
 ghost use Rattle.std.specs.Prelude.{◌≡◌, ◌≤◌, ℕ, [], ◌∷◌, ◌++◌, true, Some, None, Err, MatchResult, IfOk, OnOk, OnErr};
-ghost use Rattle.ftn_addr.specs.Counts.{risen};
+ghost use Rattle.ftn_addr.specs.Counts.{next_count};
 ghost use Rattle.disk_model.specs.Causes.{HasCause};
 ghost use Rattle.disk_model.specs.Changes.{Every, Follows, Same, OnOutside, Puts};
 ghost use Rattle.disk_model.specs.Moments.{Steps};
@@ -90,7 +90,7 @@ impl MemDisk {
 
     // The number of the next call.
     fn next_number(&self) -> u64
-        ensures { result ≡ risen (calls_in self.now.log.items) }
+        ensures { result ≡ next_count (calls_in self.now.log.items) }
     {
         self.calls.saturating_add(1)
     }
@@ -98,7 +98,7 @@ impl MemDisk {
     fn fail(&mut self) -> Failed
         ensures same { Unnoted self.old self.new }
         ensures failing { self.new.failing.items ≡ self.old.failing.items }
-        ensures risen { self.new.faults ≡ risen self.old.faults }
+        ensures risen { self.new.faults ≡ next_count self.old.faults }
         ensures cause { HasCause {T = ℕ} self.old.faults self.new.faults (Err result) }
     {
         self.faults = self.faults.saturating_add(1);

@@ -1,5 +1,5 @@
 //! The calls of a disk and a yard, each counted where the system failed.
-ghost use Rattle.ftn_addr.specs.Counts.{risen};
+ghost use Rattle.ftn_addr.specs.Counts.{next_count};
 ghost use Rattle.std.specs.Prelude.{◌≡◌, IfOk, OnOk, OnErr};
 ghost use Rattle.disk_model.specs.Causes.{HasCause, ListsWithCause};
 
@@ -28,7 +28,7 @@ impl<R: Files + AllocGlobal + Clone + Drop> RealFolder<R> {
     }
 
     fn add_fault(&mut self)
-        ensures { self.new.faults ≡ risen self.old.faults }
+        ensures { self.new.faults ≡ next_count self.old.faults }
     {
         self.faults = self.faults.saturating_add(1);
     }
@@ -36,7 +36,7 @@ impl<R: Files + AllocGlobal + Clone + Drop> RealFolder<R> {
     // Counts an answer where it is an error.
     fn count<T>(&mut self, answer: io::Result<T>) -> Result<T, Failed>
         ensures ok { OnOk result (self.new.faults ≡ self.old.faults) }
-        ensures err { OnErr result (self.new.faults ≡ risen self.old.faults) }
+        ensures err { OnErr result (self.new.faults ≡ next_count self.old.faults) }
         ensures cause { HasCause self.old.faults self.new.faults result }
     {
         match answer {
