@@ -5,7 +5,8 @@ use Rattle.std.proofs.Math.Seq.{take-length}
 use Rattle.std.proofs.lemmas.List.{append-nil}
 use Rattle.disk_model.specs.World.{World}
 use Rattle.disk_model.specs.Changes.{Every, Follows, Same, Stands, AtOnce, Holds, Only, OnOwn, Renames}
-use Rattle.disk_model.specs.Moments.{Now, Steps, Leaves, started, weakened, goes_on}
+use Rattle.disk_model.specs.Moments.{Now, Steps, Leaves}
+use Rattle.disk_model.proofs.MomentLemmas.{started, weakened, goes_on}
 use Rattle.ledger_file.specs.Text.{header, records}
 use Rattle.ledger_file.specs.Ledger.{ledger_name, new_name, LedgerIs, Makes}
 
