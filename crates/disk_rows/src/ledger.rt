@@ -1,15 +1,20 @@
-use crate::file_name::ledger_file_name;
-use crate::{AppendFault, Ledger, OpenFault, put_file};
-use disk_model::{Disk, MemDisk};
+//! A ledger's file, its failing calls and its stops.
+use disk_model::{Disk, Name};
 use ftn_addr::{Bytes, Failed};
+use ledger_file::{AppendFault, Ledger, OpenFault, put_file};
+use mem_disk::MemDisk;
 use std::alloc::Global;
 use std::test::Fail;
 
 const HEADER: [u8; 16] = *b"binkpldg\x00\x00\x00\x01\x00\x00\x00\x00";
 
+fn ledger_name() -> Result<Name, Failed> {
+    Name::new(b"ledger").ok_or(Failed)
+}
+
 // The bytes of the ledger's file.
 fn file_of<D: Disk>(alloc: Global, disk: &mut D) -> Result<Vec<u8>, Fail> {
-    let name = ledger_file_name();
+    let name = ledger_name()?;
     let Some(len) = disk.stat(&name)? else {
         return Err(Failed.into());
     };
@@ -23,7 +28,7 @@ fn opened(alloc: Global, head: &[u8], behind: &[u8]) -> Result<Result<u32, OpenF
     let mut bytes = Vec::from_slice(alloc, head)?;
     bytes.extend_from_slice(behind)?;
     let mut disk = MemDisk::new(alloc);
-    put_file(&mut disk, &ledger_file_name(), &bytes)?;
+    put_file(&mut disk, &ledger_name()?, &bytes)?;
     match Ledger::open(alloc, &mut disk) {
         Ok(ledger) => Ok(Ok(ledger.count())),
         Err(fault) => Ok(Err(fault)),
@@ -170,7 +175,7 @@ fn full_ledger_takes_no_more(rt: HostRuntime) -> Result<(), Fail> {
     assert_eq!(rt; over, Err(OpenFault::Over(1048592)));
     bytes.push(0)?;
     let mut disk = MemDisk::new(alloc);
-    put_file(&mut disk, &ledger_file_name(), &bytes)?;
+    put_file(&mut disk, &ledger_name()?, &bytes)?;
     let mut ledger = Ledger::open(alloc, &mut disk)?;
     assert_eq!(rt; ledger.count(), 262144);
     let calls = disk.calls();
@@ -247,5 +252,51 @@ fn failing_calls_are_told(rt: HostRuntime) -> Result<(), Fail> {
         let count = count_of(alloc, disk)?;
         assert!(rt; count <= 1);
     }
+    Ok(())
+}
+
+// A ledger of one payload whose file was written and not synced. Two calls.
+fn write_unsynced<D: Disk>(disk: &mut D, bytes: &[u8]) -> Result<(), Failed> {
+    let name = ledger_name()?;
+    disk.create(&name)?;
+    match disk.stat(&name)? {
+        Some(_) => disk.write_at(&name, 0, bytes),
+        None => Err(Failed),
+    }
+}
+
+// What was read at an opening lasts, also where no sync had made it durable before.
+#[test]
+fn opened_ledger_lasts_at_each_pick(rt: HostRuntime) -> Result<(), Fail> {
+    let alloc = rt.alloc();
+    let mut bytes = Vec::from_slice(alloc, &HEADER)?;
+    bytes.extend_from_slice(b"\x01\x00\x03one\x00")?;
+    for pick in 0..4 {
+        let mut disk = MemDisk::new(alloc);
+        write_unsynced(&mut disk, &bytes)?;
+        assert_eq!(rt; (disk.picks(disk.calls()), disk.syncs()), (4, 0));
+        let ledger = Ledger::open(alloc, &mut disk)?;
+        assert_eq!(rt; (ledger.count(), disk.syncs()), (1, 1));
+        let after = disk.calls();
+        let Ok(stopped) = disk.stop(after, pick) else {
+            return Err(Failed.into());
+        };
+        assert_eq!(rt; count_of(alloc, stopped), Ok(1));
+    }
+    Ok(())
+}
+
+// A write that fails in the middle is told, and what it left isn't read as a payload.
+#[test]
+fn torn_block_is_no_payload(rt: HostRuntime) -> Result<(), Fail> {
+    let alloc = rt.alloc();
+    let mut disk = MemDisk::new(alloc);
+    disk.fail_at(7)?;
+    let mut ledger = Ledger::open(alloc, &mut disk)?;
+    assert_eq!(rt; ledger.append(&mut disk, b"one"), Err(AppendFault::Disk));
+    let bytes = file_of(alloc, &mut disk)?;
+    // Of the 6 bytes behind the gate, the length, the payload and the next gate, three are there.
+    assert_eq!(rt; bytes[16..], b"\x00\x00\x03o"[..]);
+    assert_eq!(rt; count_of(alloc, disk), Ok(0));
     Ok(())
 }
