@@ -1,6 +1,6 @@
 -- What a line's calls do to its counts and, where it tells them, to its bytes (own).
 use Rattle.std.specs.Prelude.{◌≡◌, ℕ, ◌<◌, ◌≤◌, Bool, true, false, List, [], ◌++◌, length, take, Option, Some, None}
-use Rattle.ftn_addr.specs.Counts.{risen}
+use Rattle.ftn_addr.specs.Counts.{next_count}
 use Rattle.binkp_link.specs.declared.link.ReadAnswer.{ReadAnswer}
 use Rattle.binkp_link.specs.declared.link.ReadAnswer.TheVariants as R
 use Rattle.binkp_link.specs.declared.link.WriteAnswer.{WriteAnswer}
@@ -56,15 +56,15 @@ MayRead wait R.Failed buffer bytes = Unit {0}
 
 abbrev pub calm_after_read : ReadAnswer → ℕ → ℕ
 calm_after_read (R.Came n) calm = 0
-calm_after_read R.Quiet calm = risen calm
+calm_after_read R.Quiet calm = next_count calm
 calm_after_read _ calm = calm
 
 abbrev pub faults_after_read : ReadAnswer → ℕ → ℕ
-faults_after_read R.Failed faults = risen faults
+faults_after_read R.Failed faults = next_count faults
 faults_after_read _ faults = faults
 
 abbrev pub ends_after_read : ReadAnswer → ℕ → ℕ
-ends_after_read R.End ends = risen ends
+ends_after_read R.End ends = next_count ends
 ends_after_read _ ends = ends
 
 abbrev pub idle_after_read : ReadAnswer → Bool
@@ -88,11 +88,11 @@ MayWrite W.Failed bytes = Unit {0}
 
 abbrev pub calm_after_write : WriteAnswer → ℕ → ℕ
 calm_after_write (W.Wrote n) calm = 0
-calm_after_write W.Quiet calm = risen calm
+calm_after_write W.Quiet calm = next_count calm
 calm_after_write W.Failed calm = calm
 
 abbrev pub faults_after_write : WriteAnswer → ℕ → ℕ
-faults_after_write W.Failed faults = risen faults
+faults_after_write W.Failed faults = next_count faults
 faults_after_write _ faults = faults
 
 abbrev pub idle_after_write : WriteAnswer → Bool
@@ -129,4 +129,4 @@ pub record PutsAll (bytes : List ℕ) (old new : SinkState) : Type 0 where
 pub record PutsFront (bytes : List ℕ) (old new : SinkState) : Type 0 where
   pub many : ℕ
   pub adds : Adds (take many bytes) old.bytes new.bytes
-  pub faults : new.faults ≡ risen old.faults
+  pub faults : new.faults ≡ next_count old.faults

@@ -1,6 +1,6 @@
 //! A sink in memory, which keeps what was put.
 ghost use Rattle.std.specs.Prelude.{◌≡◌, [], Some, OnErr, OnOk};
-ghost use Rattle.ftn_addr.specs.Counts.{risen};
+ghost use Rattle.ftn_addr.specs.Counts.{next_count};
 ghost use Rattle.binkp_link.specs.Lines.{PutsAll, PutsFront};
 ghost use Rattle.binkp_link.specs.MemSinks.{FailsAsSet, new_sink, put_into, sink_state};
 
@@ -42,7 +42,7 @@ impl MemSink {
 
     /// A call failed.
     fn fail(&mut self) -> Failed
-        ensures faults { self.new ≡ record self.old { faults = risen self.old.faults } }
+        ensures faults { self.new ≡ record self.old { faults = next_count self.old.faults } }
     {
         self.faults = self.faults.saturating_add(1);
         Failed

@@ -1,7 +1,7 @@
 -- What the program's call does (own, after FTS-1026).
 use Rattle.std.specs.Prelude.{◌≡◌, ◌⊎◌, ℕ, ◌+◌, ◌-◌, ◌≤◌, true, List, length, Option, Some, None}
 use Rattle.ftn_addr.specs.Address.{Address}
-use Rattle.ftn_addr.specs.Counts.{Rose, risen}
+use Rattle.ftn_addr.specs.Counts.{Increased, next_count}
 use Rattle.node_model.specs.Calls.{Counts, DeskState, Tells}
 use Rattle.node_model.specs.Receipts.{HasOnce, StaysReceived}
 use Rattle.node_model.specs.Stores.{Stored, StoreState, IfTold}
@@ -46,11 +46,11 @@ ReachesLimit None new = Unit {0}
 -- What a status tells of the counts of line and store. The line's count of ends rose exactly at Dropped, and at a
 -- DiskFault that came after.
 abbrev pub StatusCause : Status → (line line' : LineState) → (counts counts' : Counts) → Type 0
-StatusCause S.Dropped line line' counts counts' = line'.ends ≡ risen line.ends
+StatusCause S.Dropped line line' counts counts' = line'.ends ≡ next_count line.ends
 StatusCause (S.DiskFault count) line line' counts counts' =
-    Rose counts.faults counts'.faults × ((line'.ends ≡ line.ends) ⊎ (line'.ends ≡ risen line.ends))
-StatusCause S.LedgerFull line line' counts counts' = Rose counts.fulls counts'.fulls × (line'.ends ≡ line.ends)
-StatusCause S.LineFault line line' counts counts' = Rose line.faults line'.faults × (line'.ends ≡ line.ends)
+    Increased counts.faults counts'.faults × ((line'.ends ≡ line.ends) ⊎ (line'.ends ≡ next_count line.ends))
+StatusCause S.LedgerFull line line' counts counts' = Increased counts.fulls counts'.fulls × (line'.ends ≡ line.ends)
+StatusCause S.LineFault line line' counts counts' = Increased line.faults line'.faults × (line'.ends ≡ line.ends)
 StatusCause S.Quiet line line' counts counts' = (60 ≤ line'.calm) × (line'.ends ≡ line.ends)
 StatusCause S.Endless line line' counts counts' = ReachesLimit line.bytes line'.bytes × (line'.ends ≡ line.ends)
 StatusCause status line line' counts counts' = line'.ends ≡ line.ends

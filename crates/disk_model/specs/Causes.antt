@@ -1,6 +1,6 @@
 -- Why a call failed (own).
 use Rattle.std.specs.Prelude.{◌≡◌, ℕ, ◌≤◌, Result, Ok, Err, OnOk, OnErr, IfErr}
-use Rattle.ftn_addr.specs.Counts.{Rose}
+use Rattle.ftn_addr.specs.Counts.{Increased}
 use Rattle.disk_model.specs.declared.answers.ListFault.{ListFault}
 use Rattle.disk_model.specs.declared.answers.ListFault.TheVariants.{Failed, NoMemory}
 
@@ -8,13 +8,13 @@ use Rattle.disk_model.specs.declared.answers.ListFault.TheVariants.{Failed, NoMe
 pub record HasCause {T E : Type 0} (before now : ℕ) (result : Result T E) : Type 0 where
   pub later : before ≤ now
   pub calm : OnOk result (now ≡ before)
-  pub failed : OnErr result (Rose before now)
+  pub failed : OnErr result (Increased before now)
 
 -- the same of a call that lists: where it found no memory, nothing failed outside
 pub record ListsWithCause {T : Type 0} (before now : ℕ) (result : Result T ListFault) : Type 0 where
   pub later : before ≤ now
   pub calm : OnOk result (now ≡ before)
-  pub failed : IfErr result (λ fault. fault ≡ Failed → Rose before now)
+  pub failed : IfErr result (λ fault. fault ≡ Failed → Increased before now)
   pub no_memory : IfErr result (λ fault. fault ≡ NoMemory → now ≡ before)
 
 -- how a call ended

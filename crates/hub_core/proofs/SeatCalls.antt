@@ -2,7 +2,7 @@
 use Rattle.std.proofs.Common.{◌≡◌, ◌≢◌, ◌⊎◌, ℕ, zero, suc, ◌+◌, ◌-◌, ◌<◌, ◌≤◌, Bool, true, List, Option, Some, None, refl, sym, ◌∙◌, ap, subst, inl, inr, arith, option_map}
 use Rattle.std.specs.Prelude.{Ok, Err}
 use Rattle.ftn_addr.specs.Address.{Address}
-use Rattle.ftn_addr.specs.Counts.{Rose, risen}
+use Rattle.ftn_addr.specs.Counts.{Increased, next_count}
 use Rattle.ftn_addr.specs.Key.{Key}
 use Rattle.node_model.specs.declared.store.StoreFault.{StoreFault}
 use Rattle.node_model.specs.declared.store.StoreFault.TheVariants as D
@@ -154,11 +154,11 @@ file_made a b c m x y z key word go counts takes l settled =
     step F.Whole takes = (go.whole, file_row a b m x y key (file_word F.Whole) (node_of c.state m (Some z)) go (takes m))
     step F.Have takes = (go.whole, file_row a b m x y key (file_word F.Have) (node_of c.state m (Some z)) go (takes m))
 
-pub rose_risen : (n : ℕ) → Rose n (risen n)
+pub rose_risen : (n : ℕ) → Increased n (next_count n)
 rose_risen n = omega arith
 
 -- what the store leaves of a refusal without the disk, as its node tells it
-pub fulls_node : (s t : StoreState) (m : ℕ) (x y : Option Sitting) → y ≡ x → t ≡ record s { counts = record s.counts { fulls = risen s.counts.fulls } } → node_of t m y ≡ record (node_of s m x) { fulls = risen s.counts.fulls }
+pub fulls_node : (s t : StoreState) (m : ℕ) (x y : Option Sitting) → y ≡ x → t ≡ record s { counts = record s.counts { fulls = next_count s.counts.fulls } } → node_of t m y ≡ record (node_of s m x) { fulls = next_count s.counts.fulls }
 fulls_node s t m x y same is = ap (node_of t m) same ∙ ap (λ (u : StoreState). node_of u m x) is
 
 pub file_refused : (a b c : StoreStand) (m : ℕ) (x y z : Sitting) (key : Key) (fault : StoreFault) (word : Fault) → word ≡ fault_in fault c.state.counts.faults → LetsGo a b x y → Takes key (Err fault) b.state y c.state z → Leaves (TakePasses key b.state y) b c → Kept true (seat_stand a m (Some x)) (File_call key 0) (Refused word) (seat_stand c m (Some z))
@@ -183,11 +183,11 @@ file_refused a b c m x y z key fault word is lets takes l =
         kept_of a c m m (Some x) (Some z) (File_call key 0) (Refused (Disk c.state.counts.faults)) (inr (lets.whole, broke'.rose, broke'.counts)) (inr (breaks (Passes 0 (node_of a.state m (Some x)) (File_call key 0)) a.state c.state m (Some x) (Some z) (File_call key 0) lets.whole own (λ d p. p) broke')) passes (λ answered. absurd answered)
     go D.Read broke = absurd broke
     go D.Full after =
-        let counts : c.state.counts ≡ record a.state.counts { fulls = risen a.state.counts.fulls } = ap (λ (t : StoreState). t.counts) after ∙ ap (λ (k : Counts). record k { fulls = risen k.fulls }) before in
-        let fulls : c.state.counts.fulls ≡ risen a.state.counts.fulls = ap (λ (k : Counts). k.fulls) counts in
-        let rose : Rose a.state.counts.fulls c.state.counts.fulls = omega (arith, fulls) in
+        let counts : c.state.counts ≡ record a.state.counts { fulls = next_count a.state.counts.fulls } = ap (λ (t : StoreState). t.counts) after ∙ ap (λ (k : Counts). record k { fulls = next_count k.fulls }) before in
+        let fulls : c.state.counts.fulls ≡ next_count a.state.counts.fulls = ap (λ (k : Counts). k.fulls) counts in
+        let rose : Increased a.state.counts.fulls c.state.counts.fulls = omega (arith, fulls) in
         let same : c.state.counts ≡ record a.state.counts { fulls = c.state.counts.fulls } = counts ∙ ap (λ (n : ℕ). record a.state.counts { fulls = n }) (sym fulls) in
-        let ended : node_of c.state m (Some z) ≡ record (released 0 (session_in a.state x) (node_of a.state m (Some x))) { fulls = risen a.state.counts.fulls } = fulls_node b.state c.state m (Some z) (Some z) refl after ∙ (ap (λ (n : Node). record n { fulls = risen b.state.counts.fulls }) node ∙ ap (λ (k : Counts). record (released 0 (session_in a.state x) (node_of a.state m (Some x))) { fulls = risen k.fulls }) before) in
+        let ended : node_of c.state m (Some z) ≡ record (released 0 (session_in a.state x) (node_of a.state m (Some x))) { fulls = next_count a.state.counts.fulls } = fulls_node b.state c.state m (Some z) (Some z) refl after ∙ (ap (λ (n : Node). record n { fulls = next_count b.state.counts.fulls }) node ∙ ap (λ (k : Counts). record (released 0 (session_in a.state x) (node_of a.state m (Some x))) { fulls = next_count k.fulls }) before) in
         kept_of a c m m (Some x) (Some z) (File_call key 0) (Refused Full) (rose, same) (lets.whole, record { session = session_in a.state x; has = refl; after = ended }) passes (λ answered. absurd answered)
     go D.NoMemory after =
         let counts : c.state.counts ≡ a.state.counts = ap (λ (t : StoreState). t.counts) after ∙ before in
@@ -208,9 +208,9 @@ begin_refused a b m x role peers secure moment fault word last is whole refused 
         kept_of a b m m x x (Open_call role peers secure moment) (Refused (Disk b.state.counts.faults)) (inr (whole, broke.rose, broke.counts)) (inr (breaks (λ d. d ≡ state_in a.state) a.state b.state m x x (Open_call role peers secure moment) whole (own_same a.state b.state x) (λ d same. Before_it same) broke)) passes (λ answered. absurd answered)
     go D.Read broke = absurd broke
     go D.Full after =
-        let counts : b.state.counts ≡ record a.state.counts { fulls = risen a.state.counts.fulls } = ap (λ (t : StoreState). t.counts) after in
-        let fulls : b.state.counts.fulls ≡ risen a.state.counts.fulls = ap (λ (k : Counts). k.fulls) counts in
-        let rose : Rose a.state.counts.fulls b.state.counts.fulls = omega (arith, fulls) in
+        let counts : b.state.counts ≡ record a.state.counts { fulls = next_count a.state.counts.fulls } = ap (λ (t : StoreState). t.counts) after in
+        let fulls : b.state.counts.fulls ≡ next_count a.state.counts.fulls = ap (λ (k : Counts). k.fulls) counts in
+        let rose : Increased a.state.counts.fulls b.state.counts.fulls = omega (arith, fulls) in
         let same : b.state.counts ≡ record a.state.counts { fulls = b.state.counts.fulls } = counts ∙ ap (λ (n : ℕ). record a.state.counts { fulls = n }) (sym fulls) in
         kept_of a b m m x x (Open_call role peers secure moment) (Refused Full) (rose, same) (whole, last, fulls_node a.state b.state m x x refl after) passes (λ answered. absurd answered)
     go D.NoMemory after =

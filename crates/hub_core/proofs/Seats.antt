@@ -14,7 +14,7 @@ use Rattle.node_model.specs.Rows.{by, HeldElsewhere, PartNumber, Whole, Answered
 use Rattle.node_model.specs.Images.{OpensTo}
 use Rattle.node_model.specs.Stores.{Stored, StoreState, StoreStand, StoreTied, IfTold, IsPartNumber, known_in}
 use Rattle.std.specs.Prelude.{Result, Err}
-use Rattle.ftn_addr.specs.Counts.{Rose}
+use Rattle.ftn_addr.specs.Counts.{Increased}
 use Rattle.ftn_addr.specs.Files.{is_same}
 use Rattle.node_model.specs.declared.store.StoreFault.{StoreFault}
 use Rattle.node_model.specs.declared.store.StoreFault.TheVariants as D
@@ -157,7 +157,7 @@ empty_leaves a b c x key places number e o l m =
 
 pub broke_from : (P Q : Durable → Type 0) (old mid new : StoreState) → ((d : Durable) → P d → Q d) → mid.counts ≡ old.counts → Broke P mid new → Broke Q old new
 broke_from P Q old mid new f is b = record {
-  rose = subst (λ (c : Counts). Rose c.faults new.counts.faults) is b.rose;
+  rose = subst (λ (c : Counts). Increased c.faults new.counts.faults) is b.rose;
   counts = b.counts ∙ ap (λ (c : Counts). record c { faults = new.counts.faults; broken = Some new.counts.faults }) is;
   free = b.free;
   passes = f (state_in new) b.passes;

@@ -1,7 +1,7 @@
 -- What a session at a seat does with its store, before it is told as a step of the node (own).
 use Rattle.std.specs.Prelude.{◌≡◌, ◌⊎◌, ℕ, Bool, true, ◌+◌, ◌-◌, ◌<◌, ◌≤◌, List, [], ◌∷◌, ◌++◌, Option, Some, None, Result, Ok, Err, length}
 use Rattle.ftn_addr.specs.Address.{Address}
-use Rattle.ftn_addr.specs.Counts.{Rose, risen}
+use Rattle.ftn_addr.specs.Counts.{Increased, next_count}
 use Rattle.ftn_addr.specs.Key.{Key}
 use Rattle.node_model.specs.declared.words.Role.{Role}
 use Rattle.node_model.specs.declared.store.StoreFault.{StoreFault}
@@ -28,7 +28,7 @@ pub record Leaves (P : Durable → Type 0) (old new : StoreStand) : Type 0 where
 
 -- the disk failed: the count rose, the store is broken, and such a state is left
 pub record Broke (P : Durable → Type 0) (old new : StoreState) : Type 0 where
-  pub rose : Rose old.counts.faults new.counts.faults
+  pub rose : Increased old.counts.faults new.counts.faults
   pub counts : new.counts ≡ record old.counts { faults = new.counts.faults; broken = Some new.counts.faults }
   pub free : IsMarkFree new.content
   pub passes : P (told new.content).state
@@ -37,7 +37,7 @@ pub record Broke (P : Durable → Type 0) (old new : StoreState) : Type 0 where
 abbrev pub RefusedBy : (Durable → Type 0) → StoreFault → StoreState → StoreState → Type 0
 RefusedBy P Disk old new = Broke P old new
 RefusedBy P Read old new = ⊥
-RefusedBy P Full old new = new ≡ record old { counts = record old.counts { fulls = risen old.counts.fulls } }
+RefusedBy P Full old new = new ≡ record old { counts = record old.counts { fulls = next_count old.counts.fulls } }
 RefusedBy P NoMemory old new = new ≡ old
 
 -- the disk is the one cause

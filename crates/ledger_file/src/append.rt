@@ -3,7 +3,7 @@ ghost use Rattle.std.specs.Prelude.{◌≡◌, ◌⊎◌, ◌+◌, ◌-◌, ◌<
 ghost use Rattle.disk_model.specs.Causes.{HasCause};
 ghost use Rattle.disk_model.specs.Changes.{Every, Follows, Only};
 ghost use Rattle.disk_model.specs.Moments.{Now, Leaves};
-ghost use Rattle.ftn_addr.specs.Counts.{Rose};
+ghost use Rattle.ftn_addr.specs.Counts.{Increased};
 ghost use Rattle.ledger_file.specs.Ledger.{ledger_name, LedgerIs, Appends};
 ghost use Rattle.ledger_file.specs.Text.{IsPayload, ArePayloads, lists, records};
 ghost use Rattle.ledger_file.specs.declared.fault.AppendFault.TheVariants.{Disk};
@@ -30,7 +30,7 @@ impl Ledger {
         ensures stop { Leaves D.moment D.images (Appends self.old.payloads (payload.now ∷ [])) disk.old disk.new }
         ensures read { Follows (Only ledger_name) (D.files disk.old) (D.files disk.new) }
 
-        ensures disk { IsErrOf result AppendFault.Disk → Rose (D.fault_count disk.old) (D.fault_count disk.new) }
+        ensures disk { IsErrOf result AppendFault.Disk → Increased (D.fault_count disk.old) (D.fault_count disk.new) }
         ensures full { IsErrOf result AppendFault.Full ↔ (262144 < length self.old.payloads + max self.old.reserved 1) }
         ensures reserved { IfErr result (λ fault. 1 ≤ self.old.reserved → fault ≡ Disk) }
         ensures unchanged { IfErr result (λ fault. (fault ≡ Disk) ⊎ (disk.new ≡ disk.old)) }
@@ -69,7 +69,7 @@ impl Ledger {
         ensures stop { Leaves D.moment D.images (Appends self.old.payloads (lists payloads.now)) disk.old disk.new }
         ensures read { Follows (Only ledger_name) (D.files disk.old) (D.files disk.new) }
 
-        ensures disk { IsErrOf result AppendFault.Disk → Rose (D.fault_count disk.old) (D.fault_count disk.new) }
+        ensures disk { IsErrOf result AppendFault.Disk → Increased (D.fault_count disk.old) (D.fault_count disk.new) }
         ensures full { IsErrOf result AppendFault.Full ↔ (262144 < length self.old.payloads + max self.old.reserved (length payloads.now)) }
         ensures reserved { IfErr result (λ fault. length payloads.now ≤ self.old.reserved → fault ≡ Disk) }
         ensures unchanged { IfErr result (λ fault. (fault ≡ Disk) ⊎ (disk.new ≡ disk.old)) }

@@ -3,7 +3,7 @@ ghost use Rattle.std.specs.Prelude.{◌≡◌, ◌⊎◌, ◌≤◌, List, ℕ, 
 ghost use Rattle.disk_model.specs.Changes.{Every, Follows, Same, Stands, IsFree};
 ghost use Rattle.disk_model.specs.Moments.{Now, Leaves};
 ghost use Rattle.disk_model.specs.World.{World};
-ghost use Rattle.ftn_addr.specs.Counts.{Rose};
+ghost use Rattle.ftn_addr.specs.Counts.{Increased};
 ghost use Rattle.ledger_file.specs.Ledger.{ledger_name, LedgerIs, Makes};
 ghost use Rattle.ledger_file.specs.Reading.{Reads, Refuses};
 ghost use Rattle.ledger_file.specs.declared.fault.OpenFault.TheVariants.{Disk, NoMemory};
@@ -30,7 +30,7 @@ impl Ledger {
         // A fault is that of the bytes of a file that stands.
         ensures fault { IfErr result (λ fault. (fault ≡ Disk) ⊎ ((fault ≡ NoMemory) ⊎ Every (D.files disk.new) (Refuses fault))) }
         ensures stood { IfErr result (λ fault. (fault ≡ Disk) ⊎ ((fault ≡ NoMemory) ⊎ Every (D.files disk.old) (Stands ledger_name 0))) }
-        ensures disk { IsErrOf result OpenFault.Disk → Rose (D.fault_count disk.old) (D.fault_count disk.new) }
+        ensures disk { IsErrOf result OpenFault.Disk → Increased (D.fault_count disk.old) (D.fault_count disk.new) }
         ensures faults { D.fault_count disk.old ≤ D.fault_count disk.new }
         ensures calm { OnOk result (D.fault_count disk.new ≡ D.fault_count disk.old) }
 
@@ -73,7 +73,7 @@ fn make_new<D: Disk>(alloc: Global, disk: &mut D) -> Result<Records, OpenFault>
     ensures none { IfOk result (λ held. held.payloads ≡ []) }
     ensures durable { IfOk result (λ held. Every (Now D.moment D.images disk.new) (LedgerIs held.payloads)) }
     ensures fault { IfErr result (λ fault. (fault ≡ Disk) ⊎ (fault ≡ NoMemory)) }
-    ensures disk { IsErrOf result OpenFault.Disk → Rose (D.fault_count disk.old) (D.fault_count disk.new) }
+    ensures disk { IsErrOf result OpenFault.Disk → Increased (D.fault_count disk.old) (D.fault_count disk.new) }
     ensures faults { D.fault_count disk.old ≤ D.fault_count disk.new }
     ensures calm { OnOk result (D.fault_count disk.new ≡ D.fault_count disk.old) }
     ensures stop { Leaves D.moment D.images Makes disk.old disk.new }
@@ -93,7 +93,7 @@ fn read_standing<D: Disk>(alloc: Global, disk: &mut D, len: u64) -> Result<Recor
     ensures few { IfOk result (λ held. length held.payloads ≤ 262144) }
     ensures durable { IfOk result (λ held. Every (Now D.moment D.images disk.new) (LedgerIs held.payloads)) }
     ensures fault { IfErr result (λ fault. (fault ≡ Disk) ⊎ ((fault ≡ NoMemory) ⊎ Every (D.files disk.old) (Refuses fault))) }
-    ensures disk { IsErrOf result OpenFault.Disk → Rose (D.fault_count disk.old) (D.fault_count disk.new) }
+    ensures disk { IsErrOf result OpenFault.Disk → Increased (D.fault_count disk.old) (D.fault_count disk.new) }
     ensures faults { D.fault_count disk.old ≤ D.fault_count disk.new }
     ensures calm { OnOk result (D.fault_count disk.new ≡ D.fault_count disk.old) }
     ensures stop { Leaves D.moment D.images Same disk.old disk.new }

@@ -1,6 +1,6 @@
 -- A disk in memory: what a read gives, and what a stop may leave after so many of its calls (own).
 use Rattle.std.specs.Prelude.{◌≡◌, ◌⊎◌, ℕ, List, [], ◌∷◌, ◌++◌, ◌+◌, length, take, Some, None, Contains, Result, Ok, Err, MatchResult, IsErr}
-use Rattle.ftn_addr.specs.Counts.{risen}
+use Rattle.ftn_addr.specs.Counts.{next_count}
 use Rattle.ftn_addr.specs.declared.refusals.NoMemory.{NoMemory}
 use Rattle.disk_model.specs.World.{World}
 use Rattle.disk_model.specs.Changes.{OnOwn, OnOutside, Rewrites, Torn, Cut, Puts, PutsPart, Renames, Moves, Gives}
@@ -91,11 +91,11 @@ pub record Unnumbered (old new : MemDisk) : Type 0 where
 
 -- whether the next call is one of those that are to fail
 abbrev pub IsToFail : MemDisk → Type 0
-IsToFail d = Contains d.failing.items (risen (calls_in d.log.items))
+IsToFail d = Contains d.failing.items (next_count (calls_in d.log.items))
 
 -- A call whose number is one of those that are to fail fails. Another fails only for want of memory, and then it takes no
 -- number. Each failure is one fault more, and a call that finds no memory for its answer is none.
 abbrev pub FailsAsSet : Outcome → MemDisk → MemDisk → Type 0
 FailsAsSet Succeeds old new = (IsToFail old → ⊥) × Numbered old new × (new.faults ≡ old.faults)
-FailsAsSet Fails old new = ((IsToFail old × Numbered old new) ⊎ Unnumbered old new) × (new.faults ≡ risen old.faults)
+FailsAsSet Fails old new = ((IsToFail old × Numbered old new) ⊎ Unnumbered old new) × (new.faults ≡ next_count old.faults)
 FailsAsSet HasNoMemory old new = Unnumbered old new × (new.faults ≡ old.faults)

@@ -1,6 +1,6 @@
 //! Making a disk in memory, and noting its calls.
 ghost use Rattle.std.specs.Prelude.{◌≡◌, ◌≤◌, ℕ, count_by, [], ◌∷◌, ◌++◌, true, Some, None, Err, MatchResult, IfOk, OnOk, OnErr};
-ghost use Rattle.ftn_addr.specs.Counts.{risen};
+ghost use Rattle.ftn_addr.specs.Counts.{next_count};
 ghost use Rattle.disk_model.specs.Causes.{HasCause, outcome};
 ghost use Rattle.disk_model.specs.Causes.Outcome.{Fails};
 ghost use Rattle.disk_model.specs.Changes.{Every, Follows, Same, OnOutside, Puts};
@@ -100,7 +100,7 @@ impl MemDisk {
 
     // The number of the next call.
     fn next_number(&self) -> u64
-        ensures { result ≡ risen (calls_in self.now.log.items) }
+        ensures { result ≡ next_count (calls_in self.now.log.items) }
     {
         self.calls.saturating_add(1)
     }

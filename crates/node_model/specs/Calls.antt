@@ -1,7 +1,7 @@
 -- The calls of a desk with their answers, and their chain.
 use Rattle.std.specs.Prelude.{zero, suc, ◌≡◌, ◌≢◌, ◌⊎◌, ℕ, Bool, true, false, ◌+◌, ◌≤◌, List, [], ◌∷◌, Option, Some, None}
 use Rattle.ftn_addr.specs.Address.{Address}
-use Rattle.ftn_addr.specs.Counts.{Rose, risen}
+use Rattle.ftn_addr.specs.Counts.{Increased, next_count}
 use Rattle.ftn_addr.specs.Key.{Key}
 use Rattle.ftn_addr.specs.declared.source_file.Action.{Action}
 use Rattle.node_model.specs.declared.words.Flavour.{Flavour}
@@ -93,7 +93,7 @@ unheld_in (Some s) = Some (unheld s)
 -- the part that was held.
 pub record Breaks (seat : ℕ) (old : Node) (call : Call) (count : ℕ) (new : Node) : Type 0 where
   pub unbroken : old.broken ≡ None
-  pub rose : Rose old.faults count
+  pub rose : Increased old.faults count
   pub passes : Passes seat old call new.state
   pub broken : new.broken ≡ Some count
   pub faults : new.faults ≡ count
@@ -114,12 +114,12 @@ pub record FileRefused (seat fulls : ℕ) (old new : Node) : Type 0 where
 abbrev pub NotMade : ℕ → Node → Call → Fault → Node → Type 0
 NotMade seat old call (Disk count) new = ((old.broken ≡ Some count) × (new ≡ old)) ⊎ Breaks seat old call count new
 NotMade seat old call (Read count) new = ⊥
-NotMade seat old (File_call key offset) Full new = (old.broken ≡ None) × FileRefused seat (risen old.fulls) old new
+NotMade seat old (File_call key offset) Full new = (old.broken ≡ None) × FileRefused seat (next_count old.fulls) old new
 NotMade seat old (Knock_call role) Full new = ⊥
-NotMade seat old (Open_call role peers secure moment) Full new = (old.broken ≡ None) × (old.begun ≡ 4294967295) × (new ≡ record old { fulls = risen old.fulls })
+NotMade seat old (Open_call role peers secure moment) Full new = (old.broken ≡ None) × (old.begun ≡ 4294967295) × (new ≡ record old { fulls = next_count old.fulls })
 NotMade seat old (Data_call bytes) Full new = ⊥
 NotMade seat old Leave_call Full new = ⊥
-NotMade seat old call Full new = (old.broken ≡ None) × (new ≡ record old { fulls = risen old.fulls })
+NotMade seat old call Full new = (old.broken ≡ None) × (new ≡ record old { fulls = next_count old.fulls })
 NotMade seat old (File_call key offset) No_memory new = (old.broken ≡ None) × FileRefused seat old.fulls old new
 NotMade seat old (Knock_call role) No_memory new = ⊥
 NotMade seat old (Data_call bytes) No_memory new = ⊥
@@ -162,9 +162,9 @@ counts_of (Counts_alone c) = c
 abbrev pub Caused : Counts → Answer → Counts → Type 0
 Caused old (Refused (Disk count)) new =
     ((old.broken ≡ Some count) × (new ≡ old))
-    ⊎ ((old.broken ≡ None) × Rose old.faults count × (new ≡ record old { faults = count; broken = Some count }))
-Caused old (Refused (Read count)) new = Rose old.faults count × (new ≡ record old { faults = count })
-Caused old (Refused Full) new = Rose old.fulls new.fulls × (new ≡ record old { fulls = new.fulls })
+    ⊎ ((old.broken ≡ None) × Increased old.faults count × (new ≡ record old { faults = count; broken = Some count }))
+Caused old (Refused (Read count)) new = Increased old.faults count × (new ≡ record old { faults = count })
+Caused old (Refused Full) new = Increased old.fulls new.fulls × (new ≡ record old { fulls = new.fulls })
 Caused old answer new = new ≡ old
 
 pub record CountsRise (old new : Counts) : Type 0 where

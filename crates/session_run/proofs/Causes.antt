@@ -4,7 +4,7 @@ use Rattle.std.specs.Prelude.{MatchBool}
 use Rattle.ftn_addr.specs.Address.{Address, same_address}
 use Rattle.ftn_addr.specs.Frames.{FrameText, Command, Data}
 use Rattle.ftn_addr.specs.Key.{Key}
-use Rattle.ftn_addr.specs.Counts.{Rose}
+use Rattle.ftn_addr.specs.Counts.{Increased}
 use Rattle.binkp_args.specs.declared.fault.ArgFault.{ArgFault}
 use Rattle.binkp_args.specs.Command.{CommandText, command_of}
 use Rattle.node_model.specs.Lists.{without}
@@ -216,22 +216,22 @@ turn_finishes (Awaits_password peers) t row = subst (λ (x : Turn). Finished_alo
 
 -- Counts.
 
-pub rose_on : (a b c : ℕ) → Rose a b → Stays_or_rose b c → Rose a c
+pub rose_on : (a b c : ℕ) → Increased a b → Stays_or_rose b c → Increased a c
 rose_on a b c r (inl e) = omega (arith, r, e)
 rose_on a b c r (inr s) = omega (arith, r, s)
 
 stays_on : (a b c : ℕ) → Stays_or_rose a b → Stays_or_rose b c → Stays_or_rose a c
 stays_on a b c (inl e) (inl f) = inl (f ∙ e)
-stays_on a b c (inl e) (inr f) = inr (subst (λ x. Rose x c) e f)
+stays_on a b c (inl e) (inr f) = inr (subst (λ x. Increased x c) e f)
 stays_on a b c (inr e) next = inr (rose_on a b c e next)
 
-broke_on : (a b : Counts) (now : ℕ) (count : ℕ) → Stays_or_rose b.faults now → (a.broken ≡ Some count) ⊎ Rose a.faults b.faults → (a.broken ≡ Some count) ⊎ Rose a.faults now
+broke_on : (a b : Counts) (now : ℕ) (count : ℕ) → Stays_or_rose b.faults now → (a.broken ≡ Some count) ⊎ Increased a.faults b.faults → (a.broken ≡ Some count) ⊎ Increased a.faults now
 broke_on a b now count later (inl e) = inl e
 broke_on a b now count later (inr r) = inr (rose_on a.faults b.faults now r later)
 
 -- from counts that came from those before
-pub rose_from : (a b c : ℕ) → Stays_or_rose a b → Rose b c → Rose a c
-rose_from a b c (inl e) r = subst (λ x. Rose x c) e r
+pub rose_from : (a b c : ℕ) → Stays_or_rose a b → Increased b c → Increased a c
+rose_from a b c (inl e) r = subst (λ x. Increased x c) e r
 rose_from a b c (inr s) r = rose_on a b c s (inr r)
 
 pub since_same : (a : Counts) → Since a a
@@ -275,8 +275,8 @@ since_chain before a b (e ∷ es) s (mid, made, rest) = since_chain before mid b
 -- a refusal, by its count
 pub fault_cause : (a b c : Counts) (fault : Fault) → Since a b → Caused b (Refused fault) c → DeskCause (fault_end fault) a c
 fault_cause a b c (Disk count) s (inl same) = broke_on a b c.faults count (inl (ap (λ (x : Counts). x.faults) same.1)) (s.broke count same.0)
-fault_cause a b c (Disk count) s (inr broke) = inr (rose_from a.faults b.faults c.faults s.faults (subst (λ x. Rose b.faults x) (sym (ap (λ (x : Counts). x.faults) broke.2)) broke.1))
-fault_cause a b c (Read count) s read = inr (rose_from a.faults b.faults c.faults s.faults (subst (λ x. Rose b.faults x) (sym (ap (λ (x : Counts). x.faults) read.1)) read.0))
+fault_cause a b c (Disk count) s (inr broke) = inr (rose_from a.faults b.faults c.faults s.faults (subst (λ x. Increased b.faults x) (sym (ap (λ (x : Counts). x.faults) broke.2)) broke.1))
+fault_cause a b c (Read count) s read = inr (rose_from a.faults b.faults c.faults s.faults (subst (λ x. Increased b.faults x) (sym (ap (λ (x : Counts). x.faults) read.1)) read.0))
 fault_cause a b c Full s full = rose_from a.fulls b.fulls c.fulls s.fulls full.0
 fault_cause a b c No_memory s e = tt
 

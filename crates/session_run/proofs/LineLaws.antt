@@ -3,7 +3,7 @@ use Rattle.std.proofs.Common.{◌≡◌, ◌⊎◌, ◌∙◌, ℕ, ◌≤◌, B
 use Rattle.std.specs.Prelude.{nat_le, if◌then◌else◌}
 use Rattle.std.proofs.lemmas.List.{append-nil, take-append-drop}
 use Rattle.std.proofs.lemmas.Bool.{leb-true}
-use Rattle.ftn_addr.specs.Counts.{Rose, risen}
+use Rattle.ftn_addr.specs.Counts.{Increased, next_count}
 use Rattle.node_model.specs.Calls.{Event, Fault, Disk, Read, Full, No_memory, Answer, Queued, Let_in, Busy, Begun, Offered, Nothing, Came, Settled, Filed, More, Whole_now, Acted, Given, Held, Refused, Counts, Caused}
 use Rattle.binkp_link.specs.declared.link.ReadAnswer.{ReadAnswer}
 use Rattle.binkp_link.specs.declared.link.ReadAnswer.TheVariants as R
@@ -90,7 +90,7 @@ cond_ends false end goal before now x y = y
 
 pub read_ends : (wait : Bool) (old new : LineState) (answer : ReadAnswer) (buffer : List ℕ) (limit bytes before : ℕ) → IsRead wait old answer buffer new → old.ends ≡ before → EndCountAt (after_read answer limit bytes new.calm) before new.ends
 read_ends wait old new (R.Came n) buffer limit bytes before is e = cond_ends (nat_le limit bytes) E.Endless Taking before new.ends (is.ends ∙ e) (is.ends ∙ e)
-read_ends wait old new R.End buffer limit bytes before is e = is.ends ∙ ap risen e
+read_ends wait old new R.End buffer limit bytes before is e = is.ends ∙ ap next_count e
 read_ends wait old new R.NotYet buffer limit bytes before is e = is.ends ∙ e
 read_ends wait old new R.Quiet buffer limit bytes before is e = cond_ends (nat_le 60 new.calm) E.Quiet Taking before new.ends (is.ends ∙ e) (is.ends ∙ e)
 read_ends wait old new R.Failed buffer limit bytes before is e = is.ends ∙ e
@@ -133,7 +133,7 @@ write_line old new W.Failed left limit bytes before waits is le = omega (arith, 
 pub leave_ends : (end : End) (answer : Answer) (before now : ℕ) → EndCount end before now → EndCount (after_leave end answer) before now
 leave_ends end (Refused (Disk count)) before now e = turned end before now e
   where
-    turned : (end : End) (before now : ℕ) → EndCount end before now → (now ≡ before) ⊎ (now ≡ risen before)
+    turned : (end : End) (before now : ℕ) → EndCount end before now → (now ≡ before) ⊎ (now ≡ next_count before)
     turned E.Dropped before now e = inr e
     turned (E.DiskFault count) before now e = e
     turned E.Finished before now e = inl e
@@ -253,7 +253,7 @@ drain_whole old new W.Quiet left end before output sent is le = either_phase (na
     either_phase false t = tt
 drain_whole old new W.Failed left end before output sent is le = inr (inl (omega (arith, is.faults)))
 
-pub close_whole : (end : End) (before : ℕ) (line : LineState) (output sent : List ℕ) → LineCause end before line.faults line.calm → (is_mute end ≡ true) ⊎ (output ≡ sent) → (output ≡ sent) ⊎ (Rose before line.faults ⊎ (60 ≤ line.calm))
+pub close_whole : (end : End) (before : ℕ) (line : LineState) (output sent : List ℕ) → LineCause end before line.faults line.calm → (is_mute end ≡ true) ⊎ (output ≡ sent) → (output ≡ sent) ⊎ (Increased before line.faults ⊎ (60 ≤ line.calm))
 close_whole end before line output sent m (inr all) = inl all
 close_whole E.LineFault before line output sent m (inl mute) = inr (inl m)
 close_whole E.Quiet before line output sent m (inl mute) = inr (inr m)

@@ -1,6 +1,6 @@
 -- What holds of every session, in the subject's own words (own, after FTS-1026).
 use Rattle.std.specs.Prelude.{◌≡◌, ◌⊎◌, ℕ, ◌+◌, ◌≤◌, Bool, true, List, [], ◌∷◌, ◌++◌, length, Some}
-use Rattle.ftn_addr.specs.Counts.{Rose, risen}
+use Rattle.ftn_addr.specs.Counts.{Increased, next_count}
 use Rattle.ftn_addr.specs.Frames.{FrameText}
 use Rattle.binkp_frame.specs.Stream.{Begins}
 use Rattle.node_model.specs.Calls.{Counts, counts_of, DeskState, Chain, Event}
@@ -19,8 +19,8 @@ joined (piece ∷ pieces) = piece ++ joined pieces
 
 -- the count of ends rose exactly at Dropped, which a failing `leave` may turn into DiskFault
 abbrev pub EndCount : End → ℕ → ℕ → Type 0
-EndCount E.Dropped before now = now ≡ risen before
-EndCount (E.DiskFault count) before now = (now ≡ before) ⊎ (now ≡ risen before)
+EndCount E.Dropped before now = now ≡ next_count before
+EndCount (E.DiskFault count) before now = (now ≡ before) ⊎ (now ≡ next_count before)
 EndCount _ before now = now ≡ before
 
 abbrev pub EndCountAt : Phase → ℕ → ℕ → Type 0
@@ -31,7 +31,7 @@ EndCountAt _ before now = now ≡ before
 
 -- LineFault comes only where a fault of the line was counted, Quiet only where the line was quiet sixty times on end
 abbrev pub LineCause : End → (before now calm : ℕ) → Type 0
-LineCause E.LineFault before now calm = Rose before now
+LineCause E.LineFault before now calm = Increased before now
 LineCause E.Quiet before now calm = 60 ≤ calm
 LineCause _ before now calm = Unit {0}
 
@@ -43,8 +43,8 @@ LineCauseAt _ before now calm = Unit {0}
 
 -- DiskFault comes only where the store was broken before, or a fault of it was counted; LedgerFull only where a Full was
 abbrev pub DeskCause : End → (before now : Counts) → Type 0
-DeskCause (E.DiskFault count) before now = (before.broken ≡ Some count) ⊎ Rose before.faults now.faults
-DeskCause E.LedgerFull before now = Rose before.fulls now.fulls
+DeskCause (E.DiskFault count) before now = (before.broken ≡ Some count) ⊎ Increased before.faults now.faults
+DeskCause E.LedgerFull before now = Increased before.fulls now.fulls
 DeskCause _ before now = Unit {0}
 
 abbrev pub DeskCauseAt : Phase → (before now : Counts) → Type 0
@@ -88,18 +88,18 @@ OwnCauseAt _ setting stage frames taken sent = Unit {0}
 
 -- once closed, all was sent, or the line failed, or it was quiet sixty times on end
 abbrev pub WholeAt : Phase → ℕ → LineState → (output sent : List ℕ) → Type 0
-WholeAt (Closed end) before line output sent = (output ≡ sent) ⊎ (Rose before line.faults ⊎ (60 ≤ line.calm))
+WholeAt (Closed end) before line output sent = (output ≡ sent) ⊎ (Increased before line.faults ⊎ (60 ≤ line.calm))
 WholeAt _ before line output sent = Unit {0}
 
 -- a count stays or rises
 abbrev pub Stays_or_rose : ℕ → ℕ → Type 0
-Stays_or_rose before now = (now ≡ before) ⊎ Rose before now
+Stays_or_rose before now = (now ≡ before) ⊎ Increased before now
 
 -- counts now, and how they came from those before
 pub record Since (before now : Counts) : Type 0 where
   pub faults : Stays_or_rose before.faults now.faults
   pub fulls : Stays_or_rose before.fulls now.fulls
-  pub broke : (count : ℕ) → now.broken ≡ Some count → (before.broken ≡ Some count) ⊎ Rose before.faults now.faults
+  pub broke : (count : ℕ) → now.broken ≡ Some count → (before.broken ≡ Some count) ⊎ Increased before.faults now.faults
 
 -- what holds at each moment of a session that began over this line and this desk
 pub record Facts (alone : Bool) (line : LineState) (desk : DeskState) (w : World) : Type 0 where

@@ -1,5 +1,5 @@
 //! The calls of a disk and a yard, each counted where the system failed.
-ghost use Rattle.ftn_addr.specs.Counts.{risen};
+ghost use Rattle.ftn_addr.specs.Counts.{next_count};
 ghost use Rattle.std.specs.Prelude.{◌≡◌, Some, IfOk, IfErr, OnOk, OnErr};
 ghost use Rattle.disk_model.specs.Causes.{HasCause, ListsWithCause};
 
@@ -40,7 +40,7 @@ impl<R: Files + AllocGlobal + Clone + Drop> RealFolder<R> {
     }
 
     fn add_fault(&mut self, error: SystemError)
-        ensures counted { self.new.faults ≡ risen self.old.faults }
+        ensures counted { self.new.faults ≡ next_count self.old.faults }
         ensures kept { self.new.last_error ≡ Some error }
     {
         self.faults = self.faults.saturating_add(1);
@@ -50,7 +50,7 @@ impl<R: Files + AllocGlobal + Clone + Drop> RealFolder<R> {
     // Counts an answer where it is an error.
     fn count<T>(&mut self, answer: Answer<T>) -> Result<T, Failed>
         ensures ok { OnOk result (self.new.faults ≡ self.old.faults) }
-        ensures err { OnErr result (self.new.faults ≡ risen self.old.faults) }
+        ensures err { OnErr result (self.new.faults ≡ next_count self.old.faults) }
         ensures kept { IfErr answer (λ e. self.new.last_error ≡ Some e) }
         ensures cause { HasCause self.old.faults self.new.faults result }
     {
