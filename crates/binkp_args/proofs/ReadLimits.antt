@@ -17,17 +17,13 @@ use Rattle.binkp_args.specs.Command.{CommandText, command_text, worded, command_
 use Rattle.binkp_args.specs.Escape.{unescaped}
 use Rattle.binkp_args.specs.File.{or_missing, or_bad, word_at, number_at, name_of, key_words, offset_or_0, not_large, place_in, file_of, offered_of, wanted_of}
 use Rattle.binkp_args.specs.Limits.{IsFile, IsPlace, AreAddresses, HasFile, HasAddresses}
-use Rattle.binkp_args.specs.Reading.{◌>>=◌, Gives}
+use Rattle.ftn_addr.specs.Outcomes.{◌>>=◌, Gives}
+use Rattle.ftn_addr.proofs.Outcomes.{steps_ok}
 use Rattle.binkp_args.specs.Words.{words_of, without_end}
 use Rattle.binkp_args.specs.declared.command.Command.{Command}
 use Rattle.binkp_args.specs.declared.fault.ArgFault.{ArgFault}
-use Rattle.binkp_args.specs.declared.fault.ArgFault.TheVariants.{MissingWord, BadNumber, LongName, TooLarge, PastEnd, NoAddress}
+use Rattle.binkp_args.specs.declared.fault.ArgFault.TheVariants.{MissingWord, BadNumber, LongName, TooLarge, PastEnd, NoAddress, NoMemory}
 use Rattle.binkp_args.proofs.Unescaping.{unescaped_step}
-
--- a step that went well, and those behind it
-bound : {A B : Type 0} (r : Result A ArgFault) (f : A → Result B ArgFault) (b : B) → (r >>= f) ≡ Ok b → (a : A) × (r ≡ Ok a) × (f a ≡ Ok b)
-bound (Ok a) f b e = (a, refl, e)
-bound (Err fault) f b e = absurd (let clash : Err fault ≡ Ok b = e in cc)
 
 -- no word is empty
 abbrev pub AreWords : List (List ℕ) → Type 0
@@ -52,7 +48,7 @@ unescaped_some word some = rw (unescaped_step word some) (omega arith)
 number_small : (n : ℕ) (words : List (List ℕ)) (number : ℕ) → number_at n words ≡ Ok number → number ≤ 9223372036854775807
 unfolding number_at
 number_small n words number e =
-    let digits = bound (word_at n words) _ number e in
+    let digits = steps_ok (word_at n words) _ number e in
     go (saturated_number digits.0) digits.2
   where
     check : (v : ℕ) (b : Bool) → ltb 9223372036854775807 v ≡ b → (if b then Err (BadNumber n) else Ok v) ≡ Ok number → number ≤ 9223372036854775807
@@ -66,7 +62,7 @@ number_small n words number e =
 name_fits : (words : List (List ℕ)) (name : List ℕ) → AreWords words → name_of words ≡ Ok name → (0 < length name) × (length name ≤ 200)
 unfolding name_of
 name_fits words name are e =
-    let word = bound (word_at 1 words) _ name e in
+    let word = steps_ok (word_at 1 words) _ name e in
     go word.0 (word_some 1 words word.0 are word.1) (ltb 200 (length (unescaped word.0))) refl word.2
   where
     go : (word : List ℕ) → 0 < length word → (b : Bool) → ltb 200 (length (unescaped word)) ≡ b → (if b then Err LongName else Ok (unescaped word)) ≡ Ok name → (0 < length name) × (length name ≤ 200)
@@ -76,9 +72,9 @@ name_fits words name are e =
 key_fits : (words : List (List ℕ)) (key : Key) → AreWords words → key_words words ≡ Ok key → IsKey key × (key.time < 2 ^ 63)
 unfolding key_words
 key_fits words key are e =
-    let name = bound (name_of words) _ key e in
-    let size = bound (number_at 2 words) _ key name.2 in
-    let time = bound (number_at 3 words) _ key size.2 in
+    let name = steps_ok (name_of words) _ key e in
+    let size = steps_ok (number_at 2 words) _ key name.2 in
+    let time = steps_ok (number_at 3 words) _ key size.2 in
     let read : Key = record { name = name.0; size = size.0; time = time.0 } in
     let same : read ≡ key = cc in
     let fits = name_fits words name.0 are name.1 in
@@ -96,7 +92,7 @@ small_file key file fits e = go (ltb 2147483647 key.size) refl e
 inner_place : (key : Key) (offset : ℕ) (place : Key × ℕ) → IsKey key × (key.time < 2 ^ 63) → place_in key offset ≡ Ok place → IsPlace place.0 place.1
 unfolding place_in
 inner_place key offset place fits e =
-    let file = bound (not_large key) _ place e in
+    let file = steps_ok (not_large key) _ place e in
     go file.0 (small_file key file.0 fits file.1) (ltb file.0.size offset) refl file.2
   where
     go : (file : Key) → IsFile file → (b : Bool) → ltb file.size offset ≡ b → (if b then Err PastEnd else Ok (file, offset)) ≡ Ok place → IsPlace place.0 place.1
@@ -108,20 +104,20 @@ inner_place key offset place fits e =
 
 file_limits : (words : List (List ℕ)) (key : Key) → AreWords words → file_of words ≡ Ok key → IsFile key
 unfolding file_of
-file_limits words key are e = let read = bound (key_words words) _ key e in small_file read.0 key (key_fits words read.0 are read.1) read.2
+file_limits words key are e = let read = steps_ok (key_words words) _ key e in small_file read.0 key (key_fits words read.0 are read.1) read.2
 
 offered_limits : (words : List (List ℕ)) (place : Key × ℕ) → AreWords words → offered_of words ≡ Ok place → IsPlace place.0 place.1
 unfolding offered_of
 offered_limits words place are e =
-    let read = bound (key_words words) _ place e in
-    let offset = bound (offset_or_0 words) _ place read.2 in
+    let read = steps_ok (key_words words) _ place e in
+    let offset = steps_ok (offset_or_0 words) _ place read.2 in
     inner_place read.0 offset.0 place (key_fits words read.0 are read.1) offset.2
 
 wanted_limits : (words : List (List ℕ)) (place : Key × ℕ) → AreWords words → wanted_of words ≡ Ok place → IsPlace place.0 place.1
 unfolding wanted_of
 wanted_limits words place are e =
-    let read = bound (key_words words) _ place e in
-    let offset = bound (number_at 4 words) _ place read.2 in
+    let read = steps_ok (key_words words) _ place e in
+    let offset = steps_ok (number_at 4 words) _ place read.2 in
     inner_place read.0 offset.0 place (key_fits words read.0 are read.1) offset.2
 
 one_address : (home : Address) (word : List ℕ) (found : List Address) → IsAddress home → All IsAddress found → (r : Result Address AddrFault) → reading word home ≡ r → All IsAddress (cons_option (result_ok r) found)
@@ -163,11 +159,11 @@ one_of home c false here rest hit miss e = miss e
 worded_limits : (home : Address) (number : ℕ) (words : List (List ℕ)) (c : CommandText) → AreWords words → worded home number words ≡ Ok c → Within home c
 unfolding worded
 worded_limits home number words c are e =
-    let adr = λ (e : (addresses_of home words >>= (λ addresses. Ok (Adr addresses))) ≡ Ok c). (let b = bound (addresses_of home words) _ c e in known home (Adr b.0) c (tt, λ is. addresses_limits home words b.0 is b.1) b.2) in
-    let offered = λ (e : (offered_of words >>= (λ place. Ok (File place.0 place.1))) ≡ Ok c). (let b = bound (offered_of words) _ c e in known home (File b.0.0 b.0.1) c (offered_limits words b.0 are b.1, λ is. tt) b.2) in
-    let got = λ (e : (file_of words >>= (λ key. Ok (Got key))) ≡ Ok c). (let b = bound (file_of words) _ c e in known home (Got b.0) c (file_limits words b.0 are b.1, λ is. tt) b.2) in
-    let wanted = λ (e : (wanted_of words >>= (λ place. Ok (Get place.0 place.1))) ≡ Ok c). (let b = bound (wanted_of words) _ c e in known home (Get b.0.0 b.0.1) c (wanted_limits words b.0 are b.1, λ is. tt) b.2) in
-    let skip = λ (e : (file_of words >>= (λ key. Ok (Skip key))) ≡ Ok c). (let b = bound (file_of words) _ c e in known home (Skip b.0) c (file_limits words b.0 are b.1, λ is. tt) b.2) in
+    let adr = λ (e : (addresses_of home words >>= (λ addresses. Ok (Adr addresses))) ≡ Ok c). (let b = steps_ok (addresses_of home words) _ c e in known home (Adr b.0) c (tt, λ is. addresses_limits home words b.0 is b.1) b.2) in
+    let offered = λ (e : (offered_of words >>= (λ place. Ok (File place.0 place.1))) ≡ Ok c). (let b = steps_ok (offered_of words) _ c e in known home (File b.0.0 b.0.1) c (offered_limits words b.0 are b.1, λ is. tt) b.2) in
+    let got = λ (e : (file_of words >>= (λ key. Ok (Got key))) ≡ Ok c). (let b = steps_ok (file_of words) _ c e in known home (Got b.0) c (file_limits words b.0 are b.1, λ is. tt) b.2) in
+    let wanted = λ (e : (wanted_of words >>= (λ place. Ok (Get place.0 place.1))) ≡ Ok c). (let b = steps_ok (wanted_of words) _ c e in known home (Get b.0.0 b.0.1) c (wanted_limits words b.0 are b.1, λ is. tt) b.2) in
+    let skip = λ (e : (file_of words >>= (λ key. Ok (Skip key))) ≡ Ok c). (let b = steps_ok (file_of words) _ c e in known home (Skip b.0) c (file_limits words b.0 are b.1, λ is. tt) b.2) in
     one_of home c (eqb number 1) _ _ adr (one_of home c (eqb number 3) _ _ offered (one_of home c (eqb number 6) _ _ got (one_of home c (eqb number 9) _ _ wanted (one_of home c (eqb number 10) _ _ skip (known home (Other number) c (tt, λ is. tt)))))) e
 
 command_limits : (home : Address) (number : ℕ) (args : List ℕ) (c : CommandText) → command_of home number args ≡ Ok c → Within home c
@@ -177,10 +173,10 @@ command_limits home number args c e =
     let words = worded_limits home number (words_of text) c (words_are text) in
     one_of home c (eqb number 0) _ _ (known home (Nul text) c (tt, λ is. tt)) (one_of home c (eqb number 2) _ _ (known home (Pwd text) c (tt, λ is. tt)) (one_of home c (eqb number 4) _ _ (known home (Accept text) c (tt, λ is. tt)) (one_of home c (eqb number 5) _ _ (known home Eob c (tt, λ is. tt)) (one_of home c (eqb number 7) _ _ (known home (Error text) c (tt, λ is. tt)) (one_of home c (eqb number 8) _ _ (known home (Bsy text) c (tt, λ is. tt)) words))))) e
 
-pub file_within : (home : Address) (number : ℕ) (args : List ℕ) (read : Result Command ArgFault) → Gives command_text read (command_of home number args) → IfOk read (λ command. HasFile (command_text command))
+pub file_within : (home : Address) (number : ℕ) (args : List ℕ) (read : Result Command ArgFault) → Gives NoMemory command_text read (command_of home number args) → IfOk read (λ command. HasFile (command_text command))
 file_within home number args (Ok command) gives = (command_limits home number args (command_text command) gives).0
 file_within home number args (Err fault) gives = tt
 
-pub addresses_within : (home : Address) (number : ℕ) (args : List ℕ) (read : Result Command ArgFault) → Gives command_text read (command_of home number args) → IsAddress home → IfOk read (λ command. HasAddresses (command_text command))
+pub addresses_within : (home : Address) (number : ℕ) (args : List ℕ) (read : Result Command ArgFault) → Gives NoMemory command_text read (command_of home number args) → IsAddress home → IfOk read (λ command. HasAddresses (command_text command))
 addresses_within home number args (Ok command) gives is = (command_limits home number args (command_text command) gives).1 is
 addresses_within home number args (Err fault) gives is = tt

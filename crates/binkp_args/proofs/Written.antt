@@ -11,7 +11,7 @@ use Rattle.ftn_addr.specs.Address.{Address}
 use Rattle.ftn_addr.specs.Digits.{number_of, saturated_number}
 use Rattle.ftn_addr.specs.Key.{Key}
 use Rattle.ftn_addr.specs.Limits.{IsAddress}
-use Rattle.ftn_addr.specs.Reading.{domain_byte, is_domain}
+use Rattle.ftn_addr.specs.Domain.{domain_byte, is_domain}
 use Rattle.ftn_addr.specs.Writing.{canonical, point_text}
 use Rattle.ftn_addr.proofs.AddressText.{reading-canonical}
 use Rattle.binkp_args.specs.Addresses.{address_in, some_address}

@@ -4,7 +4,7 @@ use Rattle.ftn_addr.specs.Address.{Address, address}
 use Rattle.ftn_addr.specs.Key.{Key, key_of}
 use Rattle.binkp_args.specs.Addresses.{addresses_of}
 use Rattle.binkp_args.specs.File.{file_of, offered_of, wanted_of}
-use Rattle.binkp_args.specs.Reading.{◌>>=◌}
+use Rattle.ftn_addr.specs.Outcomes.{◌>>=◌}
 use Rattle.binkp_args.specs.Words.{without_end, words_of}
 use Rattle.binkp_args.specs.declared.command.Command.{Command}
 use Rattle.binkp_args.specs.declared.command.Command.TheVariants as code

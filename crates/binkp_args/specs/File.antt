@@ -3,7 +3,7 @@ use Rattle.std.specs.Prelude.{ℕ, ◌-◌, nat_lt, List, length, slice_get, Opt
 use Rattle.ftn_addr.specs.Digits.{saturated_number}
 use Rattle.ftn_addr.specs.Key.{Key}
 use Rattle.binkp_args.specs.Escape.{unescaped}
-use Rattle.binkp_args.specs.Reading.{◌>>=◌}
+use Rattle.ftn_addr.specs.Outcomes.{◌>>=◌}
 use Rattle.binkp_args.specs.declared.fault.ArgFault.{ArgFault}
 use Rattle.binkp_args.specs.declared.fault.ArgFault.TheVariants.{MissingWord, BadNumber, LongName, TooLarge, PastEnd}
 

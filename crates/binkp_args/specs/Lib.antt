@@ -3,6 +3,5 @@ pub mod Command
 pub mod Escape
 pub mod File
 pub mod Limits
-pub mod Reading
 pub mod Words
 pub mod Writing

@@ -3,7 +3,7 @@ ghost use Rattle.std.specs.Prelude.{◌≡◌, ◌++◌, map, OnOk};
 ghost use Rattle.std.specs.Option.{option_to_list};
 ghost use Rattle.ftn_addr.specs.Address.{address};
 ghost use Rattle.binkp_args.specs.Addresses.{address_in, addresses_of};
-ghost use Rattle.binkp_args.specs.Reading.{Gives};
+ghost use Rattle.ftn_addr.specs.Outcomes.{Gives};
 
 use crate::fault::ArgFault;
 use ftn_addr::{Addr, AddrFault, NoMemory, read_addr};
@@ -34,7 +34,7 @@ pub(crate) fn addresses_of(
     words: &[&[u8]],
     home: &Addr,
 ) -> Result<Vec<Addr>, ArgFault>
-    ensures { Gives (λ addrs. map address addrs.items) result (addresses_of (address home.now) (map (λ w. w.now) words.now)) }
+    ensures { Gives ArgFault.NoMemory (λ addrs. map address addrs.items) result (addresses_of (address home.now) (map (λ w. w.now) words.now)) }
 {
     let mut addrs = Vec::new(alloc);
     for word in words {

@@ -3,7 +3,7 @@ ghost use Rattle.ftn_addr.specs.Address.{address};
 ghost use Rattle.ftn_addr.specs.Limits.{IsAddress};
 ghost use Rattle.binkp_args.specs.Command.{command_text, worded, command_of};
 ghost use Rattle.binkp_args.specs.Limits.{HasFile, HasAddresses};
-ghost use Rattle.binkp_args.specs.Reading.{Gives};
+ghost use Rattle.ftn_addr.specs.Outcomes.{Gives};
 
 use crate::addresses::addresses_of;
 use crate::command::Command;
@@ -16,7 +16,7 @@ use std::alloc::Global;
 /// A command whose argument is words.
 #[tactic(auto, unfolding(crate::specs::Command::worded))]
 fn worded(alloc: Global, number: u8, words: &[&[u8]], home: &Addr) -> Result<Command, ArgFault>
-    ensures { Gives command_text result (worded (address home.now) number (map (λ w. w.now) words.now)) }
+    ensures { Gives ArgFault.NoMemory command_text result (worded (address home.now) number (map (λ w. w.now) words.now)) }
 {
     Ok(match number {
         1 => Command::Adr(addresses_of(alloc, words, home)?),
@@ -36,7 +36,7 @@ fn worded(alloc: Global, number: u8, words: &[&[u8]], home: &Addr) -> Result<Com
 
 #[tactic(auto, unfolding(crate::specs::Command::command_of))]
 fn command_of(alloc: Global, number: u8, args: &[u8], home: &Addr) -> Result<Command, ArgFault>
-    ensures { Gives command_text result (command_of (address home.now) number args.now) }
+    ensures { Gives ArgFault.NoMemory command_text result (command_of (address home.now) number args.now) }
 {
     let text = trimmed(args);
     match number {
@@ -66,7 +66,7 @@ pub fn read_command(
     args: &[u8],
     home: &Addr,
 ) -> Result<Command, ArgFault>
-    ensures reads { Gives command_text result (command_of (address home.now) number args.now) }
+    ensures reads { Gives ArgFault.NoMemory command_text result (command_of (address home.now) number args.now) }
     ensures files { IfOk result (λ command. HasFile (command_text command)) }
     ensures addresses { IsAddress (address home.now) → IfOk result (λ command. HasAddresses (command_text command)) }
 {

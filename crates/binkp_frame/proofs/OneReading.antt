@@ -1,5 +1,5 @@
 -- A stream has one reading, pieces add up, and what is sent is read.
-use Rattle.std.proofs.Common.{◌≡◌, ℕ, suc, ◌+◌, ◌*◌, ◌/◌, ◌%◌, ◌<◌, List, [], ◌∷◌, ◌++◌, length, take, drop, Bool, true, false, cond, refl, sym, ap, ◌∙◌, arith}
+use Rattle.std.proofs.Common.{◌≡◌, ℕ, suc, ◌+◌, ◌*◌, ◌/◌, ◌%◌, ◌<◌, ◌≤◌, List, [], ◌∷◌, ◌++◌, length, take, drop, Bool, true, false, cond, refl, sym, ap, ◌∙◌, arith}
 use Rattle.std.specs.List.{All, flat_map, filter_map}
 use Rattle.std.proofs.lemmas.List.{append_assoc, append-nil, take_at, drop_at, length-append}
 use Rattle.std.proofs.lemmas.List.Concat.{flat_map-append}
@@ -71,7 +71,7 @@ feeds_on old mid new stream piece rest left a b =
 sent : (frame : FrameText) → CanSend frame → (frame ∷ [] ≡ filter_map frame_in (block_of frame ∷ [])) × (length (block_of frame).body < 32768)
 sent (Command number args) can = (refl, omega arith)
 sent (Data []) can = absurd (omega arith)
-sent (Data (byte ∷ bytes)) can = (refl, can.1)
+sent (Data (byte ∷ bytes)) can = (refl, let within : length (byte ∷ bytes) ≤ 32767 = can.1 in omega arith)
 
 pub reads_sent : (frame : FrameText) → CanSend frame → Splits (frame_bytes frame) (frame ∷ []) []
 reads_sent frame can =

@@ -4,7 +4,7 @@ use Rattle.std.specs.Cmp.Lexicographic.{pointwise}
 use Rattle.std.specs.List.{starts_with}
 use Rattle.hex.specs.Hex.{encode_lower}
 use Rattle.cram_md5.specs.Hmac.{hmac}
-use Rattle.text_lines.specs.Case.{same_word}
+use Rattle.ftn_addr.specs.Case.{same_word}
 
 -- `CRAM-MD5-` and the digest's digits; the password is the key and the challenge the text
 abbrev pub answer : List ℕ → List ℕ → List ℕ

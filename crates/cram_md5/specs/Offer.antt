@@ -3,7 +3,7 @@ use Rattle.std.specs.Prelude.{ℕ, ◌+◌, ◌==◌, Bool, ◌&&◌, nat_lt, na
 use Rattle.std.specs.List.{slice_split, starts_with, list_any}
 use Rattle.std.specs.Result.{result_ok}
 use Rattle.hex.specs.Hex.{decode_of, encode_lower}
-use Rattle.text_lines.specs.Case.{same_word}
+use Rattle.ftn_addr.specs.Case.{same_word}
 
 -- an offer without where its challenge lies in memory
 pub data Offered : Type 0 where

@@ -4,9 +4,8 @@ ghost use Rattle.hex.specs.Hex.{encode_lower};
 ghost use Rattle.cram_md5.specs.Answer.{answer, is_answer};
 
 use crate::hmac;
-use ftn_addr::{Bytes, NoMemory};
+use ftn_addr::{Bytes, NoMemory, is_same_word};
 use std::alloc::Global;
-use text_lines::is_same_word;
 
 /// Adds the answer to a challenge at the end of `out`: `CRAM-MD5-` and the 32 lower case digits of the
 /// digest (FTS-1027).

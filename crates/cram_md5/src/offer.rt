@@ -3,10 +3,9 @@ ghost use Rattle.std.specs.Prelude.{◌≡◌, ◌≤◌, ◌==◌, ◌++◌, le
 ghost use Rattle.cram_md5.specs.Offer.{bytes_of, cram_word, names_md5, offer_of, offer_of_word, offer_spelling};
 ghost use Rattle.cram_md5.specs.Views.{offered};
 
-use ftn_addr::{Bytes, NoMemory};
+use ftn_addr::{Bytes, NoMemory, is_same_word};
 use hex::FromHexError;
 use std::alloc::Global;
-use text_lines::is_same_word;
 
 /// What the text of an M_NUL offers (FTS-1027).
 #[derive(Debug, Drop)]

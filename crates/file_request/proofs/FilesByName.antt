@@ -10,8 +10,8 @@ use Rattle.std.specs.Ordering.{is_eq, nat_cmp, on}
 use Rattle.std.proofs.lemmas.Map.Text.{is_eq-slice_cmp}
 use Rattle.std.proofs.lemmas.Slice.Eq.{bytes_eq-Decides}
 use Rattle.ftn_addr.specs.Content.{Content}
-use Rattle.text_lines.specs.Case.{same_word}
-use Rattle.text_lines.specs.Word.{words_of}
+use Rattle.ftn_addr.specs.Case.{same_word}
+use Rattle.ftn_addr.specs.Word.{words_of}
 use Rattle.file_request.specs.Answer.{asked_by, asked_word}
 use Rattle.file_request.specs.Files.{found, given_by, key_of, path_at}
 use Rattle.file_request.specs.Share.{SharedFolder, path_in}

@@ -2,7 +2,7 @@
 use Rattle.std.specs.Prelude.{ℕ, ◌-◌, ◌==◌, not, nat_lt, List, [], ◌∷◌, length, take, filter, Option, None, if◌then◌else◌}
 use Rattle.std.specs.List.{filter_map}
 use Rattle.std.specs.Str.Lines.{lines}
-use Rattle.text_lines.specs.Word.{words_of}
+use Rattle.ftn_addr.specs.Word.{words_of}
 use Rattle.file_request.specs.Share.{SharedFolder, path_in}
 
 pub record AnswerText : Type 0 where

@@ -1,6 +1,6 @@
 -- Shares, and the file that a word asks for (own).
 use Rattle.std.specs.Prelude.{ℕ, Bool, ◌&&◌, nat_le, List, [], ◌∷◌, ◌++◌, length, find, Option, Some, None}
-use Rattle.text_lines.specs.Case.{same_word}
+use Rattle.ftn_addr.specs.Case.{same_word}
 
 -- a folder, and the names of the files in it that may be requested
 pub record SharedFolder : Type 0 where

@@ -1,15 +1,14 @@
 //! The answer to a request.
 ghost use Rattle.std.specs.Prelude.{◌≡◌, ◌<◌, ◌≤◌, length, map, option_map, IsNone, IfOk};
-ghost use Rattle.text_lines.specs.Word.{words_of};
+ghost use Rattle.ftn_addr.specs.Word.{words_of};
 ghost use Rattle.file_request.specs.Answer.{answer_of, asked_word, answer_short};
 ghost use Rattle.file_request.specs.Files.{found};
 ghost use Rattle.file_request.specs.Views.{answered, shared};
 
 use crate::Share;
 use crate::files::{Files, files_of, path_in};
-use ftn_addr::{Bytes, NoMemory};
+use ftn_addr::{Bytes, NoMemory, first_line, words};
 use std::alloc::Global;
-use text_lines::{first_line, words};
 
 /// What a request gets.
 #[derive(Debug, Drop)]

@@ -3,7 +3,7 @@ use Rattle.std.specs.Prelude.{ℕ, ◌==◌, ◌||◌, nat_lt, List, [], ◌∷�
 use Rattle.std.specs.Str.Lines.{lines}
 use Rattle.ftn_addr.specs.declared.source_file.Action.{Action}
 use Rattle.ftn_addr.specs.declared.source_file.Action.TheVariants.{Leave, Delete, Cut}
-use Rattle.text_lines.specs.Blanks.{trimmed}
+use Rattle.ftn_addr.specs.Blanks.{trimmed}
 
 -- what a line asks for
 pub data FlowItem : Type 0 where

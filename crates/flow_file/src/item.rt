@@ -3,9 +3,8 @@ ghost use Rattle.std.specs.Prelude.{◌≡◌, option_map, IfOk};
 ghost use Rattle.flow_file.specs.Item.{flow_item, sent_by};
 ghost use Rattle.flow_file.specs.Views.{sent, item};
 
-use ftn_addr::{Action, Bytes, NoMemory};
+use ftn_addr::{Action, Bytes, NoMemory, trimmed};
 use std::alloc::Global;
-use text_lines::trimmed;
 
 /// What a line of a flow file asks for.
 #[derive(Debug, Drop)]

@@ -5,9 +5,8 @@ ghost use Rattle.flow_file.specs.Views.{item};
 
 use crate::FlowLine;
 use crate::item::flow_line;
-use ftn_addr::NoMemory;
+use ftn_addr::{NoMemory, first_line};
 use std::alloc::Global;
-use text_lines::first_line;
 
 /// One item for each line of a flow file, in the order of the lines. Its only error is want of memory.
 pub fn read_flow(alloc: Global, bytes: &[u8]) -> Result<Vec<FlowLine>, NoMemory>

@@ -13,7 +13,8 @@ use Rattle.std.proofs.lemmas.Str.Parse.{IsNumeralModel, numerals_by_fold}
 use Rattle.ftn_addr.specs.Address.{Address}
 use Rattle.ftn_addr.specs.Digits.{number_of}
 use Rattle.ftn_addr.specs.Parts.{cut, pieces_from, pieces_of}
-use Rattle.ftn_addr.specs.Reading.{number_at, domain_at, is_domain, reading}
+use Rattle.ftn_addr.specs.Domain.{is_domain}
+use Rattle.ftn_addr.specs.Reading.{number_at, domain_at, reading}
 use Rattle.ftn_addr.specs.Limits.{IsAddress}
 use Rattle.ftn_addr.specs.Writing.{canonical, point_text}
 

@@ -7,18 +7,16 @@ use Rattle.std.proofs.lemmas.Bool.{ltb-false, le-ltb, and_parts, and_from, agree
 use Rattle.std.proofs.lemmas.Bool.Decides.{nat_tests}
 use Rattle.std.proofs.lemmas.List.{length-map}
 use Rattle.ftn_addr.specs.Address.{Address, address}
+use Rattle.ftn_addr.proofs.Outcomes.{steps_ok}
 use Rattle.ftn_addr.specs.Digits.{is_numeral, number_of}
+use Rattle.ftn_addr.specs.Domain.{domain_byte, is_domain}
 use Rattle.ftn_addr.specs.Limits.{IsAddress}
+use Rattle.ftn_addr.specs.Outcomes.{Gives}
 use Rattle.ftn_addr.specs.Parts.{Piece, Pieces, pieces_of}
-use Rattle.ftn_addr.specs.Reading.{◌>>=◌, number_at, number_or, domain_at, domain_or, domain_byte, is_domain, reading, reading_of, Gives}
+use Rattle.ftn_addr.specs.Reading.{number_at, number_or, domain_at, domain_or, reading, reading_of}
 use Rattle.ftn_addr.specs.declared.addr.Addr.{Addr}
 use Rattle.ftn_addr.specs.declared.reading.AddrFault.{AddrFault}
-use Rattle.ftn_addr.specs.declared.reading.AddrFault.TheVariants.{NoNet, BadNumber, TooBig, BadDomain}
-
--- a step that went well, and those behind it
-bound : {A B : Type 0} (r : Result A AddrFault) (f : A → Result B AddrFault) (b : B) → (r >>= f) ≡ Ok b → (a : A) × (r ≡ Ok a) × (f a ≡ Ok b)
-bound (Ok a) f b e = (a, refl, e)
-bound (Err fault) f b e = absurd (let clash : Err fault ≡ Ok b = e in cc)
+use Rattle.ftn_addr.specs.declared.reading.AddrFault.TheVariants.{NoNet, BadNumber, TooBig, BadDomain, NoMemory}
 
 small_number : (p : Piece) (n : ℕ) → number_at p ≡ Ok n → n ≤ 32767
 unfolding number_at
@@ -87,11 +85,11 @@ good_or (Some piece) missing d good e = good_domain piece d e
 of_pieces : (p : Option Pieces) (home a : Address) → IsAddress home → reading_of p home ≡ Ok a → IsAddress a
 of_pieces None home a is e = absurd (let clash : Err NoNet ≡ Ok a = e in cc)
 of_pieces (Some pieces) home a is e =
-    let zone = bound (number_or pieces.zone home.zone) _ a e in
-    let net = bound (number_at pieces.net) _ a zone.2 in
-    let node = bound (number_at pieces.node) _ a net.2 in
-    let point = bound (number_or pieces.point 0) _ a node.2 in
-    let domain = bound (domain_or pieces.domain home.domain) _ a point.2 in
+    let zone = steps_ok (number_or pieces.zone home.zone) _ a e in
+    let net = steps_ok (number_at pieces.net) _ a zone.2 in
+    let node = steps_ok (number_at pieces.node) _ a net.2 in
+    let point = steps_ok (number_or pieces.point 0) _ a node.2 in
+    let domain = steps_ok (domain_or pieces.domain home.domain) _ a point.2 in
     let good = good_or pieces.domain home.domain domain.0 (is.domain, is.lower_case) domain.1 in
     let read : Address = record { zone = zone.0; net = net.0; node = node.0; point = point.0; domain = domain.0 } in
     let same : read ≡ a = cc in
@@ -107,6 +105,6 @@ of_pieces (Some pieces) home a is e =
 pub reading-limits : (text : List ℕ) (home a : Address) → IsAddress home → reading text home ≡ Ok a → IsAddress a
 reading-limits text home a is e = of_pieces (pieces_of text) home a is e
 
-pub read_within : (text : List ℕ) (home : Address) (read : Result Addr AddrFault) → Gives address read (reading text home) → IsAddress home → IfOk read (λ addr. IsAddress (address addr))
+pub read_within : (text : List ℕ) (home : Address) (read : Result Addr AddrFault) → Gives NoMemory address read (reading text home) → IsAddress home → IfOk read (λ addr. IsAddress (address addr))
 read_within text home (Ok addr) gives is = reading-limits text home (address addr) is gives
 read_within text home (Err fault) gives is = tt

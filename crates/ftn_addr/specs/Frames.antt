@@ -1,5 +1,6 @@
 -- Frames and how bytes spell them (FTS-1026).
-use Rattle.std.specs.Prelude.{ℕ, ◌+◌, ◌<◌, ◌/◌, ◌%◌, Bool, true, false, List, [], ◌∷◌, ◌++◌, length, Option, Some, None, if◌then◌else◌}
+use Rattle.std.specs.Prelude.{ℕ, ◌+◌, ◌<◌, ◌≤◌, ◌/◌, ◌%◌, Bool, true, false, List, [], ◌∷◌, ◌++◌, length, Option, Some, None, if◌then◌else◌}
+use Rattle.ftn_addr.specs.declared.limits.TheConstants.{MAX_FRAME_DATA}
 
 -- a frame without where it lies in memory
 pub data FrameText : Type 0 where
@@ -36,5 +37,5 @@ frame_bytes frame = spelling (block_of frame)
 
 -- a frame of some data, whose length fits its header
 abbrev pub CanSend : FrameText → Type 0
-CanSend (Command number args) = length args < 32767
-CanSend (Data bytes) = (0 < length bytes) × (length bytes < 32768)
+CanSend (Command number args) = length args < MAX_FRAME_DATA
+CanSend (Data bytes) = (0 < length bytes) × (length bytes ≤ MAX_FRAME_DATA)

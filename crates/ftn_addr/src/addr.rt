@@ -3,9 +3,6 @@ ghost use Rattle.std.specs.Prelude.{◌≡◌, IfOk};
 use crate::{Bytes, NoMemory};
 use std::alloc::Global;
 
-/// The greatest size of a file that is taken, in bytes.
-pub const MAX_SIZE: u64 = 2_147_483_647;
-
 /// A FidoNet address, `zone:net/node.point@domain`. Its numbers are at most 32,767.
 #[derive(Debug, PartialEq, Eq, PartialOrd, Ord, Drop)]
 pub struct Addr {

@@ -1,14 +1,14 @@
 ghost use Rattle.std.specs.Prelude.{◌≡◌, None, option_map, IfOk};
-ghost use Rattle.std.specs.List.{list_all};
 ghost use Rattle.ftn_addr.specs.Address.{address};
 ghost use Rattle.ftn_addr.specs.Content.{Content};
 ghost use Rattle.ftn_addr.specs.Limits.{IsAddress};
-ghost use Rattle.ftn_addr.specs.Reading.{Gives, domain_byte, number_at, number_or, is_domain, domain_at, domain_or, reading};
+ghost use Rattle.ftn_addr.specs.Outcomes.{Gives};
+ghost use Rattle.ftn_addr.specs.Reading.{number_at, number_or, domain_at, domain_or, reading};
 ghost use Rattle.ftn_addr.specs.Views.{piece, pieces};
 ghost use Rattle.ftn_addr.specs.declared.reading.AddrFault.TheVariants.{NoMemory as OutOfMemory};
 
 use crate::part::{Part, Parts};
-use crate::{Addr, Bytes, NoMemory, read_digits};
+use crate::{Addr, Bytes, MAX_ADDRESS_NUMBER, NoMemory, is_domain, read_digits};
 use std::alloc::Global;
 use thiserror::Error;
 
@@ -41,7 +41,7 @@ fn number(part: Part<'_>) -> Result<u16, AddrFault>
 {
     let place = part.place as u64;
     let number = read_digits(part.bytes).ok_or(AddrFault::BadNumber(place))?;
-    if number > 32_767 {
+    if number > u64::from(MAX_ADDRESS_NUMBER) {
         return Err(AddrFault::TooBig(place));
     }
     Ok(number as u16)
@@ -56,27 +56,9 @@ fn number_or(part: Option<Part<'_>>, missing: u16) -> Result<u16, AddrFault>
     }
 }
 
-fn is_domain_byte(byte: u8) -> bool
-    ensures { result ≡ domain_byte byte }
-{
-    byte.is_ascii_alphanumeric() || matches!(byte, b'-' | b'_' | b'.')
-}
-
-fn are_domain_bytes(bytes: &[u8]) -> bool
-    ensures { result ≡ list_all domain_byte bytes.now }
-{
-    bytes.iter().all(|byte| is_domain_byte(*byte))
-}
-
-fn is_domain(bytes: &[u8]) -> bool
-    ensures { result ≡ is_domain bytes.now }
-{
-    !bytes.is_empty() && bytes.len() <= 32 && are_domain_bytes(bytes)
-}
-
 #[tactic(auto, unfolding(crate::specs::Reading::domain_at))]
 fn domain(alloc: Global, part: Part<'_>) -> Result<Bytes, AddrFault>
-    ensures { Gives (λ (b : Content). b.list) result (domain_at (piece part.entry)) }
+    ensures { Gives AddrFault.NoMemory (λ (b : Content). b.list) result (domain_at (piece part.entry)) }
 {
     if !is_domain(part.bytes) {
         return Err(AddrFault::BadDomain(part.place as u64));
@@ -85,7 +67,7 @@ fn domain(alloc: Global, part: Part<'_>) -> Result<Bytes, AddrFault>
 }
 
 fn domain_or(alloc: Global, part: Option<Part<'_>>, missing: &Bytes) -> Result<Bytes, AddrFault>
-    ensures { Gives (λ (b : Content). b.list) result (domain_or (option_map piece part.entry) missing.now.list) }
+    ensures { Gives AddrFault.NoMemory (λ (b : Content). b.list) result (domain_or (option_map piece part.entry) missing.now.list) }
 {
     match part {
         Some(part) => domain(alloc, part),
@@ -94,7 +76,7 @@ fn domain_or(alloc: Global, part: Option<Part<'_>>, missing: &Bytes) -> Result<B
 }
 
 fn spelled(alloc: Global, text: &[u8], home: &Addr) -> Result<Addr, AddrFault>
-    ensures { Gives address result (reading text.now (address home.now)) }
+    ensures { Gives AddrFault.NoMemory address result (reading text.now (address home.now)) }
 {
     let parts = Parts::of(text).ok_or(AddrFault::NoNet)?;
     let zone = number_or(parts.zone, home.zone)?;
@@ -114,7 +96,7 @@ fn spelled(alloc: Global, text: &[u8], home: &Addr) -> Result<Addr, AddrFault>
 /// Reads an address. What the text leaves out is the home's, and a missing point is 0; the leftmost bad
 /// part is told. Of a home within the limits only addresses within the limits are read.
 pub fn read_addr(alloc: Global, text: &[u8], home: &Addr) -> Result<Addr, AddrFault>
-    ensures reads { Gives address result (reading text.now (address home.now)) }
+    ensures reads { Gives AddrFault.NoMemory address result (reading text.now (address home.now)) }
     ensures limits { IsAddress (address home.now) → IfOk result (λ addr. IsAddress (address addr)) }
 {
     spelled(alloc, text, home)

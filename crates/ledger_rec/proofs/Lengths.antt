@@ -9,7 +9,7 @@ use Rattle.std.proofs.lemmas.List.{length-append, length-map}
 use Rattle.ftn_addr.specs.Address.{Address}
 use Rattle.ftn_addr.specs.Key.{Key}
 use Rattle.ftn_addr.specs.Limits.{IsAddress, IsKey}
-use Rattle.ftn_addr.specs.Reading.{is_domain}
+use Rattle.ftn_addr.specs.Domain.{is_domain}
 use Rattle.ftn_addr.specs.Writing.{canonical, point_text}
 use Rattle.ledger_rec.specs.Limits.{Fits}
 use Rattle.ledger_rec.specs.Record.{RecordText, Queue, Done, Received, Refused, Mark, Taken, Acted, Answered}

@@ -1,5 +1,5 @@
 -- The bytes of a record are read as that record.
-use Rattle.std.proofs.Common.{◌≡◌, ℕ, ◌<◌, ◌≤◌, ◌^◌, Bool, true, false, eqb, ltb, List, [], ◌∷◌, ◌++◌, length, Result, Ok, Err, refl, sym, ap, ◌∙◌, subst, arith, append_assoc, nat_eq}
+use Rattle.std.proofs.Common.{◌≡◌, inl, inr, ℕ, ◌<◌, ◌≤◌, ◌^◌, Bool, true, false, eqb, ltb, List, [], ◌∷◌, ◌++◌, length, Result, Ok, Err, refl, sym, ap, ◌∙◌, subst, arith, append_assoc, nat_eq}
 use Rattle.std.specs.Int.{w16, w32, w64, from_be_bytes}
 use Rattle.std.specs.Cmp.Lexicographic.{pointwise}
 use Rattle.std.proofs.lemmas.Bool.{le-leb, le-ltb, eq-eqb}
@@ -12,11 +12,12 @@ use Rattle.ftn_addr.specs.Limits.{IsAddress, IsKey}
 use Rattle.ftn_addr.specs.Writing.{canonical}
 use Rattle.ledger_rec.proofs.Lengths.{canonical_short}
 use Rattle.ledger_rec.specs.Limits.{Fits, HasNumbers, HasTime, IsNewFile, IsReceived, IsRefused, IsMark}
-use Rattle.ledger_rec.specs.Reading.{◌>>=◌, Gives, Read, bytes_at, byte_at, short_at, number_at, wide_at, canonical_at, address_at, key_at, path_at, new_file_at, received_at, refused_at, mark_at, pair_at, one_at, fields_at, record_at}
+use Rattle.ftn_addr.specs.Outcomes.{◌>>=◌, Gives}
+use Rattle.ledger_rec.specs.Reading.{Read, bytes_at, byte_at, short_at, number_at, wide_at, canonical_at, address_at, key_at, path_at, new_file_at, received_at, refused_at, mark_at, pair_at, one_at, fields_at, record_at}
 use Rattle.ledger_rec.specs.Record.{record_of, NewFileText, ReceivedText, RefusedText, MarkText, RecordText, Queue, Done, Received, Refused, Mark, Taken, Acted, Answered}
 use Rattle.ledger_rec.specs.Spelling.{number_bytes, short_bytes, wide_bytes, address_bytes, key_bytes, path_bytes, flag_byte, field_bytes, spelling, Spells, SpellsNone}
 use Rattle.ledger_rec.specs.declared.fault.RecFault.{RecFault}
-use Rattle.ledger_rec.specs.declared.fault.RecFault.TheVariants.{BadRecord}
+use Rattle.ledger_rec.specs.declared.fault.RecFault.TheVariants.{BadRecord, NoMemory}
 use Rattle.ledger_rec.specs.declared.record.Record.{Record}
 
 bytes_again : (front rest : List ℕ) (len : ℕ) → length front ≡ len → bytes_at len (front ++ rest) ≡ Ok (front, rest)
@@ -156,14 +157,13 @@ record-spelling home (Answered receipt) fits numbers = rw (one_again receipt num
 record_of_payload : (home : Address) (payload : List ℕ) (r : RecordText) → HasNumbers r → Spells r payload → record_at home payload ≡ Ok r
 record_of_payload home payload r numbers spells = ap (λ (l : List ℕ). record_at home l) spells.text ∙ record-spelling home r spells.fits numbers
 
-pub read_again : (home : Address) (payload : List ℕ) (read : Result Record RecFault) → Gives record_of read (record_at home payload) → (r : RecordText) → HasNumbers r → Spells r payload → Gives record_of read (Ok r)
-read_again home payload read gives r numbers spells = subst (λ (told : Result RecordText RecFault). Gives record_of read told) (record_of_payload home payload r numbers spells) gives
+pub read_again : (home : Address) (payload : List ℕ) (read : Result Record RecFault) → Gives NoMemory record_of read (record_at home payload) → (r : RecordText) → HasNumbers r → Spells r payload → Gives NoMemory record_of read (Ok r)
+read_again home payload read gives r numbers spells = subst (λ (told : Result RecordText RecFault). Gives NoMemory record_of read told) (record_of_payload home payload r numbers spells) gives
 
-pub read_none : (home : Address) (payload : List ℕ) (read : Result Record RecFault) → Gives record_of read (record_at home payload) → read ≡ Err BadRecord → SpellsNone payload
+pub read_none : (home : Address) (payload : List ℕ) (read : Result Record RecFault) → Gives NoMemory record_of read (record_at home payload) → read ≡ Err BadRecord → SpellsNone payload
 read_none home payload read gives bad r numbers spells =
-    let none : Gives record_of (Err BadRecord) (Ok r) = subst (λ (x : Result Record RecFault). Gives record_of x (Ok r)) bad (read_again home payload read gives r numbers spells) in
-    let clash : Ok r ≡ Err BadRecord = none in
-    cc
+    let none : Gives NoMemory record_of (Err BadRecord) (Ok r) = subst (λ (x : Result Record RecFault). Gives NoMemory record_of x (Ok r)) bad (read_again home payload read gives r numbers spells) in
+    elim none as (λ _. ⊥) [ inl e ↦ (let clash : BadRecord ≡ NoMemory = e in cc) | inr e ↦ (let clash : Ok r ≡ Err BadRecord = e in cc) ]
 
 pub one_record : (payload : List ℕ) (r s : RecordText) → HasNumbers r → HasNumbers s → Spells r payload → Spells s payload → r ≡ s
 one_record payload r s first second one two =

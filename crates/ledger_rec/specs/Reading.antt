@@ -4,26 +4,13 @@ use Rattle.std.specs.Int.{w16, w32, w64, from_be_bytes}
 use Rattle.std.specs.Cmp.Lexicographic.{pointwise}
 use Rattle.ftn_addr.specs.Address.{Address}
 use Rattle.ftn_addr.specs.Key.{Key}
+use Rattle.ftn_addr.specs.Outcomes.{◌>>=◌}
 use Rattle.ftn_addr.specs.Reading.{reading}
 use Rattle.ftn_addr.specs.Writing.{canonical}
 use Rattle.ftn_addr.specs.declared.reading.AddrFault.{AddrFault}
 use Rattle.ledger_rec.specs.Record.{NewFileText, ReceivedText, RefusedText, MarkText, RecordText, Queue, Done, Received, Refused, Mark, Taken, Acted, Answered}
 use Rattle.ledger_rec.specs.declared.fault.RecFault.{RecFault}
 use Rattle.ledger_rec.specs.declared.fault.RecFault.TheVariants.{BadRecord, NoMemory}
-
--- What was returned, seen by view, is what reading gives, unless memory ran out.
-abbrev pub Fails : {Y : Type 0} → RecFault → Result Y RecFault → Type 0
-Fails NoMemory read = Unit {0}
-Fails BadRecord read = read ≡ Err BadRecord
-
-abbrev pub Gives : {X Y : Type 0} → (X → Y) → Result X RecFault → Result Y RecFault → Type 0
-Gives view (Ok x) read = read ≡ Ok (view x)
-Gives view (Err fault) read = Fails fault read
-
-infixl 10 ◌>>=◌
-abbrev pub ◌>>=◌ : {A B : Type 0} → Result A RecFault → (A → Result B RecFault) → Result B RecFault
-(Ok x) >>= f = f x
-(Err fault) >>= f = Err fault
 
 -- what was read, and what is left behind it
 abbrev pub Read : Type 0 → Type 0

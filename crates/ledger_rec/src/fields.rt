@@ -6,7 +6,8 @@ ghost use Rattle.ftn_addr.specs.Key.{key_of};
 ghost use Rattle.ftn_addr.specs.Limits.{IsAddress, IsKey};
 ghost use Rattle.ftn_addr.specs.Writing.{canonical};
 ghost use Rattle.ledger_rec.specs.Limits.{HasShortNumbers};
-ghost use Rattle.ledger_rec.specs.Reading.{Gives, if_canonical, bytes_at, byte_at, short_at, number_at, wide_at, canonical_at, address_at, key_at, path_at};
+ghost use Rattle.ftn_addr.specs.Outcomes.{Gives};
+ghost use Rattle.ledger_rec.specs.Reading.{if_canonical, bytes_at, byte_at, short_at, number_at, wide_at, canonical_at, address_at, key_at, path_at};
 ghost use Rattle.ledger_rec.specs.Spelling.{number_bytes, wide_bytes, short_bytes, address_bytes, key_bytes, path_bytes};
 
 use crate::RecFault;
@@ -16,7 +17,7 @@ use std::alloc::Global;
 /// So many bytes, and what is left behind them.
 #[tactic(auto, unfolding(crate::specs::Reading::bytes_at))]
 fn bytes_at(bytes: &[u8], len: usize) -> Result<(&[u8], &[u8]), RecFault>
-    ensures gives { Gives (λ x. (x.0.now, x.1.now)) result (bytes_at len bytes.now) }
+    ensures gives { Gives RecFault.NoMemory (λ x. (x.0.now, x.1.now)) result (bytes_at len bytes.now) }
     ensures spelled { IfOk result (λ x. bytes.now ≡ x.0.now ++ x.1.now) }
     ensures len { IfOk result (λ x. length x.0.now ≡ len) }
 {
@@ -29,7 +30,7 @@ fn bytes_at(bytes: &[u8], len: usize) -> Result<(&[u8], &[u8]), RecFault>
 /// A byte from `low` to `high`.
 #[tactic(auto, unfolding(crate::specs::Reading::byte_at))]
 pub(crate) fn byte_at(bytes: &[u8], low: u8, high: u8) -> Result<(u8, &[u8]), RecFault>
-    ensures gives { Gives (λ x. (x.0, x.1.now)) result (byte_at low high bytes.now) }
+    ensures gives { Gives RecFault.NoMemory (λ x. (x.0, x.1.now)) result (byte_at low high bytes.now) }
     ensures spelled { IfOk result (λ x. bytes.now ≡ x.0 ∷ x.1.now) }
     ensures low { IfOk result (λ x. low ≤ x.0) }
     ensures high { IfOk result (λ x. x.0 ≤ high) }
@@ -48,7 +49,7 @@ pub(crate) fn byte_at(bytes: &[u8], low: u8, high: u8) -> Result<(u8, &[u8]), Re
 
 #[tactic(auto, unfolding(crate::specs::Reading::short_at))]
 fn short_at(bytes: &[u8]) -> Result<(u16, &[u8]), RecFault>
-    ensures gives { Gives (λ x. (x.0, x.1.now)) result (short_at bytes.now) }
+    ensures gives { Gives RecFault.NoMemory (λ x. (x.0, x.1.now)) result (short_at bytes.now) }
     ensures spelled { IfOk result (λ x. bytes.now ≡ short_bytes x.0 ++ x.1.now) }
 {
     let (front, rest) = bytes_at(bytes, 2)?;
@@ -58,7 +59,7 @@ fn short_at(bytes: &[u8]) -> Result<(u16, &[u8]), RecFault>
 /// A number of four bytes.
 #[tactic(auto, unfolding(crate::specs::Reading::number_at))]
 pub(crate) fn number_at(bytes: &[u8]) -> Result<(u32, &[u8]), RecFault>
-    ensures gives { Gives (λ x. (x.0, x.1.now)) result (number_at bytes.now) }
+    ensures gives { Gives RecFault.NoMemory (λ x. (x.0, x.1.now)) result (number_at bytes.now) }
     ensures spelled { IfOk result (λ x. bytes.now ≡ number_bytes x.0 ++ x.1.now) }
 {
     let (front, rest) = bytes_at(bytes, 4)?;
@@ -69,7 +70,7 @@ pub(crate) fn number_at(bytes: &[u8]) -> Result<(u32, &[u8]), RecFault>
 /// A number of eight bytes.
 #[tactic(auto, unfolding(crate::specs::Reading::wide_at))]
 pub(crate) fn wide_at(bytes: &[u8]) -> Result<(u64, &[u8]), RecFault>
-    ensures gives { Gives (λ x. (x.0, x.1.now)) result (wide_at bytes.now) }
+    ensures gives { Gives RecFault.NoMemory (λ x. (x.0, x.1.now)) result (wide_at bytes.now) }
     ensures spelled { IfOk result (λ x. bytes.now ≡ wide_bytes x.0 ++ x.1.now) }
 {
     let (front, rest) = bytes_at(bytes, 8)?;
@@ -81,7 +82,7 @@ pub(crate) fn wide_at(bytes: &[u8]) -> Result<(u64, &[u8]), RecFault>
 
 /// The address, where this is its canonical text.
 fn if_canonical(alloc: Global, addr: Addr, text: &[u8]) -> Result<Addr, RecFault>
-    ensures gives { Gives address result (if_canonical text.now (Ok (address addr))) }
+    ensures gives { Gives RecFault.NoMemory address result (if_canonical text.now (Ok (address addr))) }
     ensures same { IfOk result (λ a. a ≡ addr) }
     ensures spelled { IfOk result (λ a. text.now ≡ canonical (address a)) }
     ensures short { IfOk result (λ a. HasShortNumbers (address a)) }
@@ -98,7 +99,7 @@ fn if_canonical(alloc: Global, addr: Addr, text: &[u8]) -> Result<Addr, RecFault
 /// The address whose canonical text this is.
 #[tactic(auto, unfolding(crate::specs::Reading::canonical_at))]
 fn canonical_at(alloc: Global, text: &[u8], home: &Addr) -> Result<Addr, RecFault>
-    ensures gives { Gives address result (canonical_at (address home.now) text.now) }
+    ensures gives { Gives RecFault.NoMemory address result (canonical_at (address home.now) text.now) }
     ensures spelled { IfOk result (λ a. text.now ≡ canonical (address a)) }
     ensures limits { IfOk result (λ a. IsAddress (address a)) }
 {
@@ -121,7 +122,7 @@ pub(crate) fn address_at<'a>(
     bytes: &'a [u8],
     home: &Addr,
 ) -> Result<(Addr, &'a [u8]), RecFault>
-    ensures gives { Gives (λ x. (address x.0, x.1.now)) result (address_at (address home.now) bytes.now) }
+    ensures gives { Gives RecFault.NoMemory (λ x. (address x.0, x.1.now)) result (address_at (address home.now) bytes.now) }
     ensures spelled { IfOk result (λ x. bytes.now ≡ address_bytes (address x.0) ++ x.1.now) }
     ensures limits { IfOk result (λ x. IsAddress (address x.0)) }
 {
@@ -134,7 +135,7 @@ pub(crate) fn address_at<'a>(
 /// One byte of length, a name of 1 to 200 bytes, the size and the time.
 #[tactic(auto, unfolding(crate::specs::Reading::key_at))]
 pub(crate) fn key_at<'a>(alloc: Global, bytes: &'a [u8]) -> Result<(FileKey, &'a [u8]), RecFault>
-    ensures gives { Gives (λ x. (key_of x.0, x.1.now)) result (key_at bytes.now) }
+    ensures gives { Gives RecFault.NoMemory (λ x. (key_of x.0, x.1.now)) result (key_at bytes.now) }
     ensures spelled { IfOk result (λ x. bytes.now ≡ key_bytes (key_of x.0) ++ x.1.now) }
     ensures limits { IfOk result (λ x. IsKey (key_of x.0)) }
 {
@@ -153,7 +154,7 @@ pub(crate) fn key_at<'a>(alloc: Global, bytes: &'a [u8]) -> Result<(FileKey, &'a
 /// Two bytes of length, and at most 1,024 bytes.
 #[tactic(auto, unfolding(crate::specs::Reading::path_at))]
 pub(crate) fn path_at<'a>(alloc: Global, bytes: &'a [u8]) -> Result<(Bytes, &'a [u8]), RecFault>
-    ensures gives { Gives (λ (x : Content × _). (x.0.list, x.1.now)) result (path_at bytes.now) }
+    ensures gives { Gives RecFault.NoMemory (λ (x : Content × _). (x.0.list, x.1.now)) result (path_at bytes.now) }
     ensures spelled { IfOk result (λ x. bytes.now ≡ path_bytes x.0.list ++ x.1.now) }
     ensures limits { IfOk result (λ x. length x.0.list ≤ 1024) }
 {

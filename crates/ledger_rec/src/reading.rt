@@ -2,7 +2,8 @@
 ghost use Rattle.std.specs.Prelude.{◌≡◌, ◌++◌, Ok, IfOk, IsErrOf};
 ghost use Rattle.ftn_addr.specs.Address.{address};
 ghost use Rattle.ledger_rec.specs.Limits.{HasNumbers, IsNewFile, IsReceived, IsRefused, IsMark};
-ghost use Rattle.ledger_rec.specs.Reading.{Gives, new_file_at, received_at, refused_at, mark_at, pair_at, one_at, fields_at, record_at};
+ghost use Rattle.ftn_addr.specs.Outcomes.{Gives};
+ghost use Rattle.ledger_rec.specs.Reading.{new_file_at, received_at, refused_at, mark_at, pair_at, one_at, fields_at, record_at};
 ghost use Rattle.ledger_rec.specs.Record.{RecordText, Queue, Received, Refused, Mark, record_of, new_file, received, refused, mark};
 ghost use Rattle.ledger_rec.specs.Spelling.{Spells, SpellsNone, field_bytes, number_bytes};
 ghost use Rattle.ledger_rec.specs.declared.fault.RecFault.TheVariants.{BadRecord as NoRecord};
@@ -14,7 +15,7 @@ use std::alloc::Global;
 
 #[tactic(auto, unfolding(crate::specs::Reading::new_file_at))]
 fn new_file_at(alloc: Global, bytes: &[u8], home: &Addr) -> Result<NewFileRec, RecFault>
-    ensures gives { Gives new_file result (new_file_at (address home.now) bytes.now) }
+    ensures gives { Gives RecFault.NoMemory new_file result (new_file_at (address home.now) bytes.now) }
     ensures spelled { IfOk result (λ r. bytes.now ≡ field_bytes (Queue (new_file r))) }
     ensures limits { IfOk result (λ r. IsNewFile (new_file r)) }
 {
@@ -40,7 +41,7 @@ fn new_file_at(alloc: Global, bytes: &[u8], home: &Addr) -> Result<NewFileRec, R
 
 #[tactic(auto, unfolding(crate::specs::Reading::received_at))]
 fn received_at(alloc: Global, bytes: &[u8], home: &Addr) -> Result<ReceivedRec, RecFault>
-    ensures gives { Gives received result (received_at (address home.now) bytes.now) }
+    ensures gives { Gives RecFault.NoMemory received result (received_at (address home.now) bytes.now) }
     ensures spelled { IfOk result (λ r. bytes.now ≡ field_bytes (Received (received r))) }
     ensures limits { IfOk result (λ r. IsReceived (received r)) }
 {
@@ -64,7 +65,7 @@ fn received_at(alloc: Global, bytes: &[u8], home: &Addr) -> Result<ReceivedRec, 
 
 #[tactic(auto, unfolding(crate::specs::Reading::refused_at))]
 fn refused_at(alloc: Global, bytes: &[u8], home: &Addr) -> Result<RefusedRec, RecFault>
-    ensures gives { Gives refused result (refused_at (address home.now) bytes.now) }
+    ensures gives { Gives RecFault.NoMemory refused result (refused_at (address home.now) bytes.now) }
     ensures spelled { IfOk result (λ r. bytes.now ≡ field_bytes (Refused (refused r))) }
     ensures limits { IfOk result (λ r. IsRefused (refused r)) }
 {
@@ -86,7 +87,7 @@ fn refused_at(alloc: Global, bytes: &[u8], home: &Addr) -> Result<RefusedRec, Re
 
 #[tactic(auto, unfolding(crate::specs::Reading::mark_at))]
 fn mark_at(alloc: Global, bytes: &[u8], home: &Addr) -> Result<MarkRec, RecFault>
-    ensures gives { Gives mark result (mark_at (address home.now) bytes.now) }
+    ensures gives { Gives RecFault.NoMemory mark result (mark_at (address home.now) bytes.now) }
     ensures spelled { IfOk result (λ r. bytes.now ≡ field_bytes (Mark (mark r))) }
     ensures limits { IfOk result (λ r. IsMark (mark r)) }
 {
@@ -109,7 +110,7 @@ fn mark_at(alloc: Global, bytes: &[u8], home: &Addr) -> Result<MarkRec, RecFault
 /// Two numbers and nothing else.
 #[tactic(auto, unfolding(crate::specs::Reading::pair_at))]
 fn pair_at(bytes: &[u8]) -> Result<(u32, u32), RecFault>
-    ensures gives { Gives (λ x. (x.0, x.1)) result (pair_at bytes.now) }
+    ensures gives { Gives RecFault.NoMemory (λ x. (x.0, x.1)) result (pair_at bytes.now) }
     ensures spelled { IfOk result (λ x. bytes.now ≡ number_bytes x.0 ++ number_bytes x.1) }
 {
     let (first, rest) = number_at(bytes)?;
@@ -124,7 +125,7 @@ fn pair_at(bytes: &[u8]) -> Result<(u32, u32), RecFault>
 /// A number and nothing else.
 #[tactic(auto, unfolding(crate::specs::Reading::one_at))]
 fn one_at(bytes: &[u8]) -> Result<u32, RecFault>
-    ensures gives { Gives (λ n. n) result (one_at bytes.now) }
+    ensures gives { Gives RecFault.NoMemory (λ n. n) result (one_at bytes.now) }
     ensures spelled { IfOk result (λ n. bytes.now ≡ number_bytes n) }
 {
     let (number, rest) = number_at(bytes)?;
@@ -137,7 +138,7 @@ fn one_at(bytes: &[u8]) -> Result<u32, RecFault>
 
 #[tactic(auto, unfolding(crate::specs::Reading::record_at, crate::specs::Reading::fields_at))]
 fn record_at(alloc: Global, payload: &[u8], home: &Addr) -> Result<Record, RecFault>
-    ensures gives { Gives record_of result (record_at (address home.now) payload.now) }
+    ensures gives { Gives RecFault.NoMemory record_of result (record_at (address home.now) payload.now) }
     ensures spelled { IfOk result (λ r. Spells (record_of r) payload.now) }
 {
     let (kind, bytes) = byte_at(payload, 0, 255)?;
@@ -164,7 +165,7 @@ fn record_at(alloc: Global, payload: &[u8], home: &Addr) -> Result<Record, RecFa
 /// [`RecFault::BadRecord`] comes exactly where the payload spells no record.
 pub fn read_record(alloc: Global, payload: &[u8], home: &Addr) -> Result<Record, RecFault>
     ensures read { IfOk result (λ rec. Spells (record_of rec) payload.now) }
-    ensures again { (r : RecordText) → HasNumbers r → Spells r payload.now → Gives record_of result (Ok r) }
+    ensures again { (r : RecordText) → HasNumbers r → Spells r payload.now → Gives RecFault.NoMemory record_of result (Ok r) }
     ensures bad { IsErrOf result NoRecord → SpellsNone payload.now }
 {
     record_at(alloc, payload, home)

@@ -3,10 +3,12 @@ use Rattle.std.specs.Prelude.{ℕ, Bool, false, not, ◌&&◌, nat_lt, List, [],
 use Rattle.std.specs.Char.{to_ascii_lowercase}
 use Rattle.std.specs.Result.{result_ok}
 use Rattle.ftn_addr.specs.Address.{Address}
-use Rattle.ftn_addr.specs.Reading.{is_domain, reading}
-use Rattle.text_lines.specs.Case.{same_word}
-use Rattle.text_lines.specs.Word.{words_of}
-use Rattle.mail_conf.specs.Cause.{◌>>=◌}
+use Rattle.ftn_addr.specs.Domain.{is_domain}
+use Rattle.ftn_addr.specs.Reading.{reading}
+use Rattle.ftn_addr.specs.Case.{same_word}
+use Rattle.ftn_addr.specs.Word.{words_of}
+use Rattle.ftn_addr.specs.Outcomes.{◌>>=◌}
+use Rattle.ftn_addr.specs.declared.limits.TheConstants.{MAX_ADDRESS_NUMBER}
 use Rattle.mail_conf.specs.Values.{before_comment, number_in, once, word_at}
 use Rattle.mail_conf.specs.declared.cause.ConfCause.{ConfCause}
 use Rattle.mail_conf.specs.declared.cause.ConfCause.TheVariants.{BadAddress}
@@ -32,7 +34,7 @@ domain_line given words = do
   base ← word_at words 1
   zone ← word_at words 2
   free ← once given
-  if not (is_domain name) then Err BadAddress else (number_in zone 0 32767 >>= λ n. Ok (record { name = map to_ascii_lowercase name; base = base; zone = n }))
+  if not (is_domain name) then Err BadAddress else (number_in zone 0 MAX_ADDRESS_NUMBER >>= λ n. Ok (record { name = map to_ascii_lowercase name; base = base; zone = n }))
 
 -- the words of a `domain` line that names no alias, without the first
 abbrev pub domain_words : List (List ℕ) → Option (List (List ℕ))
@@ -61,7 +63,7 @@ home_of (line ∷ lines) = home_with (domain_words (words_of (before_comment lin
 
 abbrev pub address_or : Option Address → Result Address ConfCause
 address_or None = Err BadAddress
-address_or (Some a) = if nat_lt 32767 a.zone then Err BadAddress else Ok a
+address_or (Some a) = if nat_lt MAX_ADDRESS_NUMBER a.zone then Err BadAddress else Ok a
 
 -- the address of a word, with a zone of its own or that of the home
 unfoldable pub address_at : Address → List ℕ → Result Address ConfCause

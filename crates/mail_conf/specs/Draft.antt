@@ -1,7 +1,7 @@
 -- Settings as far as their lines were taken (own).
 use Rattle.std.specs.Prelude.{ℕ, Bool, false, List, [], ◌∷◌, ◌++◌, Option, Some, None, is_some, Result, Ok, if◌then◌else◌}
 use Rattle.ftn_addr.specs.Address.{Address}
-use Rattle.mail_conf.specs.Cause.{◌>>=◌}
+use Rattle.ftn_addr.specs.Outcomes.{◌>>=◌}
 use Rattle.mail_conf.specs.Domain.{DomainText, address_at, domain_line, is_alias}
 use Rattle.mail_conf.specs.Host.{NodeText, node_line}
 use Rattle.mail_conf.specs.Values.{number_once, text_of, word_at, word_once}

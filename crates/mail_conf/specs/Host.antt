@@ -3,7 +3,7 @@ use Rattle.std.specs.Prelude.{ℕ, ◌+◌, ◌==◌, Bool, ◌&&◌, ◌||◌, 
 use Rattle.std.specs.Cmp.Lexicographic.{pointwise}
 use Rattle.std.specs.List.{list_any, starts_with}
 use Rattle.ftn_addr.specs.Address.{Address, same_address}
-use Rattle.mail_conf.specs.Cause.{◌>>=◌}
+use Rattle.ftn_addr.specs.Outcomes.{◌>>=◌}
 use Rattle.mail_conf.specs.Domain.{address_at}
 use Rattle.mail_conf.specs.Values.{number_in, once, word_at}
 use Rattle.mail_conf.specs.declared.cause.ConfCause.{ConfCause}

@@ -1,7 +1,7 @@
 -- One line of the settings (own).
 use Rattle.std.specs.Prelude.{ℕ, List, [], ◌∷◌, Option, Some, None, Result, Ok, Err, if◌then◌else◌}
 use Rattle.ftn_addr.specs.Address.{Address}
-use Rattle.text_lines.specs.Word.{first_word, words_of}
+use Rattle.ftn_addr.specs.Word.{first_word, words_of}
 use Rattle.mail_conf.specs.Draft.{DraftText, list_taken, number_taken, path_taken, text_taken}
 use Rattle.mail_conf.specs.Values.{before_comment}
 use Rattle.mail_conf.specs.Words.{is_passed_over, list_word, number_word, path_word, text_word}

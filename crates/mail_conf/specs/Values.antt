@@ -1,8 +1,8 @@
 -- The values of a line: texts, paths and numbers (own).
 use Rattle.std.specs.Prelude.{ℕ, ◌-◌, ◌==◌, Bool, ◌&&◌, nat_le, nat_lt, List, length, take, drop, slice_index, slice_get, position, Option, Some, None, Result, Ok, Err, if◌then◌else◌}
 use Rattle.ftn_addr.specs.Digits.{saturated_number}
-use Rattle.text_lines.specs.Blanks.{trimmed}
-use Rattle.mail_conf.specs.Cause.{◌>>=◌}
+use Rattle.ftn_addr.specs.Blanks.{trimmed}
+use Rattle.ftn_addr.specs.Outcomes.{◌>>=◌}
 use Rattle.mail_conf.specs.declared.cause.ConfCause.{ConfCause}
 use Rattle.mail_conf.specs.declared.cause.ConfCause.TheVariants.{MissingWord, BadNumber, Twice}
 

@@ -1,6 +1,6 @@
 -- The words that begin a line, with the case of letters ignored (own, after binkd's).
 use Rattle.std.specs.Prelude.{ℕ, Bool, ◌||◌, List, codes, Option, Some, None, if◌then◌else◌}
-use Rattle.text_lines.specs.Case.{same_word}
+use Rattle.ftn_addr.specs.Case.{same_word}
 use Rattle.mail_conf.specs.declared.words.TextWord.{TextWord}
 use Rattle.mail_conf.specs.declared.words.TextWord.TheVariants.{Sysname, Sysop, Location, Nodeinfo}
 use Rattle.mail_conf.specs.declared.words.PathWord.{PathWord}

@@ -1,18 +1,18 @@
 //! The `domain` line, and the home that addresses without a zone or a domain take.
 ghost use Rattle.std.specs.Prelude.{◌≡◌, map, option_map, IfOk};
-ghost use Rattle.std.specs.List.{list_all};
 ghost use Rattle.std.specs.Str.Lines.{lines};
 ghost use Rattle.ftn_addr.specs.Address.{address};
-ghost use Rattle.ftn_addr.specs.Reading.{domain_byte, is_domain};
-ghost use Rattle.mail_conf.specs.Cause.{Gives};
+ghost use Rattle.ftn_addr.specs.Outcomes.{Gives};
 ghost use Rattle.mail_conf.specs.Domain.{address_at, domain_line, domain_words, home_from, home_of, is_alias};
 ghost use Rattle.mail_conf.specs.Views.{domain_text};
 
 use crate::ConfCause;
 use crate::values::{before_comment, number_in, once, word_at};
-use ftn_addr::{Addr, AddrFault, Bytes, NoMemory, read_addr};
+use ftn_addr::{
+    Addr, AddrFault, Bytes, MAX_ADDRESS_NUMBER, NoMemory, first_line, is_domain, is_same_word,
+    read_addr, words,
+};
 use std::alloc::Global;
-use text_lines::{first_line, is_same_word, words};
 
 /// What a `domain` line sets.
 #[derive(Debug, Drop)]
@@ -20,24 +20,6 @@ pub(crate) struct DomainLine {
     pub name: Bytes,
     pub base: Bytes,
     pub zone: u16,
-}
-
-fn is_domain_byte(byte: u8) -> bool
-    ensures { result ≡ domain_byte byte }
-{
-    byte.is_ascii_alphanumeric() || matches!(byte, b'-' | b'_' | b'.')
-}
-
-fn are_domain_bytes(bytes: &[u8]) -> bool
-    ensures { result ≡ list_all domain_byte bytes.now }
-{
-    bytes.iter().all(|byte| is_domain_byte(*byte))
-}
-
-fn is_domain(bytes: &[u8]) -> bool
-    ensures { result ≡ is_domain bytes.now }
-{
-    !bytes.is_empty() && bytes.len() <= 32 && are_domain_bytes(bytes)
 }
 
 /// Whether the words behind `domain` only name another domain's alias.
@@ -57,7 +39,7 @@ pub(crate) fn domain_line(
     given: bool,
     words: &[&[u8]],
 ) -> Result<DomainLine, ConfCause>
-    ensures { Gives domain_text result (domain_line given (map (λ word. word.now) words.now)) }
+    ensures { Gives ConfCause.NoMemory domain_text result (domain_line given (map (λ word. word.now) words.now)) }
 {
     let name = word_at(words, 0)?;
     let base = word_at(words, 1)?;
@@ -66,7 +48,7 @@ pub(crate) fn domain_line(
     if !is_domain(name) {
         return Err(ConfCause::BadAddress);
     }
-    let zone = number_in(zone, 0, 32_767)?;
+    let zone = number_in(zone, 0, u64::from(MAX_ADDRESS_NUMBER))?;
     Ok(DomainLine {
         name: Bytes::lower_case(alloc, name)?,
         base: Bytes::from_slice(alloc, base)?,
@@ -132,10 +114,10 @@ pub(crate) fn home_of(alloc: Global, text: &[u8]) -> Result<Addr, NoMemory>
 /// The address of a word, which has a zone of its own or that of the home.
 #[tactic(auto, unfolding(crate::specs::Domain::address_at))]
 pub(crate) fn address_at(alloc: Global, home: &Addr, word: &[u8]) -> Result<Addr, ConfCause>
-    ensures { Gives address result (address_at (address home.now) word.now) }
+    ensures { Gives ConfCause.NoMemory address result (address_at (address home.now) word.now) }
 {
     match read_addr(alloc, word, home) {
-        Ok(addr) if addr.zone <= 32_767 => Ok(addr),
+        Ok(addr) if addr.zone <= MAX_ADDRESS_NUMBER => Ok(addr),
         Err(AddrFault::NoMemory) => Err(ConfCause::NoMemory),
         _ => Err(ConfCause::BadAddress),
     }

@@ -1,7 +1,7 @@
 //! Settings as far as their lines were taken.
 ghost use Rattle.std.specs.Prelude.{◌≡◌, map};
 ghost use Rattle.ftn_addr.specs.Address.{address};
-ghost use Rattle.mail_conf.specs.Cause.{Gives};
+ghost use Rattle.ftn_addr.specs.Outcomes.{Gives};
 ghost use Rattle.mail_conf.specs.Draft.{addresses_from, empty_draft, list_taken, number_taken, path_taken, text_taken};
 ghost use Rattle.mail_conf.specs.Drafted.{drafted};
 
@@ -70,7 +70,7 @@ pub(crate) fn take_text(
     word: TextWord,
     rest: &[u8],
 ) -> Result<(), ConfCause>
-    ensures { Gives (λ _. drafted draft.new) result (text_taken word rest.now (drafted draft.old)) }
+    ensures { Gives ConfCause.NoMemory (λ _. drafted draft.new) result (text_taken word rest.now (drafted draft.old)) }
 {
     match word {
         TextWord::Sysname => {
@@ -95,7 +95,7 @@ pub(crate) fn take_path(
     word: PathWord,
     words: &[&[u8]],
 ) -> Result<(), ConfCause>
-    ensures { Gives (λ _. drafted draft.new) result
+    ensures { Gives ConfCause.NoMemory (λ _. drafted draft.new) result
         (path_taken word (map (λ word. word.now) words.now) (drafted draft.old)) }
 {
     match word {
@@ -117,7 +117,7 @@ pub(crate) fn take_number(
     word: NumberWord,
     words: &[&[u8]],
 ) -> Result<(), ConfCause>
-    ensures { Gives (λ _. drafted draft.new) result
+    ensures { Gives ConfCause.NoMemory (λ _. drafted draft.new) result
         (number_taken word (map (λ word. word.now) words.now) (drafted draft.old)) }
 {
     match word {
@@ -156,7 +156,7 @@ fn push_addresses(
     words: &[&[u8]],
     addresses: &mut Vec<Addr>,
 ) -> Result<(), ConfCause>
-    ensures { Gives (λ _. map address addresses.new.items) result
+    ensures { Gives ConfCause.NoMemory (λ _. map address addresses.new.items) result
         (addresses_from (address home.now) (map address addresses.old.items) (map (λ word. word.now) words.now)) }
 {
     for word in words {
@@ -174,7 +174,7 @@ pub(crate) fn take_list(
     word: ListWord,
     words: &[&[u8]],
 ) -> Result<(), ConfCause>
-    ensures { Gives (λ _. drafted draft.new) result
+    ensures { Gives ConfCause.NoMemory (λ _. drafted draft.new) result
         (list_taken word (address home.now) (map (λ word. word.now) words.now) (drafted draft.old)) }
 {
     match word {

@@ -1,7 +1,7 @@
 //! One line of the settings.
 ghost use Rattle.std.specs.Prelude.{map};
 ghost use Rattle.ftn_addr.specs.Address.{address};
-ghost use Rattle.mail_conf.specs.Cause.{Gives};
+ghost use Rattle.ftn_addr.specs.Outcomes.{Gives};
 ghost use Rattle.mail_conf.specs.Drafted.{drafted};
 ghost use Rattle.mail_conf.specs.Line.{line_taken, word_taken};
 
@@ -9,9 +9,8 @@ use crate::ConfCause;
 use crate::draft::{Draft, take_list, take_number, take_path, take_text};
 use crate::values::before_comment;
 use crate::words::{is_passed_over, list_word, number_word, path_word, text_word};
-use ftn_addr::Addr;
+use ftn_addr::{Addr, first_word, words};
 use std::alloc::Global;
-use text_lines::{first_word, words};
 
 /// Takes a line by its first word. The others come as words and as they stand.
 fn take_word(
@@ -22,7 +21,7 @@ fn take_word(
     words: &[&[u8]],
     rest: &[u8],
 ) -> Result<(), ConfCause>
-    ensures { Gives (λ _. drafted draft.new) result
+    ensures { Gives ConfCause.NoMemory (λ _. drafted draft.new) result
         (word_taken (address home.now) word.now (map (λ word. word.now) words.now) rest.now (drafted draft.old)) }
 {
     if let Some(word) = text_word(word) {
@@ -52,7 +51,7 @@ pub(crate) fn take_line(
     draft: &mut Draft,
     line: &[u8],
 ) -> Result<(), ConfCause>
-    ensures { Gives (λ _. drafted draft.new) result
+    ensures { Gives ConfCause.NoMemory (λ _. drafted draft.new) result
         (line_taken (address home.now) line.now (drafted draft.old)) }
 {
     let content = before_comment(line);

@@ -13,9 +13,8 @@ use crate::domain::{DomainLine, home_of};
 use crate::draft::{Draft, empty_draft};
 use crate::lines::take_line;
 use crate::{Conf, ConfCause, ConfFault};
-use ftn_addr::{Addr, Bytes, NoMemory};
+use ftn_addr::{Addr, Bytes, NoMemory, first_line};
 use std::alloc::Global;
-use text_lines::first_line;
 
 /// The longest settings, in bytes.
 const MAX_TEXT: usize = 1_048_576;

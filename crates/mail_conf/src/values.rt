@@ -1,12 +1,11 @@
 //! The values of a line: texts, paths and numbers.
 ghost use Rattle.std.specs.Prelude.{◌≡◌, ◌≤◌, ◌==◌, map, position, IfOk};
-ghost use Rattle.mail_conf.specs.Cause.{Gives};
+ghost use Rattle.ftn_addr.specs.Outcomes.{Gives};
 ghost use Rattle.mail_conf.specs.Values.{before_comment, number_in, number_once, once, text_of, unquoted, word_at, word_once};
 
 use crate::ConfCause;
-use ftn_addr::{Bytes, read_digits};
+use ftn_addr::{Bytes, read_digits, trimmed};
 use std::alloc::Global;
-use text_lines::trimmed;
 
 fn comment_mark(line: &[u8]) -> Option<usize>
     ensures { result ≡ position (λ byte. byte == 35) line.now }
@@ -37,7 +36,7 @@ fn unquoted(text: &[u8]) -> &[u8]
 /// The word at a place, counted from 0.
 #[tactic(auto, unfolding(crate::specs::Values::word_at))]
 pub(crate) fn word_at<'a>(words: &[&'a [u8]], i: usize) -> Result<&'a [u8], ConfCause>
-    ensures { Gives (λ word. word.now) result (word_at (map (λ word. word.now) words.now) i) }
+    ensures { Gives ConfCause.NoMemory (λ word. word.now) result (word_at (map (λ word. word.now) words.now) i) }
 {
     match words.get(i) {
         Some(word) => Ok(*word),
@@ -47,7 +46,7 @@ pub(crate) fn word_at<'a>(words: &[&'a [u8]], i: usize) -> Result<&'a [u8], Conf
 
 /// Refuses what is set already.
 pub(crate) fn once(given: bool) -> Result<(), ConfCause>
-    ensures { Gives (λ x. x) result (once given) }
+    ensures { Gives ConfCause.NoMemory (λ x. x) result (once given) }
 {
     if given { Err(ConfCause::Twice) } else { Ok(()) }
 }
@@ -55,7 +54,7 @@ pub(crate) fn once(given: bool) -> Result<(), ConfCause>
 /// The text of a line whose word is set once.
 #[tactic(auto, unfolding(crate::specs::Values::text_of))]
 pub(crate) fn text_of(alloc: Global, given: bool, rest: &[u8]) -> Result<Bytes, ConfCause>
-    ensures { Gives (λ text. text.list) result (text_of given rest.now) }
+    ensures { Gives ConfCause.NoMemory (λ text. text.list) result (text_of given rest.now) }
 {
     let text = trimmed(rest);
     if text.is_empty() {
@@ -68,7 +67,7 @@ pub(crate) fn text_of(alloc: Global, given: bool, rest: &[u8]) -> Result<Bytes, 
 /// The first word of a line whose word is set once.
 #[tactic(auto, unfolding(crate::specs::Values::word_once))]
 pub(crate) fn word_once(alloc: Global, given: bool, words: &[&[u8]]) -> Result<Bytes, ConfCause>
-    ensures { Gives (λ word. word.list) result (word_once given (map (λ word. word.now) words.now)) }
+    ensures { Gives ConfCause.NoMemory (λ word. word.list) result (word_once given (map (λ word. word.now) words.now)) }
 {
     let word = word_at(words, 0)?;
     once(given)?;
@@ -78,7 +77,7 @@ pub(crate) fn word_once(alloc: Global, given: bool, words: &[&[u8]]) -> Result<B
 /// A number from `low` to `high`.
 #[tactic(auto, unfolding(crate::specs::Values::number_in))]
 pub(crate) fn number_in(digits: &[u8], low: u64, high: u64) -> Result<u64, ConfCause>
-    ensures gives { Gives (λ number. number) result (number_in digits.now low high) }
+    ensures gives { Gives ConfCause.NoMemory (λ number. number) result (number_in digits.now low high) }
     ensures within { IfOk result (λ number. number ≤ high) }
 {
     match read_digits(digits) {
@@ -95,7 +94,7 @@ pub(crate) fn number_once(
     low: u64,
     high: u64,
 ) -> Result<u64, ConfCause>
-    ensures gives { Gives (λ number. number) result
+    ensures gives { Gives ConfCause.NoMemory (λ number. number) result
         (number_once given (map (λ word. word.now) words.now) low high) }
     ensures within { IfOk result (λ number. number ≤ high) }
 {

@@ -2,7 +2,7 @@
 ghost use Rattle.std.specs.Prelude.{◌≡◌};
 ghost use Rattle.mail_conf.specs.Words.{is_for_calls, is_for_files, is_for_the_log, is_passed_over, list_word, number_word, path_word, text_word};
 
-use text_lines::is_same_word;
+use ftn_addr::is_same_word;
 
 /// A word that sets a text.
 #[derive(Clone, Copy, Debug, PartialEq, Eq)]

@@ -1,31 +1,15 @@
 -- The node of a line (FTS-5000).
 use Rattle.std.specs.Prelude.{◌≡◌, ℕ, ◌==◌, nat_lt, List, length, drop, slice_get, codes, Option, Some, None, Result, Ok, Err, if◌then◌else◌}
 use Rattle.ftn_addr.specs.Digits.{saturated_number}
-use Rattle.text_lines.specs.Case.{same_word}
+use Rattle.ftn_addr.specs.Outcomes.{◌>>=◌}
+use Rattle.ftn_addr.specs.Case.{same_word}
 use Rattle.nodelist_comp.specs.Flags.{endpoint}
 use Rattle.nodelist_comp.specs.Node.{ListedNode}
 use Rattle.nodelist_comp.specs.declared.fault.ListCause.{ListCause}
-use Rattle.nodelist_comp.specs.declared.fault.ListCause.TheVariants.{NoZone, BadNumber, UnknownKeyword, TooMany, NoMemory}
+use Rattle.nodelist_comp.specs.declared.fault.ListCause.TheVariants.{NoZone, BadNumber, UnknownKeyword, TooMany}
 use Rattle.nodelist_comp.specs.declared.fields.Area.{Area as AreaCode}
 use Rattle.nodelist_comp.specs.declared.node.NodeKind.{NodeKind}
 use Rattle.nodelist_comp.specs.declared.node.NodeKind.TheVariants.{Zone, Region, Host, Hub, Pvt, Hold, Down, Plain}
-
--- What was returned, seen by view, is what reading gives, unless memory ran out.
-abbrev pub Fails : {Y : Type 0} → ListCause → Result Y ListCause → Type 0
-Fails NoMemory read = Unit {0}
-Fails NoZone read = read ≡ Err NoZone
-Fails BadNumber read = read ≡ Err BadNumber
-Fails UnknownKeyword read = read ≡ Err UnknownKeyword
-Fails TooMany read = read ≡ Err TooMany
-
-abbrev pub Gives : {X Y : Type 0} → (X → Y) → Result X ListCause → Result Y ListCause → Type 0
-Gives view (Ok x) read = read ≡ Ok (view x)
-Gives view (Err cause) read = Fails cause read
-
-infixl 10 ◌>>=◌
-abbrev pub ◌>>=◌ : {A B : Type 0} → Result A ListCause → (A → Result B ListCause) → Result B ListCause
-(Ok x) >>= f = f x
-(Err cause) >>= f = Err cause
 
 -- the zone and the net that hold for a line
 pub record Area : Type 0 where

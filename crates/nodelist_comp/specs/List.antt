@@ -2,23 +2,16 @@
 use Rattle.std.specs.Prelude.{◌≡◌, ℕ, ◌+◌, ◌==◌, min, Bool, ◌||◌, nat_le, nat_eq, List, [], ◌∷◌, ◌++◌, length, take, position, codes, Option, Some, None, Result, Ok, Err, if◌then◌else◌}
 use Rattle.std.specs.List.{slice_split, starts_with}
 use Rattle.std.specs.Str.Lines.{lines}
-use Rattle.nodelist_comp.specs.Fields.{Area, node_of, ◌>>=◌}
+use Rattle.ftn_addr.specs.Outcomes.{◌>>=◌, GivesUnless}
+use Rattle.nodelist_comp.specs.Fields.{Area, node_of}
 use Rattle.nodelist_comp.specs.Node.{ListedNode, place_of, has_place}
 use Rattle.nodelist_comp.specs.declared.fault.ListCause.{ListCause}
-use Rattle.nodelist_comp.specs.declared.fault.ListCause.TheVariants.{NoZone, BadNumber, UnknownKeyword, TooMany, NoMemory}
+use Rattle.nodelist_comp.specs.declared.fault.ListCause.TheVariants.{TooMany, NoMemory}
 use Rattle.nodelist_comp.specs.declared.fault.ListTextFault.{ListTextFault}
 
 -- What was returned, seen by view, is what compiling gives, unless memory ran out.
-abbrev pub FailsAt : {Y : Type 0} → ListCause → ListTextFault → Result Y ListTextFault → Type 0
-FailsAt NoMemory fault read = Unit {0}
-FailsAt NoZone fault read = read ≡ Err fault
-FailsAt BadNumber fault read = read ≡ Err fault
-FailsAt UnknownKeyword fault read = read ≡ Err fault
-FailsAt TooMany fault read = read ≡ Err fault
-
 abbrev pub Compiles : {X Y : Type 0} → (X → Y) → Result X ListTextFault → Result Y ListTextFault → Type 0
-Compiles view (Ok x) read = read ≡ Ok (view x)
-Compiles view (Err fault) read = FailsAt fault.cause fault read
+Compiles view result read = GivesUnless (λ fault. fault.cause ≡ NoMemory) view result read
 
 -- a comment, or nothing
 abbrev pub is_passed : List ℕ → Bool

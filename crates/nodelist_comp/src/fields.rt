@@ -1,14 +1,14 @@
 //! The fields of a line, and the node that it stands for.
 ghost use Rattle.std.specs.Prelude.{◌≡◌, ◌==◌, map, drop, option_map, IfOk};
 ghost use Rattle.std.specs.List.{slice_split};
-ghost use Rattle.nodelist_comp.specs.Fields.{Area, Gives, area, area_for, kind_at, kind_of, node_of, number_at, placed};
+ghost use Rattle.ftn_addr.specs.Outcomes.{Gives};
+ghost use Rattle.nodelist_comp.specs.Fields.{Area, area, area_for, kind_at, kind_of, node_of, number_at, placed};
 ghost use Rattle.nodelist_comp.specs.Views.{listed};
 
 use crate::flags::endpoint;
 use crate::{ListCause, Listed, NodeKind};
-use ftn_addr::{Bytes, NoMemory, read_digits};
+use ftn_addr::{Bytes, NoMemory, is_same_word, read_digits};
 use std::alloc::Global;
-use text_lines::is_same_word;
 
 /// The zone and the net that hold for a line.
 #[derive(Clone, Copy, Debug)]
@@ -52,7 +52,7 @@ fn kind_of(word: &[u8]) -> Option<NodeKind>
 
 #[tactic(auto, unfolding(crate::specs::Fields::kind_at))]
 fn kind_at(fields: &[&[u8]]) -> Result<NodeKind, ListCause>
-    ensures { Gives (λ kind. kind) result (kind_at (map (λ field. field.now) fields.now)) }
+    ensures { Gives ListCause.NoMemory (λ kind. kind) result (kind_at (map (λ field. field.now) fields.now)) }
 {
     match fields.get(0) {
         Some(word) => kind_of(*word).ok_or(ListCause::UnknownKeyword),
@@ -62,7 +62,7 @@ fn kind_at(fields: &[&[u8]]) -> Result<NodeKind, ListCause>
 
 #[tactic(auto, unfolding(crate::specs::Fields::number_at))]
 fn number_at(fields: &[&[u8]]) -> Result<u16, ListCause>
-    ensures { Gives (λ number. number) result (number_at (map (λ field. field.now) fields.now)) }
+    ensures { Gives ListCause.NoMemory (λ number. number) result (number_at (map (λ field. field.now) fields.now)) }
 {
     let Some(digits) = fields.get(1) else {
         return Err(ListCause::BadNumber);
@@ -75,7 +75,7 @@ fn number_at(fields: &[&[u8]]) -> Result<u16, ListCause>
 
 /// The zone and the net above a line, which a zone's line needs not.
 fn area_for(kind: NodeKind, above: Option<Area>) -> Result<Area, ListCause>
-    ensures { Gives area result (area_for kind (option_map area above)) }
+    ensures { Gives ListCause.NoMemory area result (area_for kind (option_map area above)) }
 {
     match (kind, above) {
         (NodeKind::Zone, _) => Ok(Area { zone: 0, net: 0 }),
@@ -105,7 +105,7 @@ fn flags_of<'a, 'b>(fields: &'b [&'a [u8]]) -> &'b [&'a [u8]]
 
 #[tactic(auto, unfolding(crate::specs::Fields::node_of))]
 fn node_of_fields(alloc: Global, above: Option<Area>, fields: &[&[u8]]) -> Result<Listed, ListCause>
-    ensures { Gives listed result (node_of (option_map area above) (map (λ field. field.now) fields.now)) }
+    ensures { Gives ListCause.NoMemory listed result (node_of (option_map area above) (map (λ field. field.now) fields.now)) }
 {
     let kind = kind_at(fields)?;
     let above = area_for(kind, above)?;
@@ -124,7 +124,7 @@ fn node_of_fields(alloc: Global, above: Option<Area>, fields: &[&[u8]]) -> Resul
 
 /// The node that a line stands for, below an area.
 pub(crate) fn node_of(alloc: Global, above: Option<Area>, line: &[u8]) -> Result<Listed, ListCause>
-    ensures { Gives listed result
+    ensures { Gives ListCause.NoMemory listed result
         (node_of (option_map area above) (slice_split (λ byte. byte == 44) line.now)) }
 {
     let fields = fields(alloc, line)?;

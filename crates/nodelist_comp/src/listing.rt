@@ -1,15 +1,16 @@
 //! The nodes of a text.
 ghost use Rattle.std.specs.Prelude.{◌≡◌, ◌==◌, map, option_map, position, OnOk};
-ghost use Rattle.nodelist_comp.specs.Fields.{Gives, area};
+ghost use Rattle.ftn_addr.specs.Outcomes.{Gives};
+ghost use Rattle.nodelist_comp.specs.Fields.{area};
 ghost use Rattle.nodelist_comp.specs.List.{Compiles, added, before_end, compiled, is_passed, line_taken};
 ghost use Rattle.nodelist_comp.specs.Tracks.{Tracks};
 ghost use Rattle.nodelist_comp.specs.Views.{listed};
 
 use crate::fields::{Area, node_of};
 use crate::{ListCause, ListTextFault, Listed};
+use ftn_addr::first_line;
 use std::alloc::Global;
 use std::collections::BTreeSet;
-use text_lines::first_line;
 
 /// The most nodes of a list.
 const MAX_NODES: usize = 65_536;
@@ -17,7 +18,7 @@ const MAX_NODES: usize = 65_536;
 /// Adds a node at the end, unless its address is in the list already.
 fn add(nodes: &mut Vec<Listed>, places: &mut BTreeSet<u64>, node: Listed) -> Result<(), ListCause>
     requires { Tracks nodes.old.items places.old }
-    ensures nodes { Gives (λ _. map listed nodes.new.items) result
+    ensures nodes { Gives ListCause.NoMemory (λ _. map listed nodes.new.items) result
         (added (map listed nodes.old.items) (listed node)) }
     ensures tracks { OnOk result (Tracks nodes.new.items places.new) }
 {
@@ -48,7 +49,7 @@ fn take_line(
     places: &mut BTreeSet<u64>,
 ) -> Result<Option<Area>, ListCause>
     requires { Tracks nodes.old.items places.old }
-    ensures nodes { Gives (λ below. (map listed nodes.new.items, option_map area below)) result
+    ensures nodes { Gives ListCause.NoMemory (λ below. (map listed nodes.new.items, option_map area below)) result
         (line_taken (map listed nodes.old.items) (option_map area above) line.now) }
     ensures tracks { OnOk result (Tracks nodes.new.items places.new) }
 {

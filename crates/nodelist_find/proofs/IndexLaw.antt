@@ -9,7 +9,8 @@ use Rattle.std.proofs.lemmas.Nat.{from_be_bytes-to_be_bytes_4}
 use Rattle.nodelist_comp.specs.Index.{host_bytes, in_order, index_of, insert_node, kind_byte, node_bytes, with_node}
 use Rattle.nodelist_comp.specs.Node.{ListedNode, has_place, place_of}
 use Rattle.nodelist_find.proofs.ReadBack.{Reads, SmallAbove, address_again, host_again, kind_again, number_free}
-use Rattle.nodelist_find.specs.Cursor.{Left, after_magic, byte_above, byte_at, number_above, ◌>>=◌}
+use Rattle.ftn_addr.specs.Outcomes.{◌>>=◌}
+use Rattle.nodelist_find.specs.Cursor.{Left, after_magic, byte_above, byte_at, number_above}
 use Rattle.nodelist_find.specs.Law.{IsListed, clipped}
 use Rattle.nodelist_find.specs.Nodes.{IsAbove, SpotAt, address_of, count_at, last_address, node_at, nodes_from, read_index}
 use Rattle.nodelist_find.specs.declared.fault.IndexFault.{IndexFault}

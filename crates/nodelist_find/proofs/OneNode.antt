@@ -6,7 +6,8 @@ use Rattle.std.proofs.lemmas.List.{length-map, length-append, map-append}
 use Rattle.std.proofs.Math.ListN.{get_or-append}
 use Rattle.std.proofs.Math.Seq.{get_or-append_seam}
 use Rattle.nodelist_comp.specs.Node.{ListedNode, place_of}
-use Rattle.nodelist_find.specs.Cursor.{Left, ◌>>=◌}
+use Rattle.ftn_addr.specs.Outcomes.{◌>>=◌}
+use Rattle.nodelist_find.specs.Cursor.{Left}
 use Rattle.nodelist_find.specs.Nodes.{IsAbove, SpotAt, address_of, last_address, node_at, nodes_from, place_at}
 use Rattle.nodelist_find.specs.Rising.{Rises, Rising}
 use Rattle.nodelist_find.specs.declared.fault.IndexFault.{IndexFault}

@@ -1,22 +1,9 @@
 -- Bytes that are read from the front (own).
 use Rattle.std.specs.Prelude.{◌≡◌, ℕ, ◌+◌, ◌*◌, ◌/◌, ◌%◌, ◌==◌, Bool, false, nat_lt, nat_eq, List, [], ◌∷◌, length, take, drop, codes, Option, Some, None, Result, Ok, Err, if◌then◌else◌}
 use Rattle.std.specs.List.{common_prefix_len}
+use Rattle.ftn_addr.specs.Outcomes.{◌>>=◌}
 use Rattle.nodelist_find.specs.declared.fault.IndexFault.{IndexFault}
-use Rattle.nodelist_find.specs.declared.fault.IndexFault.TheVariants.{Bad, NoMemory}
-
--- What was returned, seen by view, is what reading gives, unless memory ran out.
-abbrev pub Fails : {Y : Type 0} → IndexFault → Result Y IndexFault → Type 0
-Fails NoMemory read = Unit {0}
-Fails (Bad place) read = read ≡ Err (Bad place)
-
-abbrev pub Gives : {X Y : Type 0} → (X → Y) → Result X IndexFault → Result Y IndexFault → Type 0
-Gives view (Ok x) read = read ≡ Ok (view x)
-Gives view (Err fault) read = Fails fault read
-
-infixl 10 ◌>>=◌
-abbrev pub ◌>>=◌ : {A B : Type 0} → Result A IndexFault → (A → Result B IndexFault) → Result B IndexFault
-(Ok x) >>= f = f x
-(Err fault) >>= f = Err fault
+use Rattle.nodelist_find.specs.declared.fault.IndexFault.TheVariants.{Bad}
 
 -- what is left of the bytes, and the offset of its first byte
 pub record Left : Type 0 where

@@ -3,7 +3,8 @@ use Rattle.std.specs.Prelude.{ℕ, zero, suc, ◌+◌, ◌-◌, ◌*◌, ◌<◌
 use Rattle.nodelist_comp.specs.Node.{ListedNode, place}
 use Rattle.nodelist_comp.specs.declared.node.NodeKind.{NodeKind}
 use Rattle.nodelist_comp.specs.declared.node.NodeKind.TheVariants.{Zone, Region, Host, Hub, Pvt, Hold, Down, Plain}
-use Rattle.nodelist_find.specs.Cursor.{Left, after_magic, byte_at, bytes_at, number_above, ◌>>=◌}
+use Rattle.ftn_addr.specs.Outcomes.{◌>>=◌}
+use Rattle.nodelist_find.specs.Cursor.{Left, after_magic, byte_at, bytes_at, number_above}
 use Rattle.nodelist_find.specs.declared.fault.IndexFault.{IndexFault}
 use Rattle.nodelist_find.specs.declared.fault.IndexFault.TheVariants.{Bad}
 

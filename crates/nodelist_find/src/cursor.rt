@@ -1,7 +1,8 @@
 //! Bytes that are read from the front.
 ghost use Rattle.std.specs.Prelude.{◌≡◌, ◌+◌, ◌<◌, ◌≤◌, ◌^◌, nat_eq, length, IfOk, IfSome};
 ghost use Rattle.std.specs.List.{common_prefix_len};
-ghost use Rattle.nodelist_find.specs.Cursor.{Gives, byte_at, byte_above, bytes_at, high_of, low_of, number_above, after_magic};
+ghost use Rattle.ftn_addr.specs.Outcomes.{Gives};
+ghost use Rattle.nodelist_find.specs.Cursor.{byte_at, byte_above, bytes_at, high_of, low_of, number_above, after_magic};
 
 use crate::IndexFault;
 
@@ -54,7 +55,7 @@ impl<'a> Cursor<'a> {
     /// The bytes behind the name of the format.
     #[tactic(auto, unfolding(crate::specs::Cursor::after_magic))]
     pub fn behind_magic(bytes: &'a [u8]) -> Result<Cursor<'a>, IndexFault>
-        ensures { Gives seen result (after_magic bytes.now) }
+        ensures { Gives IndexFault.NoMemory seen result (after_magic bytes.now) }
     {
         let same = same_front(bytes, b"nodeidx1");
         if same < 8 {
@@ -68,7 +69,7 @@ impl<'a> Cursor<'a> {
 
     #[tactic(auto, unfolding(crate::specs::Cursor::byte_at))]
     pub fn byte(self) -> Result<(u8, Cursor<'a>), IndexFault>
-        ensures { Gives (λ x. (x.0, seen x.1)) result (byte_at (seen self.entry)) }
+        ensures { Gives IndexFault.NoMemory (λ x. (x.0, seen x.1)) result (byte_at (seen self.entry)) }
     {
         let Cursor { place, rest, .. } = self;
         match rest {
@@ -86,7 +87,7 @@ impl<'a> Cursor<'a> {
     /// A byte that must not fall below another.
     #[tactic(auto, unfolding(crate::specs::Cursor::byte_above))]
     fn byte_above(self, above: Option<u8>) -> Result<(u8, Cursor<'a>), IndexFault>
-        ensures gives { Gives (λ x. (x.0, seen x.1)) result (byte_above above (seen self.entry)) }
+        ensures gives { Gives IndexFault.NoMemory (λ x. (x.0, seen x.1)) result (byte_above above (seen self.entry)) }
         ensures rises { IfOk result (λ x. IfSome above (λ above. above ≤ x.0)) }
     {
         let place = self.place as u64;
@@ -100,7 +101,7 @@ impl<'a> Cursor<'a> {
     /// A number of two bytes that must not fall below another.
     #[tactic(auto, unfolding(crate::specs::Cursor::number_above))]
     pub fn number(self, above: Option<u16>) -> Result<(u16, Cursor<'a>), IndexFault>
-        ensures gives { Gives (λ x. (x.0, seen x.1)) result (number_above above (seen self.entry)) }
+        ensures gives { Gives IndexFault.NoMemory (λ x. (x.0, seen x.1)) result (number_above above (seen self.entry)) }
         ensures rises { IfOk result (λ x. IfSome above (λ above. above ≤ x.0)) }
     {
         let (high, rest) = self.byte_above(high_of(above))?;
@@ -111,7 +112,7 @@ impl<'a> Cursor<'a> {
     /// So many bytes.
     #[tactic(auto, unfolding(crate::specs::Cursor::bytes_at))]
     pub fn bytes(self, len: usize) -> Result<(&'a [u8], Cursor<'a>), IndexFault>
-        ensures { Gives (λ x. (x.0.now, seen x.1)) result (bytes_at len (seen self.entry)) }
+        ensures { Gives IndexFault.NoMemory (λ x. (x.0.now, seen x.1)) result (bytes_at len (seen self.entry)) }
     {
         let Cursor { place, rest, .. } = self;
         if rest.len() < len {

@@ -2,7 +2,7 @@
 ghost use Rattle.std.specs.Prelude.{◌≡◌, ◌<◌, ◌==◌, length, slice_get, Some, IfSome};
 ghost use Rattle.ftn_addr.specs.Address.{address};
 ghost use Rattle.nodelist_comp.specs.Views.{listed};
-ghost use Rattle.nodelist_find.specs.Cursor.{Gives};
+ghost use Rattle.ftn_addr.specs.Outcomes.{Gives};
 ghost use Rattle.nodelist_find.specs.Nodes.{read_index};
 ghost use Rattle.nodelist_find.specs.Route.{IsWithin, looked_up, route_of, told};
 
@@ -49,7 +49,7 @@ impl Model for Index {
 impl Index {
     /// Reads the bytes of an index. Memory grows with the nodes that are there, whatever the count says.
     pub fn open(alloc: Global, bytes: &[u8]) -> Result<Index, IndexFault>
-        ensures { Gives (λ index. index) result (read_index bytes.now) }
+        ensures { Gives IndexFault.NoMemory (λ index. index) result (read_index bytes.now) }
     {
         let nodes = read_index(alloc, bytes)?;
         Ok(Index { nodes })

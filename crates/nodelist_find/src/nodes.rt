@@ -1,7 +1,7 @@
 //! The nodes of an index.
 ghost use Rattle.std.specs.Prelude.{◌≡◌, ◌<◌, [], map, option_map, IfOk};
 ghost use Rattle.nodelist_comp.specs.Views.{listed};
-ghost use Rattle.nodelist_find.specs.Cursor.{Gives};
+ghost use Rattle.ftn_addr.specs.Outcomes.{Gives};
 ghost use Rattle.nodelist_find.specs.Nodes.{IsAbove, address_above, address_at, address_of, count_at, first_address, host_at, kind_at, kind_of, last_address, node_at, nodes_from, place_at, read_index, tied};
 ghost use Rattle.nodelist_find.specs.Rising.{Rising};
 ghost use Rattle.nodelist_find.specs.Views.{seen, spot};
@@ -40,7 +40,7 @@ fn tied(same: bool, above: u16) -> Option<u16>
 
 #[tactic(auto, unfolding(crate::specs::Nodes::first_address))]
 fn first_address(at: Cursor<'_>) -> Result<(Spot, Cursor<'_>), IndexFault>
-    ensures { Gives (λ x. (spot x.0, seen x.1)) result (first_address (seen at.entry)) }
+    ensures { Gives IndexFault.NoMemory (λ x. (spot x.0, seen x.1)) result (first_address (seen at.entry)) }
 {
     let (zone, rest) = at.number(None)?;
     let (net, rest) = rest.number(None)?;
@@ -51,7 +51,7 @@ fn first_address(at: Cursor<'_>) -> Result<(Spot, Cursor<'_>), IndexFault>
 /// An address that is above another.
 #[tactic(auto, unfolding(crate::specs::Nodes::address_above))]
 fn address_above(at: Cursor<'_>, above: Spot) -> Result<(Spot, Cursor<'_>), IndexFault>
-    ensures gives { Gives (λ x. (spot x.0, seen x.1)) result (address_above (spot above) (seen at.entry)) }
+    ensures gives { Gives IndexFault.NoMemory (λ x. (spot x.0, seen x.1)) result (address_above (spot above) (seen at.entry)) }
     ensures above { IfOk result (λ x. place_at (spot above) < place_at (spot x.0)) }
 {
     let (zone, rest) = at.number(Some(above.zone))?;
@@ -66,7 +66,7 @@ fn address_above(at: Cursor<'_>, above: Spot) -> Result<(Spot, Cursor<'_>), Inde
 }
 
 fn address_at(at: Cursor<'_>, above: Option<Spot>) -> Result<(Spot, Cursor<'_>), IndexFault>
-    ensures gives { Gives (λ x. (spot x.0, seen x.1)) result (address_at (option_map spot above) (seen at.entry)) }
+    ensures gives { Gives IndexFault.NoMemory (λ x. (spot x.0, seen x.1)) result (address_at (option_map spot above) (seen at.entry)) }
     ensures above { IfOk result (λ x. IsAbove (option_map spot above) (spot x.0)) }
 {
     match above {
@@ -93,7 +93,7 @@ fn kind_of(byte: u8) -> Option<NodeKind>
 
 #[tactic(auto, unfolding(crate::specs::Nodes::kind_at))]
 fn kind_at(at: Cursor<'_>) -> Result<(NodeKind, Cursor<'_>), IndexFault>
-    ensures { Gives (λ x. (x.0, seen x.1)) result (kind_at (seen at.entry)) }
+    ensures { Gives IndexFault.NoMemory (λ x. (x.0, seen x.1)) result (kind_at (seen at.entry)) }
 {
     let place = at.place as u64;
     let (byte, rest) = at.byte()?;
@@ -105,7 +105,7 @@ fn kind_at(at: Cursor<'_>) -> Result<(NodeKind, Cursor<'_>), IndexFault>
 
 #[tactic(auto, unfolding(crate::specs::Nodes::host_at))]
 fn host_at<'a>(at: Cursor<'a>) -> Result<(&'a [u8], Cursor<'a>), IndexFault>
-    ensures { Gives (λ x. (x.0.now, seen x.1)) result (host_at (seen at.entry)) }
+    ensures { Gives IndexFault.NoMemory (λ x. (x.0.now, seen x.1)) result (host_at (seen at.entry)) }
 {
     let (len, rest) = at.byte()?;
     rest.bytes(usize::from(len))
@@ -118,7 +118,7 @@ fn node_at<'a>(
     at: Cursor<'a>,
     above: Option<Spot>,
 ) -> Result<(Listed, Cursor<'a>), IndexFault>
-    ensures gives { Gives (λ x. (listed x.0, seen x.1)) result (node_at (option_map spot above) (seen at.entry)) }
+    ensures gives { Gives IndexFault.NoMemory (λ x. (listed x.0, seen x.1)) result (node_at (option_map spot above) (seen at.entry)) }
     ensures above { IfOk result (λ x. IsAbove (option_map spot above) (address_of (listed x.0))) }
 {
     let (Spot { zone, net, node }, rest) = address_at(at, above)?;
@@ -138,7 +138,7 @@ fn node_at<'a>(
 
 #[tactic(auto, unfolding(crate::specs::Nodes::count_at))]
 fn count_at(at: Cursor<'_>) -> Result<(u32, Cursor<'_>), IndexFault>
-    ensures { Gives (λ x. (x.0, seen x.1)) result (count_at (seen at.entry)) }
+    ensures { Gives IndexFault.NoMemory (λ x. (x.0, seen x.1)) result (count_at (seen at.entry)) }
 {
     let (high, rest) = at.number(None)?;
     let (low, rest) = rest.number(None)?;
@@ -150,7 +150,7 @@ fn nodes_from<'a>(
     at: Cursor<'a>,
     count: u32,
 ) -> Result<(Vec<Listed>, Cursor<'a>), IndexFault>
-    ensures gives { Gives (λ x. (map listed x.0.items, seen x.1)) result (nodes_from count [] (seen at.entry)) }
+    ensures gives { Gives IndexFault.NoMemory (λ x. (map listed x.0.items, seen x.1)) result (nodes_from count [] (seen at.entry)) }
     ensures rising { IfOk result (λ x. Rising (map listed x.0.items)) }
 {
     let mut nodes = Vec::new(alloc);
@@ -168,7 +168,7 @@ fn nodes_from<'a>(
 /// The nodes of an index.
 #[tactic(auto, unfolding(crate::specs::Nodes::read_index))]
 pub(crate) fn read_index(alloc: Global, bytes: &[u8]) -> Result<Vec<Listed>, IndexFault>
-    ensures gives { Gives (λ nodes. map listed nodes.items) result (read_index bytes.now) }
+    ensures gives { Gives IndexFault.NoMemory (λ nodes. map listed nodes.items) result (read_index bytes.now) }
     ensures rising { IfOk result (λ nodes. Rising (map listed nodes.items)) }
 {
     let at = Cursor::behind_magic(bytes)?;

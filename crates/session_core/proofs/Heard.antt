@@ -4,7 +4,7 @@ use Rattle.std.specs.Prelude.{MatchBool}
 use Rattle.std.proofs.lemmas.List.{append-nil}
 use Rattle.ftn_addr.specs.Key.{Key}
 use Rattle.binkp_args.specs.Command.{CommandText}
-use Rattle.binkp_args.specs.Reading.{Fails}
+use Rattle.ftn_addr.specs.Outcomes.{Fails}
 use Rattle.binkp_args.specs.declared.fault.ArgFault.{ArgFault}
 use Rattle.binkp_args.specs.declared.fault.ArgFault.TheVariants.{MissingWord, BadNumber, LongName, TooLarge, PastEnd, NoAddress, NoMemory as NoMemoryFault}
 use Rattle.node_model.specs.Rows.{Have, Refuse, Elsewhere, Go, Whole, From, Late}
@@ -86,14 +86,9 @@ pub may_not : (b : Bool) (P Q : Type 0) → b ≡ false → Q → MatchBool b P 
 may_not b P Q e q = rw e q
 
 -- a fault that is no want of memory is the definition's
-pub fault_told : {Y : Type 0} (fault : ArgFault) (read : Result Y ArgFault) → (fault ≡ NoMemoryFault → ⊥) → Fails fault read → read ≡ Err fault
-fault_told NoMemoryFault read other fails = absurd (other refl)
-fault_told (MissingWord n) read other fails = fails
-fault_told (BadNumber n) read other fails = fails
-fault_told LongName read other fails = fails
-fault_told TooLarge read other fails = fails
-fault_told PastEnd read other fails = fails
-fault_told NoAddress read other fails = fails
+pub fault_told : {Y : Type 0} (fault : ArgFault) (read : Result Y ArgFault) → (fault ≡ NoMemoryFault → ⊥) → Fails NoMemoryFault fault read → read ≡ Err fault
+fault_told fault read other (inl memory) = absurd (other memory)
+fault_told fault read other (inr told) = told
 
 -- the peer's batch ended
 pub did_end : (n : ℕ) (talk : Talk) (held : Option Part) (alone : Bool) (s : Stand) (out : List ℕ) → Did (TalkRow n talk held EndMessage) alone s s (Talks (record talk { peer_end = true }) held) out out T.More
@@ -116,7 +111,7 @@ ends_plain n stage stage' fault out out' T.More P d = absurd (never d.writes.sai
 ends_plain n stage stage' fault out out' (T.Ended end) P d = tt
 
 -- an argument that wasn't read
-pub refused_argument : (s : Setting) (n : ℕ) (stage stage' : Stage) (fault : ArgFault) (read : Result CommandText ArgFault) (alone : Bool) (desk : Stand) (out out' : List ℕ) (took : Took) → Fails fault read → RefusesArgument n stage fault stage' out out' took → MadeRow (ReadRow s n stage read) alone desk desk stage' out out' took
+pub refused_argument : (s : Setting) (n : ℕ) (stage stage' : Stage) (fault : ArgFault) (read : Result CommandText ArgFault) (alone : Bool) (desk : Stand) (out out' : List ℕ) (took : Took) → Fails NoMemoryFault fault read → RefusesArgument n stage fault stage' out out' took → MadeRow (ReadRow s n stage read) alone desk desk stage' out out' took
 refused_argument s n stage stage' fault read alone desk out out' took fails (inl x) = inr (record { desk = refl; out_is = x.2; over = x.1 })
 refused_argument s n stage stage' fault read alone desk out out' took fails (inr x) =
     inl (rw (fault_told fault read x.0 fails) (did_row (unreadable n stage fault) alone desk stage' out out' took x.1))

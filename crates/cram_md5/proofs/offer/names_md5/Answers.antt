@@ -2,7 +2,7 @@ use Rattle.std.proofs.Common.{rules, tests, ℕ, List, eqb}
 use Rattle.std.specs.Prelude.{codes}
 use Rattle.std.proofs.lemmas.Iterator.Search.{any_from_yields_List}
 use Rattle.std.proofs.lemmas.Iterator.Splits.{YieldsList-from_slice_split}
-use Rattle.text_lines.specs.Case.{same_word}
+use Rattle.ftn_addr.specs.Case.{same_word}
 use Rattle.cram_md5.proofs.offer.names_md5.Goals as goal
 
 pub returns : goal.returns

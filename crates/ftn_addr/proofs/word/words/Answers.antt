@@ -1,8 +1,8 @@
 use Rattle.std.proofs.Common.{rules, tests, ℕ, length, not, eqb, Ok}
 use Rattle.std.proofs.lemmas.Iterator.Consumers.{map_from_collect, YieldsList-from_filter}
 use Rattle.std.proofs.lemmas.Iterator.Splits.{YieldsList-from_slice_split}
-use Rattle.text_lines.specs.Blanks.{is_blank}
-use Rattle.text_lines.proofs.word.words.Goals as goal
+use Rattle.ftn_addr.specs.Blanks.{is_blank}
+use Rattle.ftn_addr.proofs.word.words.Goals as goal
 
 pub returns : goal.returns
 returns c =

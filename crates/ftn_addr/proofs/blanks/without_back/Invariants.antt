@@ -1,6 +1,6 @@
 use Rattle.std.proofs.Common.{◌≡◌, length}
-use Rattle.text_lines.specs.Blanks.{without_back}
-use Rattle.text_lines.proofs.blanks.without_back.Given as goal
+use Rattle.ftn_addr.specs.Blanks.{without_back}
+use Rattle.ftn_addr.proofs.blanks.without_back.Given as goal
 
 abbrev pub invariant-loop-rest : goal.invariant-loop-rest
 invariant-loop-rest l = without_back l.rest ≡ without_back l.bytes

@@ -1,10 +1,10 @@
 //! The words of a line.
 ghost use Rattle.std.specs.Prelude.{◌≡◌, map, position, IfOk};
-ghost use Rattle.text_lines.specs.Blanks.{is_blank};
-ghost use Rattle.text_lines.specs.Word.{first_word, words_of};
+ghost use Rattle.ftn_addr.specs.Blanks.{is_blank};
+ghost use Rattle.ftn_addr.specs.Word.{first_word, words_of};
 
+use crate::NoMemory;
 use crate::blanks::{is_blank, without_front};
-use ftn_addr::NoMemory;
 use std::alloc::Global;
 
 /// What stands between runs of spaces and tabs.

@@ -1,7 +1,7 @@
 -- The words of a line.
 use Rattle.std.specs.Prelude.{ℕ, ◌==◌, not, List, [], length, take, drop, filter, position, Option, Some, None}
 use Rattle.std.specs.List.{slice_split}
-use Rattle.text_lines.specs.Blanks.{is_blank, without_front}
+use Rattle.ftn_addr.specs.Blanks.{is_blank, without_front}
 
 -- what stands between runs of blanks
 abbrev pub words_of : List ℕ → List (List ℕ)

@@ -1,8 +1,8 @@
 use Rattle.std.proofs.Common.{◌+◌, length, sym, ◌∙◌, arith}
 use Rattle.std.proofs.lemmas.Bool.{eqb-false}
 use Rattle.std.proofs.lemmas.Slice.{between_to_end}
-use Rattle.text_lines.proofs.FirstLine.{last_line, line_at}
-use Rattle.text_lines.proofs.line.first_line.Goals as goal
+use Rattle.ftn_addr.proofs.FirstLine.{last_line, line_at}
+use Rattle.ftn_addr.proofs.line.first_line.Goals as goal
 
 pub returns-in-Some-clause-line : goal.returns-in-Some-clause-line
 returns-in-Some-clause-line c =

@@ -3,7 +3,7 @@ use Rattle.std.specs.Char.{to_ascii_lowercase}
 use Rattle.std.specs.Str.{bytes_eq}
 use Rattle.std.proofs.lemmas.Bool.Decides.{same_from_decides}
 use Rattle.std.proofs.lemmas.Slice.Eq.{bytes_eq-Decides}
-use Rattle.text_lines.proofs.case.is_same_word.Goals as goal
+use Rattle.ftn_addr.proofs.case.is_same_word.Goals as goal
 
 pub returns : goal.returns
 returns c =

@@ -1,6 +1,6 @@
 //! Spaces and tabs.
 ghost use Rattle.std.specs.Prelude.{◌≡◌};
-ghost use Rattle.text_lines.specs.Blanks.{is_blank, trimmed, without_back, without_front};
+ghost use Rattle.ftn_addr.specs.Blanks.{is_blank, trimmed, without_back, without_front};
 
 pub(crate) fn is_blank(byte: u8) -> bool
     ensures { result ≡ is_blank byte }
