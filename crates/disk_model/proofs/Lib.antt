@@ -1,8 +1,4 @@
-mod FolderLemmas
-mod HoldingLemmas
+pub mod MomentLemmas
 mod NameLemmas
-mod OwnLemmas
-mod PlayLemmas
+pub mod TornLemmas
 mod TwiceLemmas
-mod UndoLemmas
-mod YardLemmas

@@ -3,8 +3,9 @@ use Rattle.std.proofs.Common.{◌≡◌, inl, inr, ℕ, zero, suc, ◌+◌, ◌-
 use Rattle.std.specs.List.{slice_get}
 use Rattle.disk_model.specs.World.{World}
 use Rattle.disk_model.specs.Changes.{Every, Follows, Same, OnOwn, Rewrites, Torn}
-use Rattle.disk_model.specs.Moments.{Now, Steps, Leaves, started, goes_on, same_now}
-use Rattle.disk_model.specs.TornLaws.{torn_same}
+use Rattle.disk_model.specs.Moments.{Now, Steps, Leaves}
+use Rattle.disk_model.proofs.MomentLemmas.{started, goes_on, same_now}
+use Rattle.disk_model.proofs.TornLemmas.{torn_same}
 use Rattle.disk_model.specs.Twice.{IsOutside, TornTwice}
 
 get_take : (n k : ℕ) (l : List ℕ) → k < n → slice_get (take n l) k ≡ slice_get l k

@@ -1,10 +1,10 @@
 //! The folders that the mailer shares with other programs.
 ghost use Rattle.std.specs.Prelude.{◌≡◌, map, option_map, IfOk};
 ghost use Rattle.disk_model.specs.Answers.{stat_of, MovedOf, Takes, CopiedOf, Copies, CopiesInPart, HitOf, Removes, Empties, MarkingOf, Marks, UnmarkOf, GivingOf, GivesTo};
-ghost use Rattle.disk_model.specs.Causes.{HasCause, ListsWithCause};
-ghost use Rattle.disk_model.specs.Changes.{Every, Follows, Same, AtOnce, Stands, IsFree};
+ghost use Rattle.disk_model.specs.Causes.{HasCause, ListsWithCause, outcome, list_outcome};
+ghost use Rattle.disk_model.specs.Changes.{Every, Follows, Same, Stands, IsFree};
 ghost use Rattle.disk_model.specs.Folders.{path_in, ListsFolder};
-ghost use Rattle.disk_model.specs.Moments.{Steps};
+ghost use Rattle.disk_model.specs.Moments.{Steps, Together};
 
 use crate::{Copied, Disk, Giving, Hit, ListFault, Marking, Moved, Name, OutStat};
 use ftn_addr::{Bytes, Failed};
@@ -18,7 +18,8 @@ pub trait Yard: Disk {
         ensures told { IfOk result (λ stat. Every (Self.files self.old) (λ w. stat ≡ option_map stat_of (w.outside path.now.list))) }
         ensures read { Every (Self.files self.new) (Self.files self.old) }
         ensures stop { Steps Self.moment Self.images Same self.old self.new }
-        ensures cause { HasCause (Self.fault_count self.old) (Self.fault_count self.new) result };
+        ensures cause { HasCause (Self.fault_count self.old) (Self.fault_count self.new) result }
+        ensures rule { Self.rule (outcome result) self.old self.new };
 
     /// The names of the files and folders that stand directly in a folder, in the order of their bytes. A
     /// folder that isn't there gives none.
@@ -26,15 +27,16 @@ pub trait Yard: Disk {
         ensures told { IfOk result (λ names. Every (Self.files self.old) (λ w. ListsFolder folder.now.list w.outside (map (λ name. name.list) names.items))) }
         ensures read { Every (Self.files self.new) (Self.files self.old) }
         ensures stop { Steps Self.moment Self.images Same self.old self.new }
-        ensures cause { ListsWithCause (Self.fault_count self.old) (Self.fault_count self.new) result };
+        ensures cause { ListsWithCause (Self.fault_count self.old) (Self.fault_count self.new) result }
+        ensures rule { Self.rule (list_outcome result) self.old self.new };
 
     /// Moves an outside file into the own folder.
     fn take(&mut self, path: &Bytes, own: &Name) -> Result<Moved, Failed>
         requires { Every (Self.files self.old) (IsFree own.now) }
         ensures told { IfOk result (λ moved. Every (Self.files self.old) (λ w. MovedOf moved (w.outside path.now.list))) }
-        ensures read { Follows (AtOnce result (Takes path.now.list own.now)) (Self.files self.old) (Self.files self.new) }
-        ensures stop { Steps Self.moment Self.images (AtOnce result (Takes path.now.list own.now)) self.old self.new }
-        ensures cause { HasCause (Self.fault_count self.old) (Self.fault_count self.new) result };
+        ensures both { Together Self.files Self.moment Self.images result (Takes path.now.list own.now) self.old self.new }
+        ensures cause { HasCause (Self.fault_count self.old) (Self.fault_count self.new) result }
+        ensures rule { Self.rule (outcome result) self.old self.new };
 
     /// Makes an own file anew from an outside file of at most `most` bytes. Its bytes are a written range
     /// until a sync.
@@ -42,41 +44,42 @@ pub trait Yard: Disk {
         ensures told { IfOk result (λ copied. Every (Self.files self.old) (λ w. CopiedOf copied most (w.outside path.now.list))) }
         ensures read { Follows (Copies result path.now.list own.now most) (Self.files self.old) (Self.files self.new) }
         ensures stop { Steps Self.moment Self.images (CopiesInPart result own.now most) self.old self.new }
-        ensures cause { HasCause (Self.fault_count self.old) (Self.fault_count self.new) result };
+        ensures cause { HasCause (Self.fault_count self.old) (Self.fault_count self.new) result }
+        ensures rule { Self.rule (outcome result) self.old self.new };
 
     /// Removes an outside file whose size and time are these.
     fn remove_if(&mut self, path: &Bytes, was: &OutStat) -> Result<Hit, Failed>
         ensures told { IfOk result (λ hit. Every (Self.files self.old) (λ w. HitOf hit was.now (w.outside path.now.list))) }
-        ensures read { Follows (AtOnce result (Removes path.now.list)) (Self.files self.old) (Self.files self.new) }
-        ensures stop { Steps Self.moment Self.images (AtOnce result (Removes path.now.list)) self.old self.new }
-        ensures cause { HasCause (Self.fault_count self.old) (Self.fault_count self.new) result };
+        ensures both { Together Self.files Self.moment Self.images result (Removes path.now.list) self.old self.new }
+        ensures cause { HasCause (Self.fault_count self.old) (Self.fault_count self.new) result }
+        ensures rule { Self.rule (outcome result) self.old self.new };
 
     /// Cuts an outside file whose size and time are these to length 0.
     fn cut_if(&mut self, path: &Bytes, was: &OutStat) -> Result<Hit, Failed>
         ensures told { IfOk result (λ hit. Every (Self.files self.old) (λ w. HitOf hit was.now (w.outside path.now.list))) }
-        ensures read { Follows (AtOnce result (Empties path.now.list)) (Self.files self.old) (Self.files self.new) }
-        ensures stop { Steps Self.moment Self.images (AtOnce result (Empties path.now.list)) self.old self.new }
-        ensures cause { HasCause (Self.fault_count self.old) (Self.fault_count self.new) result };
+        ensures both { Together Self.files Self.moment Self.images result (Empties path.now.list) self.old self.new }
+        ensures cause { HasCause (Self.fault_count self.old) (Self.fault_count self.new) result }
+        ensures rule { Self.rule (outcome result) self.old self.new };
 
     /// Makes a new outside file with the text.
     fn mark(&mut self, path: &Bytes, text: &Bytes) -> Result<Marking, Failed>
         ensures told { IfOk result (λ marking. Every (Self.files self.old) (λ w. MarkingOf marking (w.outside path.now.list))) }
-        ensures read { Follows (AtOnce result (Marks path.now.list text.now.list)) (Self.files self.old) (Self.files self.new) }
-        ensures stop { Steps Self.moment Self.images (AtOnce result (Marks path.now.list text.now.list)) self.old self.new }
-        ensures cause { HasCause (Self.fault_count self.old) (Self.fault_count self.new) result };
+        ensures both { Together Self.files Self.moment Self.images result (Marks path.now.list text.now.list) self.old self.new }
+        ensures cause { HasCause (Self.fault_count self.old) (Self.fault_count self.new) result }
+        ensures rule { Self.rule (outcome result) self.old self.new };
 
     /// Removes an outside file that holds exactly the text.
     fn unmark(&mut self, path: &Bytes, text: &Bytes) -> Result<Hit, Failed>
         ensures told { IfOk result (λ hit. Every (Self.files self.old) (λ w. UnmarkOf hit text.now.list (w.outside path.now.list))) }
-        ensures read { Follows (AtOnce result (Removes path.now.list)) (Self.files self.old) (Self.files self.new) }
-        ensures stop { Steps Self.moment Self.images (AtOnce result (Removes path.now.list)) self.old self.new }
-        ensures cause { HasCause (Self.fault_count self.old) (Self.fault_count self.new) result };
+        ensures both { Together Self.files Self.moment Self.images result (Removes path.now.list) self.old self.new }
+        ensures cause { HasCause (Self.fault_count self.old) (Self.fault_count self.new) result }
+        ensures rule { Self.rule (outcome result) self.old self.new };
 
     /// Moves an own file into an outside folder under a name, and counts it among the gifts.
     fn give(&mut self, own: &Name, folder: &Bytes, name: &Bytes) -> Result<Giving, Failed>
         requires { Every (Self.files self.old) (Stands own.now 0) }
         ensures told { IfOk result (λ giving. Every (Self.files self.old) (GivingOf giving (path_in folder.now.list name.now.list))) }
-        ensures read { Follows (AtOnce result (GivesTo own.now folder.now.list name.now.list)) (Self.files self.old) (Self.files self.new) }
-        ensures stop { Steps Self.moment Self.images (AtOnce result (GivesTo own.now folder.now.list name.now.list)) self.old self.new }
-        ensures cause { HasCause (Self.fault_count self.old) (Self.fault_count self.new) result };
+        ensures both { Together Self.files Self.moment Self.images result (GivesTo own.now folder.now.list name.now.list) self.old self.new }
+        ensures cause { HasCause (Self.fault_count self.old) (Self.fault_count self.new) result }
+        ensures rule { Self.rule (outcome result) self.old self.new };
 }

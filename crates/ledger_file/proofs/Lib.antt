@@ -7,4 +7,4 @@ mod LedgerLemmas
 mod CountLemmas
 mod ReadLemmas
 mod OpenLemmas
-mod ReadingLaw
+pub mod ReadingLaw

@@ -4,8 +4,9 @@ use Rattle.std.specs.Prelude.{option_map}
 use Rattle.std.proofs.Math.Seq.{take-length}
 use Rattle.std.proofs.lemmas.List.{append-nil}
 use Rattle.disk_model.specs.World.{World}
-use Rattle.disk_model.specs.Changes.{Every, Follows, Same, Stands, AtOnce, Holds, Only, OnOwn, Renames}
-use Rattle.disk_model.specs.Moments.{Now, Steps, Leaves, started, weakened, goes_on}
+use Rattle.disk_model.specs.Changes.{Every, Follows, Same, Stands, AtOnce, Holds, Only, OnOwn, Rewrites, Renames}
+use Rattle.disk_model.specs.Moments.{Now, Steps, Leaves}
+use Rattle.disk_model.proofs.MomentLemmas.{started, weakened, goes_on}
 use Rattle.ledger_file.specs.Text.{header, records}
 use Rattle.ledger_file.specs.Ledger.{ledger_name, new_name, LedgerIs, Makes}
 
@@ -101,3 +102,10 @@ drop_nil (suc n) = refl
 pub filled : (b bytes a : List ℕ) → b ≡ [] → Holds 0 bytes b a → a ≡ bytes
 filled b bytes a empty holds =
     holds ∙ ap (λ (l : List ℕ). take 0 l ++ bytes ++ drop (0 + length bytes) l) empty ∙ ap (λ (l : List ℕ). bytes ++ l) (drop_nil (0 + length bytes)) ∙ append-nil bytes
+
+-- a file that was cut to nothing, written and made durable
+pub whole_file : (name bytes : List ℕ) (a b f e : World) → Stands name 0 a → OnOwn (Rewrites name (λ x y. y ≡ take 0 x)) a b → OnOwn (Rewrites name (Holds 0 bytes)) b f → e.own name ≡ f.own name → e.own name ≡ Some bytes
+whole_file name bytes a b f e stood cut written same =
+    let empty = cut.own.file stood.0 stood.1 in
+    let whole = written.own.file empty.0 empty.1 in
+    same ∙ whole.1 ∙ ap Some (filled empty.0 bytes whole.0 empty.2 whole.2)

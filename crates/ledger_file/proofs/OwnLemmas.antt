@@ -4,7 +4,8 @@ use Rattle.ftn_addr.specs.declared.refusals.Failed.{Failed}
 use Rattle.disk_model.specs.World.{World}
 use Rattle.disk_model.specs.Answers.{Creates}
 use Rattle.disk_model.specs.Changes.{Same, AtOnce, OnOwn, Rewrites, Only}
-use Rattle.disk_model.specs.Moments.{Steps, Leaves, started, goes_on}
+use Rattle.disk_model.specs.Moments.{Steps, Leaves}
+use Rattle.disk_model.proofs.MomentLemmas.{started, goes_on}
 use Rattle.disk_model.specs.declared.answers.Made.{Made}
 use Rattle.disk_model.specs.declared.answers.Made.TheVariants.{New, Exists}
 

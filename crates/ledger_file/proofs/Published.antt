@@ -2,7 +2,8 @@
 use Rattle.std.proofs.Common.{◌≡◌, ℕ, ◌+◌, List, [], ◌∷◌, length, take, drop, Some, ◌∙◌, subst, arith, append_assoc}
 use Rattle.disk_model.specs.World.{World}
 use Rattle.disk_model.specs.Changes.{Every, Follows, Same, SameAt, Stands, OnOwn, Rewrites, Torn, Holds}
-use Rattle.disk_model.specs.Moments.{Now, Steps, Leaves, started, goes_on, same_now}
+use Rattle.disk_model.specs.Moments.{Now, Steps, Leaves}
+use Rattle.disk_model.proofs.MomentLemmas.{started, goes_on, same_now}
 use Rattle.ledger_file.specs.Gate.{IsShut, ShutAt, Published, Opened}
 use Rattle.ledger_file.proofs.GateLemmas.{Staged, long, torn_behind, torn_gate, is_staged, is_opened, same_as_shut}
 use Rattle.ledger_file.proofs.OwnLemmas.{own_map, own_then, own_same}

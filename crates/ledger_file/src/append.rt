@@ -35,6 +35,7 @@ impl Ledger {
         ensures reserved { IfErr result (λ fault. 1 ≤ self.old.reserved → fault ≡ Disk) }
         ensures unchanged { IfErr result (λ fault. (fault ≡ Disk) ⊎ (disk.new ≡ disk.old)) }
         ensures faults { D.fault_count disk.old ≤ D.fault_count disk.new }
+        ensures calm { OnOk result (D.fault_count disk.new ≡ D.fault_count disk.old) }
     {
         if self.is_full_for(1) {
             return Err(AppendFault::Full);
@@ -73,6 +74,7 @@ impl Ledger {
         ensures reserved { IfErr result (λ fault. length payloads.now ≤ self.old.reserved → fault ≡ Disk) }
         ensures unchanged { IfErr result (λ fault. (fault ≡ Disk) ⊎ (disk.new ≡ disk.old)) }
         ensures faults { D.fault_count disk.old ≤ D.fault_count disk.new }
+        ensures calm { OnOk result (D.fault_count disk.new ≡ D.fault_count disk.old) }
     {
         if self.is_full_for(payloads.len()) {
             return Err(AppendFault::Full);

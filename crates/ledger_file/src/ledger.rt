@@ -49,6 +49,13 @@ impl Ledger {
         self.records.place(i as usize)
     }
 
+    /// The places reserved.
+    pub fn reserved(&self) -> u32
+        ensures { result ≡ self.now.reserved }
+    {
+        self.reserved
+    }
+
     /// Keeps places and memory for `n` more payloads, so that appending them answers Ok or Disk. Where it
     /// is refused nothing changed.
     pub fn reserve(&mut self, n: u32) -> Result<(), AppendFault>

@@ -23,8 +23,6 @@ mod opening;
 mod publish;
 mod read;
 mod records;
-#[cfg(test)]
-mod tests;
 mod whole_file;
 
 pub use fault::{AppendFault, OpenFault};

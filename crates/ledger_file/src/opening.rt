@@ -1,5 +1,5 @@
 //! Opening a ledger.
-ghost use Rattle.std.specs.Prelude.{◌≡◌, ◌⊎◌, ◌≤◌, List, ℕ, [], length, option_map, Some, Err, IfOk, IfErr, IsErrOf};
+ghost use Rattle.std.specs.Prelude.{◌≡◌, ◌⊎◌, ◌≤◌, List, ℕ, [], length, option_map, Some, Err, IfOk, IfErr, OnOk, IsErrOf};
 ghost use Rattle.disk_model.specs.Changes.{Every, Follows, Same, Stands, IsFree};
 ghost use Rattle.disk_model.specs.Moments.{Now, Leaves};
 ghost use Rattle.disk_model.specs.World.{World};
@@ -32,6 +32,7 @@ impl Ledger {
         ensures stood { IfErr result (λ fault. (fault ≡ Disk) ⊎ ((fault ≡ NoMemory) ⊎ Every (D.files disk.old) (Stands ledger_name 0))) }
         ensures disk { IsErrOf result OpenFault.Disk → Increased (D.fault_count disk.old) (D.fault_count disk.new) }
         ensures faults { D.fault_count disk.old ≤ D.fault_count disk.new }
+        ensures calm { OnOk result (D.fault_count disk.new ≡ D.fault_count disk.old) }
 
         // A stop leaves all as it was, but that a new ledger may have been made, wholly or not at all. Where
         // a ledger stands nothing changes.
@@ -74,6 +75,7 @@ fn make_new<D: Disk>(alloc: Global, disk: &mut D) -> Result<Records, OpenFault>
     ensures fault { IfErr result (λ fault. (fault ≡ Disk) ⊎ (fault ≡ NoMemory)) }
     ensures disk { IsErrOf result OpenFault.Disk → Increased (D.fault_count disk.old) (D.fault_count disk.new) }
     ensures faults { D.fault_count disk.old ≤ D.fault_count disk.new }
+    ensures calm { OnOk result (D.fault_count disk.new ≡ D.fault_count disk.old) }
     ensures stop { Leaves D.moment D.images Makes disk.old disk.new }
     ensures read { Follows Makes (D.files disk.old) (D.files disk.new) }
 {
@@ -93,6 +95,7 @@ fn read_standing<D: Disk>(alloc: Global, disk: &mut D, len: u64) -> Result<Recor
     ensures fault { IfErr result (λ fault. (fault ≡ Disk) ⊎ ((fault ≡ NoMemory) ⊎ Every (D.files disk.old) (Refuses fault))) }
     ensures disk { IsErrOf result OpenFault.Disk → Increased (D.fault_count disk.old) (D.fault_count disk.new) }
     ensures faults { D.fault_count disk.old ≤ D.fault_count disk.new }
+    ensures calm { OnOk result (D.fault_count disk.new ≡ D.fault_count disk.old) }
     ensures stop { Leaves D.moment D.images Same disk.old disk.new }
     ensures read { Every (D.files disk.new) (D.files disk.old) }
 {

@@ -15,8 +15,10 @@
 //! Left out: lines, the clock, random numbers and standard error, which come with the server.
 #![tactic(auto)]
 
+mod error;
 mod real_folder;
 #[cfg(test)]
 mod tests;
 
+pub use error::{SystemCall, SystemError};
 pub use real_folder::RealFolder;

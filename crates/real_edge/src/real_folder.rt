@@ -1,5 +1,6 @@
 //! A folder of the file system.
 mod calls;
+mod copying;
 mod outside;
 mod own;
 mod paths;

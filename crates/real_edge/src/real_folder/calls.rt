@@ -1,12 +1,12 @@
 //! The calls of a disk and a yard, each counted where the system failed.
 ghost use Rattle.ftn_addr.specs.Counts.{next_count};
-ghost use Rattle.std.specs.Prelude.{◌≡◌, IfOk, OnOk, OnErr};
+ghost use Rattle.std.specs.Prelude.{◌≡◌, Some, IfOk, IfErr, OnOk, OnErr};
 ghost use Rattle.disk_model.specs.Causes.{HasCause, ListsWithCause};
 
 use super::own::Folder;
+use crate::error::{Answer, ListError, SystemError};
 use disk_model::{Copied, Disk, Giving, Hit, ListFault, Made, Marking, Moved, Name, OutStat, Yard};
 use ftn_addr::{Bytes, Failed, NoMemory};
-use std::io;
 use std::rt::Files;
 
 /// The mailer's own folder in the file system, and the folders beside it.
@@ -16,6 +16,7 @@ use std::rt::Files;
 pub struct RealFolder<R: Files> {
     folder: Folder<R>,
     faults: u64,
+    last_error: Option<SystemError>,
 }
 
 impl<R: Files + AllocGlobal + Clone + Drop> RealFolder<R> {
@@ -24,39 +25,53 @@ impl<R: Files + AllocGlobal + Clone + Drop> RealFolder<R> {
         ensures { IfOk result (λ folder. folder.faults ≡ 0) }
     {
         let folder = Folder::new(files.alloc(), files, path)?;
-        Ok(RealFolder { folder, faults: 0 })
+        Ok(RealFolder {
+            folder,
+            faults: 0,
+            last_error: None,
+        })
     }
 
-    fn add_fault(&mut self)
-        ensures { self.new.faults ≡ next_count self.old.faults }
+    /// The last call of the system that failed, and why. None before the first.
+    pub fn last_error(&self) -> Option<SystemError>
+        ensures { result ≡ self.now.last_error }
+    {
+        self.last_error
+    }
+
+    fn add_fault(&mut self, error: SystemError)
+        ensures counted { self.new.faults ≡ next_count self.old.faults }
+        ensures kept { self.new.last_error ≡ Some error }
     {
         self.faults = self.faults.saturating_add(1);
+        self.last_error = Some(error);
     }
 
     // Counts an answer where it is an error.
-    fn count<T>(&mut self, answer: io::Result<T>) -> Result<T, Failed>
+    fn count<T>(&mut self, answer: Answer<T>) -> Result<T, Failed>
         ensures ok { OnOk result (self.new.faults ≡ self.old.faults) }
         ensures err { OnErr result (self.new.faults ≡ next_count self.old.faults) }
+        ensures kept { IfErr answer (λ e. self.new.last_error ≡ Some e) }
         ensures cause { HasCause self.old.faults self.new.faults result }
     {
         match answer {
             Ok(it) => Ok(it),
-            Err(_) => {
-                self.add_fault();
+            Err(e) => {
+                self.add_fault(e);
                 Err(Failed)
             }
         }
     }
 
     // The same of a list.
-    fn count_list<T>(&mut self, answer: Result<Vec<T>, ListFault>) -> Result<Vec<T>, ListFault>
+    fn count_list<T>(&mut self, answer: Result<Vec<T>, ListError>) -> Result<Vec<T>, ListFault>
         ensures cause { ListsWithCause self.old.faults self.new.faults result }
     {
         match answer {
             Ok(names) => Ok(names),
-            Err(ListFault::NoMemory) => Err(ListFault::NoMemory),
-            Err(ListFault::Failed) => {
-                self.add_fault();
+            Err(ListError::NoMemory) => Err(ListFault::NoMemory),
+            Err(ListError::System(e)) => {
+                self.add_fault(e);
                 Err(ListFault::Failed)
             }
         }
@@ -64,6 +79,10 @@ impl<R: Files + AllocGlobal + Clone + Drop> RealFolder<R> {
 }
 
 impl<R: Files + AllocGlobal + Clone + Drop> Disk for RealFolder<R> {
+    ghost use Rattle.std.specs.Prelude.{⊤, false};
+    ghost use Rattle.std.proofs.lemmas.Bool.{false≢true};
+    ghost use Rattle.disk_model.specs.World.{nothing_there};
+
     ghost files = { λ _ _. ⊥ };
 
     ghost images = { λ _ _ _. ⊥ };
@@ -73,6 +92,16 @@ impl<R: Files + AllocGlobal + Clone + Drop> Disk for RealFolder<R> {
     ghost fault_count = { λ d. d.faults };
 
     ghost as_read = { λ _ _ none. absurd none };
+
+    ghost rule = { λ _ _ _. ⊤ };
+
+    ghost tells = { false };
+
+    ghost content = { λ _. nothing_there };
+
+    ghost reads = { λ _ _ none. absurd none };
+
+    ghost told = { λ yes _. absurd (false≢true yes) };
 
     fn faults(&self) -> u64 {
         self.faults

@@ -1,54 +1,64 @@
-//! Outside folders.
+//! Outside folders. A path under which no file can stand, as one below a file, one that isn't UTF-8 or one
+//! with a name of over 255 bytes, has no file; only `mark` and `give` fail there.
+use super::copying::copy_most;
 use super::own::Folder;
-use super::paths::{folder_of, is_entry_name, text};
+use super::paths::{folder_of, is_entry_name, text, whole_text};
 use super::system::{
-    at_path, copy_most, file_at, found, make_new, open_plain, plain_len, remove_any, stat_of,
-    sync_folder,
+    at_path, cut_to, file_at, found, link, make_folders, make_new, open_file, open_plain,
+    plain_len, remove, remove_any, rename, stat_of, sync_file, sync_folder, write_all,
 };
-use disk_model::{Copied, Giving, Hit, ListFault, Marking, Moved, Name, OutStat};
+use crate::error::{Answer, ListError, SystemCall, SystemError, refused};
+use disk_model::{Copied, Giving, Hit, Marking, Moved, Name, OutStat};
 use ftn_addr::Bytes;
-use std::fs::{OpenFile, OpenOptions, ReadDir};
-use std::io::Write;
+use std::fs::{OpenOptions, ReadDir};
 use std::rt::Files;
 use std::{fs, io};
 
 impl<R: Files + Drop> Folder<R> {
-    pub fn look(&self, path: &Bytes) -> io::Result<Option<OutStat>> {
-        match file_at(&self.files, text(path.as_slice())?)? {
+    pub fn look(&self, path: &Bytes) -> Answer<Option<OutStat>> {
+        let Some(path) = text(path.as_slice()) else {
+            return Ok(None);
+        };
+        match file_at(&self.files, path)? {
             Some(metadata) => Ok(Some(stat_of(&metadata))),
             None => Ok(None),
         }
     }
 
-    /// Syncs the file before it moves, since the program that wrote it may not have. A link isn't taken.
-    pub fn take(&mut self, path: &Bytes, own: &Name) -> io::Result<Moved> {
-        let path = text(path.as_slice())?;
-        if file_at(&self.files, path)?.is_none() {
+    /// Syncs the file before it moves, since the program that wrote it may not have. A link is no file.
+    pub fn take(&mut self, path: &Bytes, own: &Name) -> Answer<Moved> {
+        let Some(path) = text(path.as_slice()) else {
             return Ok(Moved::Absent);
-        }
+        };
+        let Some(file) = open_plain(&self.files, path)? else {
+            return Ok(Moved::Absent);
+        };
         self.forget(own);
         let new = self.paths.own(own)?;
         if at_path(&self.files, new)?.is_some() {
-            return Err(io::ErrorKind::AlreadyExists.into());
+            return Err(refused(SystemCall::Rename, io::ErrorKind::AlreadyExists));
         }
-        open_plain(&self.files, path)?.sync_all()?;
-        fs::rename(&self.files, path, new)?;
+        sync_file(&file)?;
+        rename(&self.files, path, new)?;
         self.sync_names()?;
         sync_folder(&self.files, folder_of(path))?;
         Ok(Moved::Done)
     }
 
     /// Removes the own file and makes it anew, so that no link is followed.
-    pub fn copy(&mut self, path: &Bytes, own: &Name, most: u64) -> io::Result<Copied> {
-        let path = text(path.as_slice())?;
-        let Some(metadata) = file_at(&self.files, path)? else {
+    pub fn copy(&mut self, path: &Bytes, own: &Name, most: u64) -> Answer<Copied> {
+        let Some(path) = text(path.as_slice()) else {
             return Ok(Copied::Absent);
         };
-        let mut source = fs::File::open(&self.files, path)?;
+        let mut how = OpenOptions::new();
+        how.read(true);
+        let Some((mut source, metadata)) = open_file(&self.files, path, &how)? else {
+            return Ok(Copied::Absent);
+        };
         self.forget(own);
         let new = self.paths.own(own)?;
-        remove_any(&self.files, new)?;
         self.has_new_names = true;
+        remove_any(&self.files, new)?;
         if metadata.len() > most {
             return Ok(Copied::Over);
         }
@@ -62,68 +72,83 @@ impl<R: Files + Drop> Folder<R> {
                 }))
             }
             None => {
-                remove_any(&self.files, new)?;
+                remove(&self.files, new)?;
                 Ok(Copied::Over)
             }
         }
     }
 
-    pub fn remove_if(&self, path: &Bytes, was: &OutStat) -> io::Result<Hit> {
-        let path = text(path.as_slice())?;
-        if !self.is_as_it_was(path, was)? {
+    pub fn remove_if(&self, path: &Bytes, was: &OutStat) -> Answer<Hit> {
+        let Some(path) = text(path.as_slice()) else {
             return Ok(Hit::Other);
+        };
+        match file_at(&self.files, path)? {
+            Some(metadata) if stat_of(&metadata) == *was => self.remove_out(path),
+            _ => Ok(Hit::Other),
         }
-        fs::remove_file(&self.files, path)?;
-        sync_folder(&self.files, folder_of(path))?;
-        Ok(Hit::Done)
     }
 
-    pub fn cut_if(&self, path: &Bytes, was: &OutStat) -> io::Result<Hit> {
-        let path = text(path.as_slice())?;
-        if !self.is_as_it_was(path, was)? {
+    pub fn cut_if(&self, path: &Bytes, was: &OutStat) -> Answer<Hit> {
+        let Some(path) = text(path.as_slice()) else {
             return Ok(Hit::Other);
+        };
+        match file_at(&self.files, path)? {
+            Some(metadata) if stat_of(&metadata) == *was => {}
+            _ => return Ok(Hit::Other),
         }
-        let file = OpenOptions::new().write(true).open(&self.files, path)?;
-        if stat_of(&file.metadata()?) != *was {
-            return Ok(Hit::Other);
+        let mut how = OpenOptions::new();
+        how.write(true);
+        match open_file(&self.files, path, &how)? {
+            Some((file, metadata)) if stat_of(&metadata) == *was => {
+                cut_to(&file, 0)?;
+                sync_file(&file)?;
+                Ok(Hit::Done)
+            }
+            _ => Ok(Hit::Other),
         }
-        file.set_len(0)?;
-        file.sync_all()?;
-        Ok(Hit::Done)
     }
 
     /// Writes and syncs the text in the own folder, and gives it its path by a link: that fails where the
     /// path is in use, and else the whole text is there at once. What an earlier mark left there is removed
     /// first and never written over, since it may be that mark itself.
-    pub fn mark(&mut self, path: &Bytes, text_bytes: &Bytes) -> io::Result<Marking> {
-        let path = text(path.as_slice())?;
+    pub fn mark(&mut self, path: &Bytes, text: &Bytes) -> Answer<Marking> {
+        let path = whole_text(path.as_slice())?;
         if at_path(&self.files, path)?.is_some() {
-            return Ok(Marking::Exists);
+            return self.standing_mark(path);
         }
+        make_folders(&self.files, folder_of(path))?;
         let written = self.paths.mark()?;
         remove_any(&self.files, written)?;
         let mut file = make_new(&self.files, written)?;
-        file.write_all(text_bytes.as_slice())?;
-        file.sync_all()?;
-        let linked = fs::hard_link(&self.files, written, path);
-        let marking = match linked {
-            Ok(()) => {
-                sync_folder(&self.files, folder_of(path))?;
-                Marking::Made
-            }
-            Err(e) if e.kind() == io::ErrorKind::AlreadyExists => Marking::Exists,
-            Err(e) => return Err(e),
-        };
-        fs::remove_file(&self.files, written)?;
+        write_all(&mut file, text.as_slice())?;
+        sync_file(&file)?;
+        let is_made = link(&self.files, written, path)?;
+        if is_made {
+            sync_folder(&self.files, folder_of(path))?;
+        }
+        remove(&self.files, written)?;
         self.sync_names()?;
-        Ok(marking)
+        if is_made {
+            Ok(Marking::Made)
+        } else {
+            self.standing_mark(path)
+        }
+    }
+
+    // A mark stands there, where a file does. A folder, or a link that leads to no file, is none.
+    fn standing_mark(&self, path: &str) -> Answer<Marking> {
+        match file_at(&self.files, path)? {
+            Some(_) => Ok(Marking::Exists),
+            None => Err(refused(SystemCall::Link, io::ErrorKind::AlreadyExists)),
+        }
     }
 
     /// A name that no folder can have is refused.
-    pub fn give(&mut self, own: &Name, folder: &Bytes, name: &Bytes) -> io::Result<Giving> {
-        let (folder, name) = (text(folder.as_slice())?, text(name.as_slice())?);
+    pub fn give(&mut self, own: &Name, folder: &Bytes, name: &Bytes) -> Answer<Giving> {
+        let folder = whole_text(folder.as_slice())?;
+        let name = whole_text(name.as_slice())?;
         if !is_entry_name(name) {
-            return Err(io::ErrorKind::InvalidFilename.into());
+            return Err(refused(SystemCall::Path, io::ErrorKind::InvalidFilename));
         }
         self.forget(own);
         let (old, new) = self.paths.out(own, folder, name)?;
@@ -131,69 +156,69 @@ impl<R: Files + Drop> Folder<R> {
             return Ok(Giving::Taken);
         }
         if plain_len(&self.files, old)?.is_none() {
-            return Err(io::ErrorKind::NotFound.into());
+            return Err(refused(SystemCall::Rename, io::ErrorKind::NotFound));
         }
-        fs::rename(&self.files, old, new)?;
+        make_folders(&self.files, folder)?;
+        rename(&self.files, old, new)?;
         self.has_new_names = true;
         sync_folder(&self.files, folder)?;
         self.sync_names()?;
         Ok(Giving::Given)
     }
 
-    fn is_as_it_was(&self, path: &str, was: &OutStat) -> io::Result<bool> {
-        match file_at(&self.files, path)? {
-            Some(metadata) => Ok(stat_of(&metadata) == *was),
-            None => Ok(false),
+    // Removes a file that was there just now, and makes that durable.
+    fn remove_out(&self, path: &str) -> Answer<Hit> {
+        if !remove_any(&self.files, path)? {
+            return Ok(Hit::Other);
         }
+        sync_folder(&self.files, folder_of(path))?;
+        Ok(Hit::Done)
     }
 }
 
 impl<R: Files + AllocGlobal + Clone + Drop> Folder<R> {
-    pub fn unmark(&self, path: &Bytes, text_bytes: &Bytes) -> io::Result<Hit> {
-        let path = text(path.as_slice())?;
+    pub fn unmark(&self, path: &Bytes, mark: &Bytes) -> Answer<Hit> {
+        let Some(path) = text(path.as_slice()) else {
+            return Ok(Hit::Other);
+        };
         match file_at(&self.files, path)? {
-            Some(metadata) if metadata.len() == text_bytes.len() as u64 => {}
+            Some(metadata) if metadata.len() == mark.len() as u64 => {}
             _ => return Ok(Hit::Other),
         }
-        if fs::read(&self.files, path)?.as_slice() != text_bytes.as_slice() {
-            return Ok(Hit::Other);
+        match found(SystemCall::Read, fs::read(&self.files, path))? {
+            Some(bytes) if bytes.as_slice() == mark.as_slice() => self.remove_out(path),
+            _ => Ok(Hit::Other),
         }
-        fs::remove_file(&self.files, path)?;
-        sync_folder(&self.files, folder_of(path))?;
-        Ok(Hit::Done)
     }
 
     /// The names that are UTF-8, in the order of their bytes.
-    pub fn names(&self, folder: &Bytes) -> Result<Vec<Bytes>, ListFault> {
+    pub fn names(&self, folder: &Bytes) -> Result<Vec<Bytes>, ListError> {
         let alloc = self.files.alloc();
         let mut names = Vec::new(alloc);
-        let entries = match self.entries(folder) {
-            Ok(Some(entries)) => entries,
-            Ok(None) => return Ok(names),
-            Err(_) => return Err(ListFault::Failed),
+        let Some(entries) = self.entries(folder)? else {
+            return Ok(names);
         };
         for entry in entries {
-            let entry = match entry {
-                Ok(entry) => entry,
-                Err(e) if e.kind() == io::ErrorKind::InvalidFilename => continue,
-                Err(_) => return Err(ListFault::Failed),
-            };
-            let Ok(name) = Bytes::from_slice(alloc, entry.file_name().as_bytes()) else {
-                return Err(ListFault::NoMemory);
-            };
-            if names.push(name).is_err() {
-                return Err(ListFault::NoMemory);
+            match entry {
+                Ok(entry) => {
+                    names.push(Bytes::from_slice(alloc, entry.file_name().as_bytes())?)?;
+                }
+                Err(e) if e.kind() == io::ErrorKind::InvalidFilename => {}
+                Err(error) => return Err(ListError::System(SystemError {
+                    call: SystemCall::List,
+                    error,
+                })),
             }
         }
-        match names.sort() {
-            Ok(()) => Ok(names),
-            Err(_) => Err(ListFault::NoMemory),
-        }
+        names.sort()?;
+        Ok(names)
     }
 
-    fn entries(&self, folder: &Bytes) -> io::Result<Option<ReadDir<R>>> {
-        let folder = text(folder.as_slice())?;
+    fn entries(&self, folder: &Bytes) -> Answer<Option<ReadDir<R>>> {
+        let Some(folder) = text(folder.as_slice()) else {
+            return Ok(None);
+        };
         let folder = if folder.is_empty() { "." } else { folder };
-        found(fs::read_dir(&self.files, folder))
+        found(SystemCall::List, fs::read_dir(&self.files, folder))
     }
 }

@@ -1,11 +1,15 @@
 //! The own folder.
 use super::paths::Paths;
-use super::system::{make_new, open_plain, plain_len, sync_folder};
-use disk_model::{ListFault, Made, Name};
+use super::system::{
+    cut_to, make_new, open_plain, plain_len, remove, rename, status_of, sync_file, sync_folder,
+    write_all,
+};
+use crate::error::{Answer, ListError, SystemCall, refused, told};
+use disk_model::{Made, Name};
 use ftn_addr::NoMemory;
 use std::alloc::Global;
 use std::fs::{DirEntry, OpenFile};
-use std::io::{Read, Seek, SeekFrom, Write};
+use std::io::{Read, Seek, SeekFrom};
 use std::rt::Files;
 use std::{fs, io};
 
@@ -38,19 +42,19 @@ impl<R: Files + Drop> Folder<R> {
     }
 
     /// The length of a file.
-    pub fn len_of(&mut self, name: &Name) -> io::Result<Option<u64>> {
+    pub fn len_of(&mut self, name: &Name) -> Answer<Option<u64>> {
         plain_len(&self.files, self.paths.own(name)?)
     }
 
-    pub fn read(&mut self, name: &Name, at: u64, out: &mut [u8]) -> io::Result<()> {
+    pub fn read(&mut self, name: &Name, at: u64, out: &mut [u8]) -> Answer<()> {
         let mut file = self.open(name)?;
-        file.seek(SeekFrom::Start(at))?;
-        file.read_exact(out)?;
+        told(SystemCall::Seek, file.seek(SeekFrom::Start(at)))?;
+        told(SystemCall::Read, file.read_exact(out))?;
         self.hold(name, file);
         Ok(())
     }
 
-    pub fn create(&mut self, name: &Name) -> io::Result<Made> {
+    pub fn create(&mut self, name: &Name) -> Answer<Made> {
         self.forget(name);
         match make_new(&self.files, self.paths.own(name)?) {
             Ok(file) => {
@@ -58,38 +62,34 @@ impl<R: Files + Drop> Folder<R> {
                 self.sync_names()?;
                 Ok(Made::New)
             }
-            Err(e) if e.kind() == io::ErrorKind::AlreadyExists => match self.len_of(name)? {
-                Some(_) => Ok(Made::Exists),
-                None => Err(e),
-            },
+            Err(e) if e.error.kind() == io::ErrorKind::AlreadyExists => {
+                match self.len_of(name)? {
+                    Some(_) => Ok(Made::Exists),
+                    None => Err(e),
+                }
+            }
             Err(e) => Err(e),
         }
     }
 
-    pub fn write(&mut self, name: &Name, at: u64, bytes: &[u8]) -> io::Result<()> {
-        let mut file = self.open(name)?;
-        if file.metadata()?.len() < at {
-            return Err(io::ErrorKind::InvalidInput.into());
-        }
-        file.seek(SeekFrom::Start(at))?;
-        file.write_all(bytes)?;
+    pub fn write(&mut self, name: &Name, at: u64, bytes: &[u8]) -> Answer<()> {
+        let mut file = self.open_with(name, at)?;
+        told(SystemCall::Seek, file.seek(SeekFrom::Start(at)))?;
+        write_all(&mut file, bytes)?;
         self.hold(name, file);
         Ok(())
     }
 
-    pub fn cut(&mut self, name: &Name, len: u64) -> io::Result<()> {
-        let file = self.open(name)?;
-        if file.metadata()?.len() < len {
-            return Err(io::ErrorKind::InvalidInput.into());
-        }
-        file.set_len(len)?;
+    pub fn cut(&mut self, name: &Name, len: u64) -> Answer<()> {
+        let file = self.open_with(name, len)?;
+        cut_to(&file, len)?;
         self.hold(name, file);
         Ok(())
     }
 
-    pub fn sync(&mut self, name: &Name) -> io::Result<()> {
+    pub fn sync(&mut self, name: &Name) -> Answer<()> {
         let file = self.open(name)?;
-        file.sync_all()?;
+        sync_file(&file)?;
         if self.has_new_names {
             self.sync_names()?;
         }
@@ -98,24 +98,24 @@ impl<R: Files + Drop> Folder<R> {
     }
 
     /// Makes the names in the folder durable. Where that fails, the next [`Folder::sync`] does it.
-    pub(super) fn sync_names(&mut self) -> io::Result<()> {
+    pub(super) fn sync_names(&mut self) -> Answer<()> {
         self.has_new_names = true;
         sync_folder(&self.files, self.paths.folder())?;
         self.has_new_names = false;
         Ok(())
     }
 
-    pub fn rename(&mut self, from: &Name, to: &Name) -> io::Result<()> {
+    pub fn rename(&mut self, from: &Name, to: &Name) -> Answer<()> {
         self.forget(from);
         self.forget(to);
         let (old, new) = self.paths.two(from, to)?;
-        fs::rename(&self.files, old, new)?;
+        rename(&self.files, old, new)?;
         self.sync_names()
     }
 
-    pub fn remove(&mut self, name: &Name) -> io::Result<()> {
+    pub fn remove(&mut self, name: &Name) -> Answer<()> {
         self.forget(name);
-        fs::remove_file(&self.files, self.paths.own(name)?)?;
+        remove(&self.files, self.paths.own(name)?)?;
         self.sync_names()
     }
 
@@ -133,35 +133,41 @@ impl<R: Files + Drop> Folder<R> {
     }
 
     // The file that is held, or else it is opened.
-    fn open(&mut self, name: &Name) -> io::Result<R::File> {
+    fn open(&mut self, name: &Name) -> Answer<R::File> {
         match self.held.take() {
             Some(held) if held.name == *name => Ok(held.file),
-            _ => open_plain(&self.files, self.paths.own(name)?),
+            _ => match open_plain(&self.files, self.paths.own(name)?)? {
+                Some(file) => Ok(file),
+                None => Err(refused(SystemCall::Open, io::ErrorKind::NotFound)),
+            },
         }
+    }
+
+    // The same file where it has at least so many bytes.
+    fn open_with(&mut self, name: &Name, len: u64) -> Answer<R::File> {
+        let file = self.open(name)?;
+        if status_of(&file)?.len() < len {
+            return Err(refused(SystemCall::Stat, io::ErrorKind::InvalidInput));
+        }
+        Ok(file)
     }
 }
 
 impl<R: Files + AllocGlobal + Clone + Drop> Folder<R> {
     /// The names of own files that regular files have, in the order of their bytes.
-    pub fn list(&self) -> Result<Vec<Name>, ListFault> {
-        let Ok(entries) = fs::read_dir(&self.files, self.paths.folder()) else {
-            return Err(ListFault::Failed);
-        };
+    pub fn list(&self) -> Result<Vec<Name>, ListError> {
+        let entries = told(
+            SystemCall::List,
+            fs::read_dir(&self.files, self.paths.folder()),
+        )?;
         let mut names = Vec::new(self.files.alloc());
         for entry in entries {
-            let Ok(name) = own_name(entry) else {
-                return Err(ListFault::Failed);
-            };
-            if let Some(name) = name
-                && names.push(name).is_err()
-            {
-                return Err(ListFault::NoMemory);
+            if let Some(name) = told(SystemCall::List, own_name(entry))? {
+                names.push(name)?;
             }
         }
-        match names.sort() {
-            Ok(()) => Ok(names),
-            Err(_) => Err(ListFault::NoMemory),
-        }
+        names.sort()?;
+        Ok(names)
     }
 }
 

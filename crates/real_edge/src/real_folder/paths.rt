@@ -1,9 +1,10 @@
 //! The paths of files, as the runtime takes them: texts in UTF-8.
-ghost use Rattle.std.specs.Prelude.{◌≡◌, nat_eq, string_bytes, IfOk, OnOk};
+ghost use Rattle.std.specs.Prelude.{◌≡◌, nat_eq, string_bytes, IfOk, IfSome, OnOk};
 ghost use Rattle.std.specs.List.{list_any};
 ghost use Rattle.disk_model.specs.Folders.{path_in};
 ghost use Rattle.real_edge.specs.Names.{is_entry_name};
 
+use crate::error::{Answer, SystemCall, refused, told};
 use disk_model::Name;
 use ftn_addr::NoMemory;
 use std::alloc::Global;
@@ -39,52 +40,56 @@ impl Paths {
     }
 
     /// The path of an own file.
-    pub fn own(&mut self, name: &Name) -> io::Result<&str>
+    pub fn own(&mut self, name: &Name) -> Answer<&str>
         ensures { IfOk result (λ path. path.now ≡ path_in (string_bytes self.old.folder) name.now) }
     {
-        join(
-            &mut self.first,
-            self.folder.as_str(),
-            text(name.as_slice())?,
-        )?;
+        let name = whole_text(name.as_slice())?;
+        join(&mut self.first, self.folder.as_str(), name)?;
         Ok(self.first.as_str())
     }
 
     /// The paths of two own files.
-    pub fn two(&mut self, from: &Name, to: &Name) -> io::Result<(&str, &str)>
+    pub fn two(&mut self, from: &Name, to: &Name) -> Answer<(&str, &str)>
         ensures from { IfOk result (λ paths. paths.0.now ≡ path_in (string_bytes self.old.folder) from.now) }
         ensures to { IfOk result (λ paths. paths.1.now ≡ path_in (string_bytes self.old.folder) to.now) }
     {
         let folder = self.folder.as_str();
-        join(&mut self.first, folder, text(from.as_slice())?)?;
-        join(&mut self.second, folder, text(to.as_slice())?)?;
+        join(&mut self.first, folder, whole_text(from.as_slice())?)?;
+        join(&mut self.second, folder, whole_text(to.as_slice())?)?;
         Ok((self.first.as_str(), self.second.as_str()))
     }
 
     /// The path of an own file, and that of a name in an outside folder.
-    pub fn out(&mut self, own: &Name, folder: &str, name: &str) -> io::Result<(&str, &str)>
+    pub fn out(&mut self, own: &Name, folder: &str, name: &str) -> Answer<(&str, &str)>
         ensures own { IfOk result (λ paths. paths.0.now ≡ path_in (string_bytes self.old.folder) own.now) }
         ensures given { IfOk result (λ paths. paths.1.now ≡ path_in folder.now name.now) }
     {
-        join(&mut self.first, self.folder.as_str(), text(own.as_slice())?)?;
+        join(&mut self.first, self.folder.as_str(), whole_text(own.as_slice())?)?;
         join(&mut self.second, folder, name)?;
         Ok((self.first.as_str(), self.second.as_str()))
     }
 
     /// The path under which a mark is written.
-    pub fn mark(&mut self) -> io::Result<&str> {
+    pub fn mark(&mut self) -> Answer<&str> {
         join(&mut self.first, self.folder.as_str(), MARK)?;
         Ok(self.first.as_str())
     }
 }
 
-/// A path or name as text. One that isn't UTF-8 is refused.
-pub fn text(bytes: &[u8]) -> io::Result<&str>
+/// A path or name as text, or None where it isn't UTF-8. No file has such a path here.
+pub fn text(bytes: &[u8]) -> Option<&str>
+    ensures { IfSome result (λ text. text.now ≡ bytes.now) }
+{
+    str::from_utf8(bytes).ok()
+}
+
+/// The same of a path that has to be one.
+pub fn whole_text(bytes: &[u8]) -> Answer<&str>
     ensures { IfOk result (λ text. text.now ≡ bytes.now) }
 {
-    match str::from_utf8(bytes) {
-        Ok(text) => Ok(text),
-        Err(_) => Err(io::ErrorKind::InvalidFilename.into()),
+    match text(bytes) {
+        Some(text) => Ok(text),
+        None => Err(refused(SystemCall::Path, io::ErrorKind::InvalidFilename)),
     }
 }
 
@@ -111,7 +116,13 @@ fn has_slash(name: &[u8]) -> bool
 }
 
 // Spells the path of a name in a folder. The empty folder is the one that the program runs in.
-fn join(path: &mut String, folder: &str, name: &str) -> io::Result<()>
+fn join(path: &mut String, folder: &str, name: &str) -> Answer<()>
+    ensures { OnOk result (string_bytes path.new ≡ path_in folder.now name.now) }
+{
+    told(SystemCall::Path, spell(path, folder, name))
+}
+
+fn spell(path: &mut String, folder: &str, name: &str) -> io::Result<()>
     ensures { OnOk result (string_bytes path.new ≡ path_in folder.now name.now) }
 {
     path.clear();

@@ -1,78 +1,189 @@
 //! Calls of the system.
-ghost use Rattle.std.specs.Prelude.{◌≤◌, IfOk, IfSome};
+ghost use Rattle.std.specs.Prelude.{OnOk};
+ghost use Rattle.std.specs.Io.KnownBytes.{Appends};
 
+use crate::error::{Answer, SystemCall, refused, told};
+use super::paths::folder_of;
 use disk_model::OutStat;
 use std::fs::{Metadata, OpenFile, OpenOptions};
-use std::io::{Read, Write};
+use std::io::Write;
 use std::os::unix::fs::MetadataExt;
 use std::rt::Files;
 use std::{fs, io};
 
-/// What was found, or None where nothing stands there.
-pub fn found<T>(answer: io::Result<T>) -> io::Result<Option<T>> {
+// Whether the error says that no file stands under a path: nothing does, what stands above is no folder,
+// links lead in a circle, or no file can have a name in it.
+fn is_no_file(kind: io::ErrorKind) -> bool {
+    matches!(
+        kind,
+        io::ErrorKind::NotFound
+            | io::ErrorKind::NotADirectory
+            | io::ErrorKind::FilesystemLoop
+            | io::ErrorKind::InvalidFilename
+            | io::ErrorKind::InvalidInput
+    )
+}
+
+/// What was found, or None where no file stands there.
+pub fn found<T>(call: SystemCall, answer: io::Result<T>) -> Answer<Option<T>> {
     match answer {
         Ok(it) => Ok(Some(it)),
-        Err(e) if e.kind() == io::ErrorKind::NotFound => Ok(None),
-        Err(e) => Err(e),
+        Err(e) if is_no_file(e.kind()) => Ok(None),
+        Err(e) => told(call, Err(e)),
     }
 }
 
 /// What stands under a path itself, be it a link.
-pub fn at_path<R: Files>(files: &R, path: &str) -> io::Result<Option<Metadata>> {
-    found(fs::symlink_metadata(files, path))
+pub fn at_path<R: Files>(files: &R, path: &str) -> Answer<Option<Metadata>> {
+    found(SystemCall::Stat, fs::symlink_metadata(files, path))
 }
 
 /// The regular file to which a path leads, also through links.
-pub fn file_at<R: Files>(files: &R, path: &str) -> io::Result<Option<Metadata>> {
-    match found(fs::metadata(files, path))? {
+pub fn file_at<R: Files>(files: &R, path: &str) -> Answer<Option<Metadata>> {
+    match found(SystemCall::Stat, fs::metadata(files, path))? {
         Some(metadata) if metadata.is_file() => Ok(Some(metadata)),
         _ => Ok(None),
     }
 }
 
-/// The length of the regular file that stands under a path itself.
-pub fn plain_len<R: Files>(files: &R, path: &str) -> io::Result<Option<u64>> {
-    match at_path(files, path)? {
-        Some(metadata) if metadata.is_file() => Ok(Some(metadata.len())),
-        Some(_) => Err(io::ErrorKind::InvalidInput.into()),
-        None => Ok(None),
+/// The length of the regular file that stands under the path of an own file itself.
+pub fn plain_len<R: Files>(files: &R, path: &str) -> Answer<Option<u64>> {
+    match fs::symlink_metadata(files, path) {
+        Ok(metadata) if metadata.is_file() => Ok(Some(metadata.len())),
+        Ok(_) => Err(refused(SystemCall::Stat, io::ErrorKind::InvalidInput)),
+        Err(e) if e.kind() == io::ErrorKind::NotFound => Ok(None),
+        Err(e) => told(SystemCall::Stat, Err(e)),
     }
 }
 
-/// Opens the regular file that stands under a path itself. A link is refused, also one that comes there in
-/// the meantime.
-pub fn open_plain<R: Files>(files: &R, path: &str) -> io::Result<R::File> {
-    let named = fs::symlink_metadata(files, path)?;
+/// Opens the regular file that stands under a path itself. A link is none, also one that comes there in the
+/// meantime.
+pub fn open_plain<R: Files>(files: &R, path: &str) -> Answer<Option<R::File>> {
+    let Some(named) = at_path(files, path)? else {
+        return Ok(None);
+    };
     if !named.is_file() {
-        return Err(io::ErrorKind::InvalidInput.into());
+        return Ok(None);
     }
-    let file = OpenOptions::new().read(true).write(true).open(files, path)?;
-    let opened = file.metadata()?;
+    let answer = OpenOptions::new().read(true).write(true).open(files, path);
+    let Some(file) = found(SystemCall::Open, answer)? else {
+        return Ok(None);
+    };
+    let opened = status_of(&file)?;
     if named.dev() != opened.dev() || named.ino() != opened.ino() {
-        return Err(io::ErrorKind::InvalidInput.into());
+        return Ok(None);
     }
-    Ok(file)
+    Ok(Some(file))
+}
+
+/// Opens the regular file to which a path leads, to be read or to be cut.
+pub fn open_file<R: Files>(
+    files: &R,
+    path: &str,
+    how: &OpenOptions,
+) -> Answer<Option<(R::File, Metadata)>> {
+    if file_at(files, path)?.is_none() {
+        return Ok(None);
+    }
+    let Some(file) = found(SystemCall::Open, how.open(files, path))? else {
+        return Ok(None);
+    };
+    let metadata = status_of(&file)?;
+    if !metadata.is_file() {
+        return Ok(None);
+    }
+    Ok(Some((file, metadata)))
+}
+
+/// What the system says of an open file.
+pub fn status_of<F: OpenFile>(file: &F) -> Answer<Metadata> {
+    told(SystemCall::Stat, file.metadata())
 }
 
 /// Makes a new file and opens it. It follows no link.
-pub fn make_new<R: Files>(files: &R, path: &str) -> io::Result<R::File> {
-    OpenOptions::new()
+pub fn make_new<R: Files>(files: &R, path: &str) -> Answer<R::File> {
+    let answer = OpenOptions::new()
         .read(true)
         .write(true)
         .create_new(true)
-        .open(files, path)
+        .open(files, path);
+    told(SystemCall::Open, answer)
 }
 
-/// Removes a file where one stands.
-pub fn remove_any<R: Files>(files: &R, path: &str) -> io::Result<()> {
-    found(fs::remove_file(files, path))?;
-    Ok(())
+/// Writes all the bytes, also where the system takes a few at a time.
+pub fn write_all<F: Write>(file: &mut F, bytes: &[u8]) -> Answer<()>
+    ensures { OnOk result (Appends (F.contents file.old) (F.contents file.new) bytes.now) }
+{
+    told(SystemCall::Write, file.write_all(bytes))
+}
+
+pub fn cut_to<F: OpenFile>(file: &F, len: u64) -> Answer<()> {
+    told(SystemCall::Truncate, file.set_len(len))
+}
+
+/// Makes the bytes of a file durable.
+pub fn sync_file<F: OpenFile>(file: &F) -> Answer<()> {
+    told(SystemCall::Sync, file.sync_all())
 }
 
 /// Makes the names in a folder durable. The empty path is the folder that the program runs in.
-pub fn sync_folder<R: Files>(files: &R, path: &str) -> io::Result<()> {
+pub fn sync_folder<R: Files>(files: &R, path: &str) -> Answer<()> {
     let path = if path.is_empty() { "." } else { path };
-    fs::File::open(files, path)?.sync_all()
+    let folder = told(SystemCall::Open, fs::File::open(files, path))?;
+    sync_file(&folder)
+}
+
+pub fn rename<R: Files>(files: &R, from: &str, to: &str) -> Answer<()> {
+    told(SystemCall::Rename, fs::rename(files, from, to))
+}
+
+pub fn remove<R: Files>(files: &R, path: &str) -> Answer<()> {
+    told(SystemCall::Remove, fs::remove_file(files, path))
+}
+
+/// Removes a file where one stands, and says whether one did.
+pub fn remove_any<R: Files>(files: &R, path: &str) -> Answer<bool> {
+    Ok(found(SystemCall::Remove, fs::remove_file(files, path))?.is_some())
+}
+
+/// Gives a file a second path, unless something stands there: then it says false.
+pub fn link<R: Files>(files: &R, file: &str, path: &str) -> Answer<bool> {
+    match fs::hard_link(files, file, path) {
+        Ok(()) => Ok(true),
+        Err(e) if e.kind() == io::ErrorKind::AlreadyExists => Ok(false),
+        Err(e) => told(SystemCall::Link, Err(e)),
+    }
+}
+
+/// Makes a folder and those above it, where they are missing, and makes their names durable.
+pub fn make_folders<R: Files>(files: &R, path: &str) -> Answer<()> {
+    if path.is_empty() || is_folder(files, path)? {
+        return Ok(());
+    }
+    for (end, byte) in path.as_bytes().iter().enumerate() {
+        if *byte == b'/'
+            && 0 < end
+            && let Some(above) = path.get(..end)
+        {
+            make_folder(files, above)?;
+        }
+    }
+    make_folder(files, path)
+}
+
+fn make_folder<R: Files>(files: &R, path: &str) -> Answer<()> {
+    if is_folder(files, path)? {
+        return Ok(());
+    }
+    told(SystemCall::MakeFolder, fs::create_dir(files, path))?;
+    sync_folder(files, folder_of(path))
+}
+
+fn is_folder<R: Files>(files: &R, path: &str) -> Answer<bool> {
+    match found(SystemCall::Stat, fs::metadata(files, path))? {
+        Some(metadata) => Ok(metadata.is_dir()),
+        None => Ok(false),
+    }
 }
 
 /// The size of a file and its time of change, in whole seconds. A time before 1970 is 0.
@@ -81,28 +192,4 @@ pub fn stat_of(metadata: &Metadata) -> OutStat {
         size: metadata.len(),
         time: u64::try_from(metadata.mtime()).unwrap_or(0),
     }
-}
-
-/// Copies to the end, and answers the number of bytes, or None once there are more than `most`.
-pub fn copy_most<S: Read, F: Write>(
-    source: &mut S,
-    file: &mut F,
-    most: u64,
-) -> io::Result<Option<u64>>
-    ensures { IfOk result (λ copied. IfSome copied (λ size. size ≤ most)) }
-{
-    let mut block = [0; 4096];
-    let mut copied = 0u64;
-    for _ in 0..u64::MAX {
-        let came = source.read(&mut block)?;
-        if came == 0 {
-            return Ok(Some(copied));
-        }
-        copied = copied.saturating_add(came as u64);
-        if copied > most {
-            return Ok(None);
-        }
-        file.write_all(&block[..came])?;
-    }
-    Err(io::ErrorKind::FileTooLarge.into())
 }

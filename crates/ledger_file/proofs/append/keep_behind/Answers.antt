@@ -1,6 +1,6 @@
 use Rattle.std.proofs.Common.{arith, take, drop}
 use Rattle.disk_model.specs.Changes.{OnOwn, Rewrites}
-use Rattle.disk_model.specs.Moments.{weakened}
+use Rattle.disk_model.proofs.MomentLemmas.{weakened}
 use Rattle.ledger_file.specs.Gate.{Published}
 use Rattle.ledger_file.specs.Ledger.{Appends}
 use Rattle.ledger_file.proofs.LedgerLemmas.{block_in, inside, short, room, stands_shut, leaves_some, leaves_all}

@@ -1,7 +1,7 @@
-use Rattle.std.proofs.Common.{rules, Some, ◌∙◌, ap}
+use Rattle.std.proofs.Common.{rules}
 use Rattle.disk_model.specs.Changes.{Every, Stands}
 use Rattle.ledger_file.proofs.OwnLemmas.{only_started, only_after_change, only_after_none, only_after_create}
-use Rattle.ledger_file.proofs.OpenLemmas.{filled}
+use Rattle.ledger_file.proofs.OpenLemmas.{whole_file}
 use Rattle.ledger_file.proofs.whole_file.put_file.Goals as goal
 
 pub returns-in_err-create-clause-stop : goal.returns-in_err-create-clause-stop
@@ -26,6 +26,4 @@ returns-clause-durable g c = λ e now.
     let cut = c.in_ok-cut.ensures.cut before.0 before.1 in
     let stands : Every (g.D.Disk.files c.create.new.self) (Stands c.args.name.now 0) = search rules in
     let stood = stands cut.0 cut.1 in
-    let empty = cut.2.own.file stood.0 stood.1 in
-    let whole = before.2.own.file empty.0 empty.1 in
-    read.2 ∙ whole.1 ∙ ap Some (filled empty.0 c.args.bytes.now whole.0 empty.2 whole.2)
+    whole_file c.args.name.now c.args.bytes.now cut.0 before.0 read.0 e (stands cut.0 cut.1) cut.2 before.2 read.2

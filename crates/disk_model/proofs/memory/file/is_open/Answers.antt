@@ -1,6 +1,0 @@
-use Rattle.std.proofs.Common.{◌∙◌}
-use Rattle.disk_model.proofs.UndoLemmas.{open_ranges}
-use Rattle.disk_model.proofs.memory.file.is_open.Goals as goal
-
-pub returns : goal.returns
-returns c = c.covers.ensures ∙ open_ranges c.args.changes.now c.args.place

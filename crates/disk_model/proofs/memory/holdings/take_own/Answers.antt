@@ -1,5 +1,0 @@
-use Rattle.disk_model.specs.EntryLaws.{removed_all}
-use Rattle.disk_model.proofs.memory.holdings.take_own.Goals as goal
-
-pub returns-clause-rest : goal.returns-clause-rest
-returns-clause-rest c = removed_all c.args.name.now c.args.files.now.entries c.remove.new.self.entries c.remove.ensures.entries c.remove.ensures.updates.1

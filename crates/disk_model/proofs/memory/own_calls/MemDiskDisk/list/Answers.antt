@@ -1,9 +1,0 @@
-use Rattle.disk_model.specs.Folders.{ListsFiles}
-use Rattle.disk_model.proofs.PlayLemmas.{told_by}
-use Rattle.disk_model.proofs.OwnLemmas.{lists_files}
-use Rattle.disk_model.proofs.memory.own_calls.MemDiskDisk.list.Goals as goal
-
-pub returns-in-Ok-pass-clause-told : goal.returns-in-Ok-pass-clause-told
-returns-in-Ok-pass-clause-told c =
-    let old = c.args.self.now in
-    told_by old (λ w. ListsFiles w.own c.in-Ok.names.items) (lists_files old.held.own c.in-Ok.names.items c.in-Ok.ensures.names c.in-Ok.ensures.ascend)

@@ -1,0 +1,9 @@
+mod CountLaws
+mod FolderLemmas
+mod HoldingLemmas
+mod MemoryLaws
+mod OwnLemmas
+mod PickLaws
+mod PlayLemmas
+mod UndoLemmas
+mod YardLemmas

@@ -1,0 +1,9 @@
+pub mod EntryLaws
+pub mod Holding
+pub mod Kept
+pub mod MemoryDisk
+pub mod Picks
+pub mod ReadLaw
+pub mod StopLaws
+pub mod TornLaws
+pub mod Undo
