@@ -5,3 +5,4 @@ pub mod Keeps
 pub mod Taken
 pub mod Slots
 pub mod Keepers
+pub mod Orders

@@ -1,5 +1,5 @@
 -- What clauses say of a gate and of its passes.
-use Rattle.std.specs.Prelude.{ℕ, ◌≡◌, ◌+◌, ◌<◌, true, false, List, [], ◌∷◌, None, Some, All, map, slice_get, Contains, ◌⊎◌}
+use Rattle.std.specs.Prelude.{ℕ, ◌≡◌, ◌+◌, ◌<◌, true, false, List, [], ◌∷◌, None, Some, All, length, map, slice_get, slice_index_or, Contains, ◌⊎◌}
 use Rattle.turn_gate.specs.declared.gate.Gate.{Gate}
 use Rattle.turn_gate.specs.declared.grows.Grows.{Ghosts}
 use Rattle.turn_gate.specs.declared.no_turn.NoTurn.{NoTurn}
@@ -56,6 +56,11 @@ module _ {T X E P : Type 0} {g : Ghosts T X E P} where
   pub record AreAll (gate : Gate T X E P) (passes : List (Pass T X E P g)) : Type 0 where
     pub free : All (IsFree gate) passes
     pub every_seat : (k : ℕ) → k < seats_of gate → Contains (map (λ p. (view p).seat) passes) k
+
+  -- all passes of the gate, in the order of their seats. None has the turn
+  pub record AreInOrder (gate : Gate T X E P) (passes : List (Pass T X E P g)) : Type 0 where
+    pub count : length passes ≡ seats_of gate
+    pub each : (k : ℕ) (d : Pass T X E P g) → k < length passes → IsFree gate (slice_index_or passes k d) × ((view (slice_index_or passes k d)).seat ≡ k)
 
   -- the state is what a pass that made a turn has left, or the opening one where none made a turn
   abbrev pub IsLastLeft : X → X → List (Pass T X E P g) → Type 0

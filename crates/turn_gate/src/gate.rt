@@ -15,7 +15,8 @@ use std::snapshot::Snapshot;
 use std::sync::Wait;
 use std::thread;
 
-/// A value behind a gate. Threads share it by `&`.
+/// A value behind a gate. Threads share it by `&`. Letting it go lets the value go; [`Gate::close`] gives it back.
+#[derive(Drop)]
 pub struct Gate<T: Grows> {
     pub(crate) table: Table<Option<Counted<T>>, View<T::State>, Opening<T>, GateRule<T>, Global>,
     ghost sized: { (table.shared.table_id.words ≡ 2) × (table.shared.table_id.slots ≡ 1) },

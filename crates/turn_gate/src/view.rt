@@ -2,6 +2,7 @@
 use std::collections::LinkedList;
 
 /// The value, with the number of turns made so far beside it.
+#[derive(Drop)]
 pub struct Counted<T> {
     pub value: T,
     pub count: u64,
