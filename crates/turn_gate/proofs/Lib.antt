@@ -1,4 +1,5 @@
 pub mod Paths
+pub mod Continued
 pub mod Removed
 pub mod Ends
 pub mod Keeps
