@@ -1,9 +1,9 @@
 -- A seat that is alone is also one that isn't.
-use Rattle.std.proofs.Common.{◌≡◌, ◌⊎◌, ℕ, zero, Bool, true, false, ◌≤◌, ◌<◌, List, [], ◌∷◌, Option, Some, None, refl, sym, ap, subst, inl, inr, le_refl}
+use Rattle.std.proofs.Common.{◌≡◌, ◌⊎◌, ℕ, true, false, ◌≤◌, ◌<◌, List, [], ◌∷◌, Option, Some, None, sym, subst, inl, inr}
 use Rattle.node_model.specs.Durable.{Durable}
 use Rattle.node_model.specs.Calls.{Knows, DeskState, Turned, CallsBeside, Turns, Drifts}
-use Rattle.node_model.specs.Images.{TurnPasses, DriftPasses, OpensTo, Stand, Drifted, AlongAt, SettledAt, Rising, RanAt, last_of}
-use Rattle.node_model.proofs.Drifting.{drift_none, drifted_none}
+use Rattle.node_model.specs.Images.{TurnPasses, OpensTo, Stand, Drifted, AlongAt, SettledAt, RanAt}
+use Rattle.node_model.proofs.Drifting.{drift_none}
 
 drift_shared : (seat : ℕ) (a b : Knows) → Drifts true seat a b → Drifts false seat a b
 drift_shared seat a b same = subst (λ (k : Knows). Drifts false seat a k) (sym same) (drift_none false seat a)

@@ -1,8 +1,8 @@
 -- Steps of other seats, one after another, and before a call.
-use Rattle.std.proofs.Common.{◌≡◌, ◌⊎◌, ℕ, zero, suc, Bool, true, false, ◌≤◌, List, [], ◌∷◌, refl, sym, ◌∙◌, subst, inl, inr, le_refl, arith}
+use Rattle.std.proofs.Common.{◌≡◌, ◌⊎◌, ℕ, zero, suc, Bool, true, false, ◌≤◌, refl, sym, ◌∙◌, subst, inl, inr, le_refl, arith}
 use Rattle.node_model.specs.Durable.{Durable}
 use Rattle.node_model.specs.Node.{Node}
-use Rattle.node_model.specs.Calls.{OtherSteps, OtherStep, Counts, CountsRise, Knows, Tells, Counts_alone, Drifts, DeskState, Turned, Rowed, CallsBeside}
+use Rattle.node_model.specs.Calls.{OtherSteps, Knows, Tells, Counts_alone, Drifts, DeskState, Turned, Rowed, CallsBeside}
 use Rattle.node_model.specs.Images.{OthersPass, DriftPasses, RowsPass, TurnPasses, Drifted}
 
 pub record Farther (n seat : ℕ) (a b : Node) (x : OtherSteps n seat a b) (c : Node) : Type 0 where

@@ -1,9 +1,9 @@
 -- What was received when a call ended stays received in every image since.
-use Rattle.std.proofs.Common.{◌≡◌, ◌⊎◌, ℕ, ◌≤◌, ◌<◌, Bool, List, [], ◌∷◌, Option, Some, None, refl, sym, ap, subst, inl, inr, arith}
+use Rattle.std.proofs.Common.{◌≡◌, ◌⊎◌, ℕ, ◌≤◌, ◌<◌, Bool, List, [], ◌∷◌, Some, sym, ap, subst, inl, inr, arith}
 use Rattle.node_model.specs.Durable.{Durable}
 use Rattle.node_model.specs.Node.{Node}
-use Rattle.node_model.specs.Calls.{Event, Knows, Tells, Counts_alone, DeskState, Turned, Beside, OwnRow, Made_row, Missing, Rowed, CallsBeside, Turns}
-use Rattle.node_model.specs.Images.{DriftPasses, BesidePass, OwnPasses, RowsPass, TurnPasses, IsState, OpensTo, Settles, AllSettle, Stand, Drifted, AlongAt, SettledAt, Rising, RanAt, last_of}
+use Rattle.node_model.specs.Calls.{Event, Knows, Tells, Counts_alone, DeskState, Turned, Beside, OwnRow, Made_row, Missing, CallsBeside, Turns}
+use Rattle.node_model.specs.Images.{DriftPasses, BesidePass, OwnPasses, TurnPasses, IsState, Stand, Drifted, AlongAt, SettledAt, Rising, RanAt, last_of}
 use Rattle.node_model.specs.Receipts.{StaysReceived, KnownStays, StaysIn, HasAt}
 use Rattle.node_model.proofs.ReceiptsStay.{self_stays, known_on, known_step, drift_stays, in_on, drift_passes, known_passes, stays_inbox}
 

@@ -1,10 +1,10 @@
 -- Calls of a desk, one after another, with the moments at which they ended.
-use Rattle.std.proofs.Common.{◌≡◌, ◌⊎◌, ℕ, ◌≤◌, ◌<◌, Bool, List, [], ◌∷◌, ◌++◌, Option, Some, None, refl, sym, ◌∙◌, ap, subst, inl, inr, le_refl, arith, true, false, nat_lt}
+use Rattle.std.proofs.Common.{◌≡◌, ◌⊎◌, ℕ, ◌≤◌, ◌<◌, Bool, List, [], ◌∷◌, ◌++◌, Option, Some, None, refl, subst, inl, inr, le_refl, arith, true, false, nat_lt}
 use Rattle.std.proofs.lemmas.Bool.{ltb-false}
 use Rattle.std.proofs.lemmas.Bool.Decides.{Decides-ltb}
 use Rattle.node_model.specs.Durable.{Durable}
 use Rattle.node_model.specs.Calls.{Call, Answer, DeskState, Turned, turned, CallsBeside, Turns}
-use Rattle.node_model.specs.Images.{TurnPasses, DriftPasses, OpensTo, IsState, Settles, Stand, Kept, Drifted, Shared, AlongAt, SettledAt, Rising, RanAt, last_of}
+use Rattle.node_model.specs.Images.{DriftPasses, OpensTo, Stand, Kept, Drifted, Shared, AlongAt, SettledAt, Rising, RanAt, last_of}
 use Rattle.node_model.proofs.Drifting.{drifted_none, drifted_on, Earlier, earlier}
 
 pub opens_weaker : (P Q : Durable → Type 0) → ((x : Durable) → P x → Q x) → (d : Option Durable) → OpensTo P d → OpensTo Q d

@@ -7,7 +7,7 @@ use Rattle.node_model.specs.Lists.{some_passes}
 use Rattle.node_model.specs.Durable.{Durable}
 use Rattle.node_model.specs.Node.{Session, Node}
 use Rattle.node_model.specs.Rows.{FileAnswer, Have, Refuse, Elsewhere, Go, Whole, From, Late, Answered, unheld, released, LeaveRow}
-use Rattle.node_model.specs.Calls.{Call, Answer, Fault, Event, Knock_call, Open_call, File_call, Data_call, Leave_call, Let_in, Begun, Settled, Filed, More, Whole_now, Refused, Disk, Read, Full, No_memory, Made, Passes, Before_it, After_it, NotMade, NodeStep, OtherSteps, KnownStep, Drifts, Knows, Tells, Counts_alone}
+use Rattle.node_model.specs.Calls.{Call, Answer, Fault, Knock_call, Open_call, File_call, Data_call, Leave_call, Let_in, Begun, Settled, Filed, More, Whole_now, Refused, Disk, Read, Full, No_memory, Made, Passes, Before_it, After_it, NotMade, NodeStep, OtherSteps, KnownStep, Drifts, Knows, Tells, Counts_alone}
 use Rattle.node_model.specs.Images.{OthersPass, DriftPasses, KnownPasses}
 use Rattle.node_model.specs.Receipts.{StaysReceived, KnownStays, StaysIn}
 

@@ -1,9 +1,9 @@
 -- What one seat did alone is a step of others to every other seat of its hub.
-use Rattle.std.proofs.Common.{◌≡◌, ◌≢◌, ◌⊎◌, ℕ, zero, suc, Bool, true, false, ◌≤◌, ◌<◌, List, [], ◌∷◌, Option, refl, sym, subst, inl, inr}
+use Rattle.std.proofs.Common.{◌≡◌, ◌≢◌, ◌⊎◌, ℕ, zero, suc, true, false, List, [], ◌∷◌, Option, refl, sym, subst, inl, inr}
 use Rattle.node_model.specs.Durable.{Durable}
 use Rattle.node_model.specs.Node.{Node}
 use Rattle.node_model.specs.Calls.{Call, Answer, Event, OtherSteps, Knows, Tells, Counts_alone, KnownStep, DeskState, Turned, Beside, OwnRow, Made_row, Missing, Rowed, CallsBeside, Turns}
-use Rattle.node_model.specs.Images.{OthersPass, KnownPasses, BesidePass, OwnPasses, RowsPass, TurnPasses, OpensTo, Stand, Shared, AlongAt, RanAt, last_of}
+use Rattle.node_model.specs.Images.{OthersPass, KnownPasses, BesidePass, OwnPasses, RowsPass, TurnPasses, Stand, Shared, AlongAt, RanAt, last_of}
 use Rattle.node_model.proofs.Drifting.{others_join, either_or}
 use Rattle.node_model.proofs.Rans.{last-rises, opens_weaker, le_trans}
 
