@@ -1,6 +1,5 @@
 -- One more node of an index, whose address is above the last.
-use Rattle.std.proofs.Common.{◌≡◌, ℕ, zero, suc, ◌-◌, ◌<◌, List, [], ◌∷◌, ◌++◌, length, get_or, map, option_map, Result, Ok, sym, ap, ◌∙◌, subst, inl, inr, arith}
-use Rattle.std.specs.Prelude.{slice_get}
+use Rattle.std.proofs.Common.{◌≡◌, ℕ, suc, ◌+◌, ◌-◌, ◌<◌, ◌≤◌, List, [], ◌∷◌, ◌++◌, length, get_or, map, Result, Ok, sym, ap, ◌∙◌, subst, inl, inr, arith}
 use Rattle.std.proofs.lemmas.Bool.{cases_lt}
 use Rattle.std.proofs.lemmas.List.{length-map, length-append, map-append}
 use Rattle.std.proofs.Math.ListN.{get_or-append}
@@ -8,7 +7,7 @@ use Rattle.std.proofs.Math.Seq.{get_or-append_seam}
 use Rattle.nodelist_comp.specs.Node.{ListedNode, place_of}
 use Rattle.ftn_addr.specs.Outcomes.{◌>>=◌}
 use Rattle.nodelist_find.specs.Cursor.{Left}
-use Rattle.nodelist_find.specs.Nodes.{IsAbove, SpotAt, address_of, last_address, node_at, nodes_from, place_at}
+use Rattle.nodelist_find.specs.Nodes.{IsSpot, SpotAt, address_of, bounds_for, node_at, nodes_from, ordinal, place_at}
 use Rattle.nodelist_find.specs.Rising.{Rises, Rising}
 use Rattle.nodelist_find.specs.declared.fault.IndexFault.{IndexFault}
 
@@ -30,17 +29,37 @@ rises_push ps p rises last i j below within =
           ])
     ]
 
-place_below : (nodes : List ListedNode) (k : ℕ) (s : SpotAt) → k < length nodes → IsAbove (option_map address_of (slice_get nodes k)) s → get_or (map place_of nodes) k 0 < place_at s
-place_below [] k s within above = absurd (omega arith)
-place_below (n ∷ nodes) zero s within above = above
-place_below (n ∷ nodes) (suc k) s within above = place_below nodes k s (omega arith) above
+-- the last address is below that of this number
+abbrev pub IsBelow : List ListedNode → ℕ → Type 0
+IsBelow [] next = Unit {0}
+IsBelow (n ∷ []) next = IsSpot (address_of n) × (ordinal (address_of n) < next)
+IsBelow (n ∷ m ∷ nodes) next = IsBelow (m ∷ nodes) next
 
-pub rising_more : (nodes : List ListedNode) (n : ListedNode) → Rising nodes → IsAbove (last_address nodes) (address_of n) → Rising (nodes ++ n ∷ [])
-rising_more nodes n rising above =
+pub below_push : (nodes : List ListedNode) (n : ListedNode) → IsSpot (address_of n) → IsBelow (nodes ++ n ∷ []) (ordinal (address_of n) + 1)
+below_push [] n is = (is, omega arith)
+below_push (m ∷ []) n is = (is, omega arith)
+below_push (m ∷ k ∷ nodes) n is = below_push (k ∷ nodes) n is
+
+-- addresses rise as their numbers do
+pub place_rises : (a b : SpotAt) → IsSpot a → IsSpot b → ordinal a < ordinal b → place_at a < place_at b
+place_rises a b x y below =
+    let a_net : a.net ≤ 32767 = x.net in let a_node : a.node ≤ 32767 = x.node in
+    let b_net : b.net ≤ 32767 = y.net in let b_node : b.node ≤ 32767 = y.node in
+    omega (arith, below, a_net, a_node, b_net, b_node)
+
+last_below : (nodes : List ListedNode) (next : ℕ) (s : SpotAt) → IsBelow nodes next → IsSpot s → next ≤ ordinal s → 0 < length nodes → get_or (map place_of nodes) (length nodes - 1) 0 < place_at s
+last_below [] next s below is on some = absurd (omega arith)
+last_below (n ∷ []) next s below is on some = place_rises (address_of n) s below.0 is (omega (arith, below.1, on))
+last_below (n ∷ m ∷ nodes) next s below is on some =
+    let step : suc (length (m ∷ nodes) - 1) ≡ length (n ∷ m ∷ nodes) - 1 = omega arith in
+    subst (λ (k : ℕ). get_or (map place_of (n ∷ m ∷ nodes)) k 0 < place_at s) step (last_below (m ∷ nodes) next s below is on (omega arith))
+
+pub rising_more : (nodes : List ListedNode) (n : ListedNode) (next : ℕ) → Rising nodes → IsBelow nodes next → IsSpot (address_of n) → next ≤ ordinal (address_of n) → Rising (nodes ++ n ∷ [])
+rising_more nodes n next rising below is on =
     let count = length-map nodes place_of in
-    let last : 0 < length (map place_of nodes) → get_or (map place_of nodes) (length (map place_of nodes) - 1) 0 < place_of n = λ some. subst (λ (k : ℕ). get_or (map place_of nodes) k 0 < place_of n) (ap (λ (k : ℕ). k - 1) (sym count)) (place_below nodes (length nodes - 1) (address_of n) (omega arith) above) in
+    let last : 0 < length (map place_of nodes) → get_or (map place_of nodes) (length (map place_of nodes) - 1) 0 < place_of n = λ some. subst (λ (k : ℕ). get_or (map place_of nodes) k 0 < place_of n) (ap (λ (k : ℕ). k - 1) (sym count)) (last_below nodes next (address_of n) below is on (omega arith)) in
     subst (λ (ps : List ℕ). Rises ps) (sym (map-append place_of nodes (n ∷ []))) (rises_push (map place_of nodes) (place_of n) rising last)
 
-pub nodes_more : (left k : ℕ) (nodes : List ListedNode) (rest after : Left) (n : ListedNode) → left ≡ suc k → node_at (last_address nodes) rest ≡ Ok (n, after) → nodes_from left nodes rest ≡ nodes_from k (nodes ++ n ∷ []) after
-nodes_more left k nodes rest after n one read =
-    ap (λ (c : ℕ). nodes_from c nodes rest) one ∙ ap (λ (r : Result (ListedNode × Left) IndexFault). r >>= λ x. nodes_from k (nodes ++ x.0 ∷ []) x.1) read
+pub nodes_more : (left k next : ℕ) (nodes : List ListedNode) (rest after : Left) (n : ListedNode) → left ≡ suc k → node_at (bounds_for next left) rest ≡ Ok (n, after) → nodes_from left next nodes rest ≡ nodes_from k (ordinal (address_of n) + 1) (nodes ++ n ∷ []) after
+nodes_more left k next nodes rest after n one read =
+    ap (λ (c : ℕ). nodes_from c next nodes rest) one ∙ ap (λ (r : Result (ListedNode × Left) IndexFault). r >>= λ x. nodes_from k (ordinal (address_of x.0) + 1) (nodes ++ x.0 ∷ []) x.1) (ap (λ (c : ℕ). node_at (bounds_for next c) rest) (sym one) ∙ read)

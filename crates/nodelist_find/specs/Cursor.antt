@@ -1,5 +1,5 @@
 -- Bytes that are read from the front (own).
-use Rattle.std.specs.Prelude.{◌≡◌, ℕ, ◌+◌, ◌*◌, ◌/◌, ◌%◌, ◌==◌, Bool, false, nat_lt, nat_eq, List, [], ◌∷◌, length, take, drop, codes, Option, Some, None, Result, Ok, Err, if◌then◌else◌}
+use Rattle.std.specs.Prelude.{ℕ, ◌+◌, ◌*◌, ◌/◌, ◌%◌, ◌==◌, ◌&&◌, nat_lt, nat_le, nat_eq, List, [], ◌∷◌, length, take, drop, codes, Result, Ok, Err, if◌then◌else◌}
 use Rattle.std.specs.List.{common_prefix_len}
 use Rattle.ftn_addr.specs.Outcomes.{◌>>=◌}
 use Rattle.nodelist_find.specs.declared.fault.IndexFault.{IndexFault}
@@ -22,29 +22,30 @@ byte_of place (byte ∷ rest) = Ok (byte, record { place = place + 1; rest = res
 unfoldable pub byte_at : Left → Result (ℕ × Left) IndexFault
 byte_at left = byte_of left.place left.rest
 
-abbrev pub falls_below : Option ℕ → ℕ → Bool
-falls_below None byte = false
-falls_below (Some above) byte = nat_lt byte above
+-- the numbers from one to another
+pub record Span : Type 0 where
+  pub low : ℕ
+  pub high : ℕ
 
--- a byte that doesn't fall below another
-unfoldable pub byte_above : Option ℕ → Left → Result (ℕ × Left) IndexFault
-byte_above above left = do
+-- a byte of these
+unfoldable pub byte_in : Span → Left → Result (ℕ × Left) IndexFault
+byte_in span left = do
   x ← byte_at left
-  if falls_below above x.0 then Err (Bad left.place) else Ok x
+  if nat_le span.low x.0 && nat_le x.0 span.high then Ok x else Err (Bad left.place)
 
-abbrev pub high_of : Option ℕ → Option ℕ
-high_of None = None
-high_of (Some above) = Some (above / 256)
+-- the high bytes of the numbers
+abbrev pub high_bytes : Span → Span
+high_bytes span = record { low = span.low / 256; high = span.high / 256 }
 
-abbrev pub low_of : Option ℕ → ℕ → Option ℕ
-low_of None high = None
-low_of (Some above) high = if high == above / 256 then Some (above % 256) else None
+-- the low bytes of those numbers that have this high byte
+abbrev pub low_bytes : Span → ℕ → Span
+low_bytes span high = record { low = if high == span.low / 256 then span.low % 256 else 0; high = if high == span.high / 256 then span.high % 256 else 255 }
 
--- a number of two bytes, none of which falls below another number's
-unfoldable pub number_above : Option ℕ → Left → Result (ℕ × Left) IndexFault
-number_above above left = do
-  high ← byte_above (high_of above) left
-  low ← byte_above (low_of above high.0) high.1
+-- A number of these in two bytes. The byte is told from which on it is none of them.
+unfoldable pub number_in : Span → Left → Result (ℕ × Left) IndexFault
+number_in span left = do
+  high ← byte_in (high_bytes span) left
+  low ← byte_in (low_bytes span high.0) high.1
   Ok (high.0 * 256 + low.0, low.1)
 
 -- so many bytes

@@ -1,12 +1,13 @@
 -- What an index keeps of a list of nodes.
-use Rattle.std.specs.Prelude.{◌<◌, nat_lt, [], length, if◌then◌else◌}
+use Rattle.std.specs.Prelude.{◌<◌, ◌≤◌, nat_lt, [], length, if◌then◌else◌}
 use Rattle.nodelist_comp.specs.Node.{ListedNode}
+use Rattle.ftn_addr.specs.declared.limits.TheConstants.{MAX_ADDRESS_NUMBER}
 
--- numbers of two bytes
+-- numbers of an address (FTS-5000), and a port of two bytes
 pub record IsListed (n : ListedNode) : Type 0 where
-  pub zone : n.zone < 65536
-  pub net : n.net < 65536
-  pub node : n.node < 65536
+  pub zone : n.zone ≤ MAX_ADDRESS_NUMBER
+  pub net : n.net ≤ MAX_ADDRESS_NUMBER
+  pub node : n.node ≤ MAX_ADDRESS_NUMBER
   pub port : n.port < 65536
 
 -- a host of more than 255 bytes is taken as empty

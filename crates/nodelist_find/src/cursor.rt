@@ -1,8 +1,8 @@
 //! Bytes that are read from the front.
-ghost use Rattle.std.specs.Prelude.{◌≡◌, ◌+◌, ◌<◌, ◌≤◌, ◌^◌, nat_eq, length, IfOk, IfSome};
+ghost use Rattle.std.specs.Prelude.{◌≡◌, ◌+◌, ◌<◌, ◌≤◌, ◌^◌, ◌&&◌, nat_eq, nat_le, length, IfOk};
 ghost use Rattle.std.specs.List.{common_prefix_len};
-ghost use Rattle.ftn_addr.specs.Outcomes.{Gives};
-ghost use Rattle.nodelist_find.specs.Cursor.{byte_at, byte_above, bytes_at, high_of, low_of, number_above, after_magic};
+ghost use Rattle.ftn_addr.specs.Outcomes.{GivesExactly};
+ghost use Rattle.nodelist_find.specs.Cursor.{after_magic, byte_at, byte_in, bytes_at, high_bytes, low_bytes, number_in};
 
 use crate::IndexFault;
 
@@ -29,33 +29,68 @@ fn same_front(a: &[u8], b: &[u8]) -> usize
     same
 }
 
-/// The high byte that a number must not fall below.
-fn high_of(above: Option<u16>) -> Option<u8>
-    ensures { result ≡ high_of above }
-{
-    match above {
-        Some(above) => Some((above / 256) as u8),
-        None => None,
-    }
+/// The numbers from one to another.
+#[derive(Clone, Copy)]
+pub(crate) struct Span {
+    pub low: u16,
+    pub high: u16,
 }
 
-/// The low byte that a number with this high byte must not fall below.
-fn low_of(above: Option<u16>, high: u8) -> Option<u8>
-    ensures { result ≡ low_of above high }
-{
-    match above {
-        Some(above) if u16::from(high) == above / 256 => Some((above % 256) as u8),
-        _ => None,
+impl Span {
+    ghost use Rattle.nodelist_find.specs.Views.{span_of};
+
+    /// All numbers of one byte.
+    pub const BYTES: Span = Span { low: 0, high: 255 };
+
+    /// All numbers of two bytes.
+    pub const NUMBERS: Span = Span {
+        low: 0,
+        high: 65_535,
+    };
+
+    fn has(self, byte: u8) -> bool
+        ensures { result ≡ (nat_le self.low byte && nat_le byte self.high) }
+    {
+        self.low <= u16::from(byte) && u16::from(byte) <= self.high
+    }
+
+    /// The high bytes of the numbers.
+    fn high_bytes(self) -> Span
+        ensures { span_of result ≡ high_bytes (span_of self) }
+    {
+        Span {
+            low: self.low / 256,
+            high: self.high / 256,
+        }
+    }
+
+    /// The low bytes of those numbers that have this high byte.
+    fn low_bytes(self, high: u8) -> Span
+        ensures { span_of result ≡ low_bytes (span_of self) high }
+    {
+        let high = u16::from(high);
+        Span {
+            low: if high == self.low / 256 {
+                self.low % 256
+            } else {
+                0
+            },
+            high: if high == self.high / 256 {
+                self.high % 256
+            } else {
+                255
+            },
+        }
     }
 }
 
 impl<'a> Cursor<'a> {
-    ghost use Rattle.nodelist_find.specs.Views.{seen};
+    ghost use Rattle.nodelist_find.specs.Views.{seen, span_of};
 
     /// The bytes behind the name of the format.
     #[tactic(auto, unfolding(crate::specs::Cursor::after_magic))]
     pub fn behind_magic(bytes: &'a [u8]) -> Result<Cursor<'a>, IndexFault>
-        ensures { Gives IndexFault.NoMemory seen result (after_magic bytes.now) }
+        ensures { GivesExactly seen result (after_magic bytes.now) }
     {
         let same = same_front(bytes, b"nodeidx1");
         if same < 8 {
@@ -69,7 +104,7 @@ impl<'a> Cursor<'a> {
 
     #[tactic(auto, unfolding(crate::specs::Cursor::byte_at))]
     pub fn byte(self) -> Result<(u8, Cursor<'a>), IndexFault>
-        ensures { Gives IndexFault.NoMemory (λ x. (x.0, seen x.1)) result (byte_at (seen self.entry)) }
+        ensures { GivesExactly (λ x. (x.0, seen x.1)) result (byte_at (seen self.entry)) }
     {
         let Cursor { place, rest, .. } = self;
         match rest {
@@ -84,35 +119,35 @@ impl<'a> Cursor<'a> {
         }
     }
 
-    /// A byte that must not fall below another.
-    #[tactic(auto, unfolding(crate::specs::Cursor::byte_above))]
-    fn byte_above(self, above: Option<u8>) -> Result<(u8, Cursor<'a>), IndexFault>
-        ensures gives { Gives IndexFault.NoMemory (λ x. (x.0, seen x.1)) result (byte_above above (seen self.entry)) }
-        ensures rises { IfOk result (λ x. IfSome above (λ above. above ≤ x.0)) }
+    /// A byte of these.
+    #[tactic(auto, unfolding(crate::specs::Cursor::byte_in))]
+    pub fn byte_in(self, span: Span) -> Result<(u8, Cursor<'a>), IndexFault>
+        ensures gives { GivesExactly (λ x. (x.0, seen x.1)) result (byte_in (span_of span) (seen self.entry)) }
+        ensures inside { IfOk result (λ x. (span.low ≤ x.0) × (x.0 ≤ span.high)) }
     {
         let place = self.place as u64;
         let (byte, rest) = self.byte()?;
-        match above {
-            Some(above) if byte < above => Err(IndexFault::Bad(place)),
-            _ => Ok((byte, rest)),
+        if !span.has(byte) {
+            return Err(IndexFault::Bad(place));
         }
+        Ok((byte, rest))
     }
 
-    /// A number of two bytes that must not fall below another.
-    #[tactic(auto, unfolding(crate::specs::Cursor::number_above))]
-    pub fn number(self, above: Option<u16>) -> Result<(u16, Cursor<'a>), IndexFault>
-        ensures gives { Gives IndexFault.NoMemory (λ x. (x.0, seen x.1)) result (number_above above (seen self.entry)) }
-        ensures rises { IfOk result (λ x. IfSome above (λ above. above ≤ x.0)) }
+    /// A number of these in two bytes.
+    #[tactic(auto, unfolding(crate::specs::Cursor::number_in))]
+    pub fn number_in(self, span: Span) -> Result<(u16, Cursor<'a>), IndexFault>
+        ensures gives { GivesExactly (λ x. (x.0, seen x.1)) result (number_in (span_of span) (seen self.entry)) }
+        ensures inside { IfOk result (λ x. (span.low ≤ x.0) × (x.0 ≤ span.high)) }
     {
-        let (high, rest) = self.byte_above(high_of(above))?;
-        let (low, rest) = rest.byte_above(low_of(above, high))?;
+        let (high, rest) = self.byte_in(span.high_bytes())?;
+        let (low, rest) = rest.byte_in(span.low_bytes(high))?;
         Ok((u16::from(high) * 256 + u16::from(low), rest))
     }
 
     /// So many bytes.
     #[tactic(auto, unfolding(crate::specs::Cursor::bytes_at))]
     pub fn bytes(self, len: usize) -> Result<(&'a [u8], Cursor<'a>), IndexFault>
-        ensures { Gives IndexFault.NoMemory (λ x. (x.0.now, seen x.1)) result (bytes_at len (seen self.entry)) }
+        ensures { GivesExactly (λ x. (x.0.now, seen x.1)) result (bytes_at len (seen self.entry)) }
     {
         let Cursor { place, rest, .. } = self;
         if rest.len() < len {

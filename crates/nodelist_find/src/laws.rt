@@ -1,5 +1,5 @@
 //! What holds of every list of nodes and its index.
-ghost use Rattle.std.specs.Prelude.{◌≡◌, ◌<◌, ◌^◌, ◌==◌, ℕ, List, length, map, find, Ok};
+ghost use Rattle.std.specs.Prelude.{◌≡◌, ◌≤◌, ◌==◌, ℕ, List, length, map, find, Ok};
 ghost use Rattle.std.specs.List.{AllByRecursion};
 ghost use Rattle.nodelist_comp.specs.Index.{in_order, index_of};
 ghost use Rattle.nodelist_comp.specs.Node.{ListedNode, place_of};
@@ -12,9 +12,9 @@ pub fn finds_what_the_list_has()
         ≡ find (λ n. place_of n == at) nodes }
 {}
 
-/// The index of a list, of whose nodes there are fewer than 2^32, is read as these nodes in its order,
+/// The index of a list, whose addresses are at most 65,536, is read as these nodes in its order,
 /// with a host of more than 255 bytes as empty.
 pub fn reads_what_is_written()
-    ensures { (nodes : List ListedNode) → AllByRecursion IsListed nodes → length (in_order nodes) < 2 ^ 32
+    ensures { (nodes : List ListedNode) → AllByRecursion IsListed nodes → length (in_order nodes) ≤ 65536
         → read_index (index_of nodes) ≡ Ok (map clipped (in_order nodes)) }
 {}

@@ -100,9 +100,76 @@ fn the_first_byte_that_fits_no_index(rt: HostRuntime) -> Result<(), Fail> {
     assert_eq!(rt; bad(b"nodeidx1\0\0\0\0x"), Some(IndexFault::Bad(12)));
     let one = b"nodeidx1\0\0\0\x01\0\x02\0\x02\0\0\x08\0\x5f\xea";
     assert_eq!(rt; bad(one), Some(IndexFault::Bad(18)));
-    let twice = b"nodeidx1\0\0\0\x02\0\x02\0\x02\0\0\0\0\x5f\xea\0\x02\0\x01\0\0";
-    assert_eq!(rt; bad(twice), Some(IndexFault::Bad(25)));
-    let same = b"nodeidx1\0\0\0\x02\0\x02\0\x02\0\0\0\0\x5f\xea\0\x02\0\x02\0\0";
-    assert_eq!(rt; bad(same), Some(IndexFault::Bad(27)));
     Ok(())
+}
+
+/// The bytes of an index of two nodes: the first at this address, of the second the address.
+fn two(alloc: Global, first: &[u8], second: &[u8]) -> Result<Bytes, Fail> {
+    let mut bytes = Bytes::from_slice(alloc, b"nodeidx1\0\0\0\x02")?;
+    bytes.push_slice(first)?;
+    bytes.push_slice(b"\x07\0\x5f\xea")?;
+    bytes.push_slice(second)?;
+    Ok(bytes)
+}
+
+#[test]
+fn an_address_is_at_least_the_next(rt: HostRuntime) -> Result<(), Fail> {
+    let alloc = rt.alloc();
+    let bad = |first: &[u8], second: &[u8]| -> Result<Option<IndexFault>, Fail> {
+        Ok(Index::open(alloc, two(alloc, first, second)?.as_slice()).err())
+    };
+    // 2:2/0, then the net falls; then the same address again; then only the bytes end
+    let first = b"\0\x02\0\x02\0\0";
+    assert_eq!(rt; bad(first, b"\0\x02\0\x01\0\0")?, Some(IndexFault::Bad(25)));
+    assert_eq!(rt; bad(first, b"\0\x02\0\x02\0\0")?, Some(IndexFault::Bad(27)));
+    assert_eq!(rt;
+        bad(first, b"\0\x02\0\x02\0\x01")?,
+        Some(IndexFault::Bad(28))
+    );
+    // 1:1/255, then 1:1/1: the next is 1:1/256, so that no address begins with 1:1/ and a byte 0
+    assert_eq!(rt;
+        bad(b"\0\x01\0\x01\0\xff", b"\0\x01\0\x01\0\x01")?,
+        Some(IndexFault::Bad(26))
+    );
+    // behind 1:1/32767 stands 1:2/0
+    assert_eq!(rt;
+        bad(b"\0\x01\0\x01\x7f\xff", b"\0\x01\0\x01\x7f\xff")?,
+        Some(IndexFault::Bad(25))
+    );
+    assert_eq!(rt;
+        bad(b"\0\x01\0\x01\x7f\xff", b"\0\x01\0\x02\0\0")?,
+        Some(IndexFault::Bad(28))
+    );
+    Ok(())
+}
+
+#[test]
+fn numbers_over_32767_fit_no_index(rt: HostRuntime) -> Result<(), Fail> {
+    let alloc = rt.alloc();
+    let bad = |first: &[u8]| -> Result<Option<IndexFault>, Fail> {
+        Ok(Index::open(alloc, two(alloc, first, b"")?.as_slice()).err())
+    };
+    assert_eq!(rt; bad(b"\x80\0\0\x01\0\0")?, Some(IndexFault::Bad(12)));
+    assert_eq!(rt; bad(b"\0\x01\x80\0\0\0")?, Some(IndexFault::Bad(14)));
+    assert_eq!(rt; bad(b"\0\x01\0\x01\x80\0")?, Some(IndexFault::Bad(16)));
+    assert_eq!(rt;
+        bad(b"\x7f\xff\x7f\xff\x7f\xfe")?,
+        Some(IndexFault::Bad(22))
+    );
+    // behind the last address stands none, and two nodes are wanted
+    assert_eq!(rt;
+        bad(b"\x7f\xff\x7f\xff\x7f\xff")?,
+        Some(IndexFault::Bad(17))
+    );
+    Ok(())
+}
+
+#[test]
+fn counts_over_65536_fit_no_index(rt: HostRuntime) {
+    let bad = |bytes: &[u8]| Index::open(rt.alloc(), bytes).err();
+    assert_eq!(rt; bad(b"nodeidx1\0\x01\0\0"), Some(IndexFault::Bad(12)));
+    assert_eq!(rt; bad(b"nodeidx1\0\x01\0\x01"), Some(IndexFault::Bad(11)));
+    assert_eq!(rt; bad(b"nodeidx1\0\x01\x01\0"), Some(IndexFault::Bad(10)));
+    assert_eq!(rt; bad(b"nodeidx1\0\x02\0\0"), Some(IndexFault::Bad(9)));
+    assert_eq!(rt; bad(b"nodeidx1\x01\0\0\0"), Some(IndexFault::Bad(8)));
 }
