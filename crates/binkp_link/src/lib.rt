@@ -5,6 +5,16 @@
 //! keeps what was put: both are for tests. [`StdLine`] is the line over standard input and output; it tells
 //! no bytes.
 //!
+//! ```
+//! let mut line = StdLine::new(rt.reader(), io::writer(&rt));
+//! match line.read(&mut piece, true) {          // it waits
+//!     ReadAnswer::Came(n) => take(&piece[..n]),
+//!     ReadAnswer::End => done(),
+//!     ReadAnswer::NotYet | ReadAnswer::Quiet | ReadAnswer::Failed => {}
+//! }
+//! line.write(b"\x80\x01\x05");                 // M_EOB
+//! ```
+//!
 //! Left out: frames and commands, and what a session says.
 #![tactic(auto)]
 

@@ -4,6 +4,17 @@
 //! may leave of it.
 //! [`Seat`] is the desk of one session that is alone at a store.
 //!
+//! ```
+//! let mut seat = Seat::new(store);
+//! seat.knock(Role::Answers)?;
+//! seat.begin(alloc, Role::Answers, &peers, false, now)?;
+//! if let FileIn::Go = seat.file_in(alloc, &key, 0)? {
+//!     seat.data_in(b"hello")?;                 // `DataIn::Whole`: its receipt is recorded
+//! }
+//! seat.leave()?;
+//! let store = seat.into_store();
+//! ```
+//!
 //! Left out: several sessions over one store, and files that a node offers.
 #![tactic(auto)]
 

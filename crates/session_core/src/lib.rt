@@ -6,6 +6,17 @@
 //! session (`hearing`), the rows before login (`login`), those after it (`logged`, `receiver`), and what is
 //! said (`saying`).
 //!
+//! ```
+//! let mut session = Session::new();
+//! say_greeting(alloc, &setting.home, &mut output);
+//! for frame in &frames {
+//!     match session.take(alloc, frame, &setting, &mut desk, &mut output) {
+//!         Took::More => {}
+//!         Took::Ended(end) => return end,
+//!     }
+//! }
+//! ```
+//!
 //! Left out: lines, pieces of frames and the time that passes.
 #![tactic(auto)]
 

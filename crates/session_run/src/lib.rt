@@ -3,6 +3,12 @@
 //! [`run_session`] is the whole session: it greets, reads pieces, takes their frames, makes own turns and
 //! writes, until the session's end or the line's. [`Run`] is a session that goes on.
 //!
+//! ```
+//! let mut seat = Seat::new(store);             // of `hub_core`
+//! let report = run_session(alloc, &mut line, &mut seat, &setting);
+//! let end = report.end;                        // `End::Finished`, or why not
+//! ```
+//!
 //! Left out: the words of the program and its statuses.
 #![tactic(auto)]
 
