@@ -14,8 +14,8 @@ use Rattle.node_model.proofs.OneReceipt.{turns_once}
 use Rattle.node_model.proofs.Rans.{opens_weaker}
 use Rattle.node_model.proofs.ReceiptsAlong.{along_once}
 use Rattle.session_run.proofs.Chains.{whole_leads}
-use Rattle.session_core.specs.declared.ending.End.{End}
-use Rattle.session_core.specs.declared.ending.End.TheVariants as E
+use Rattle.session_core.specs.Ends.{End}
+use Rattle.session_core.specs.Ends as E
 use Rattle.binkp_mailer.specs.declared.status.Status.{Status}
 use Rattle.std.proofs.lemmas.List.{length-append}
 use Rattle.ftn_addr.specs.Frames.{FrameText}

@@ -1,7 +1,7 @@
 -- The program's statuses (own).
 use Rattle.std.specs.Prelude.{ℕ}
-use Rattle.session_core.specs.declared.ending.End.{End}
-use Rattle.session_core.specs.declared.ending.End.TheVariants as E
+use Rattle.session_core.specs.Ends.{End}
+use Rattle.session_core.specs.Ends as E
 use Rattle.binkp_mailer.specs.declared.status.Status.{Status}
 use Rattle.binkp_mailer.specs.declared.status.Status.TheVariants as S
 

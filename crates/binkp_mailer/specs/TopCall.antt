@@ -7,7 +7,7 @@ use Rattle.node_model.specs.Durable.{Durable}
 use Rattle.node_model.specs.Images.{OpensTo, RanAt}
 use Rattle.node_model.specs.Receipts.{HasOnce, StaysReceived, HasAt}
 use Rattle.node_model.specs.Stores.{Stored, StoreState, StoreStand, IfTold}
-use Rattle.session_core.specs.declared.ending.End.{End}
+use Rattle.session_core.specs.Ends.{End}
 use Rattle.binkp_mailer.specs.declared.status.Status.{Status}
 use Rattle.binkp_mailer.specs.declared.status.Status.TheVariants as S
 use Rattle.binkp_link.specs.Lines.{LineBytes, LineState}

@@ -1,5 +1,6 @@
 //! How the program ends.
 ghost use Rattle.std.specs.Prelude.{◌≡◌};
+ghost use Rattle.session_core.specs.Ends.{end_text};
 ghost use Rattle.binkp_mailer.specs.Statuses.{number_of_status, status_after};
 
 use session_core::{Cause, End};
@@ -49,7 +50,7 @@ impl Status {
 
 /// The status of a command whose session ended so.
 pub fn status_of(end: End) -> Status
-    ensures { result ≡ status_after end }
+    ensures { result ≡ status_after (end_text end) }
 {
     match end {
         End::Finished => Status::Done,

@@ -15,8 +15,8 @@ use Rattle.ftn_addr.specs.Limits.{IsAddress}
 use Rattle.std.specs.List.{All}
 use Rattle.node_model.specs.Lists.{without}
 use Rattle.node_model.specs.declared.words.Role.TheVariants.{Answers}
-use Rattle.session_core.specs.declared.ending.Took.{Took}
-use Rattle.session_core.specs.declared.ending.Took.TheVariants as T
+use Rattle.session_core.specs.Takings.{Took}
+use Rattle.session_core.specs.Takings as T
 use Rattle.session_core.specs.Sessions.{on as on_reply, said_bytes, Setting, Reply, Stage, Plain, AfterBegin, LoginRow}
 use Rattle.session_core.specs.Replies.{Acknowledges, Did, DidPlain, MadeRow, NothingMore, IfMore, Writes, DidTake, WritesStep, step_outcome}
 use Rattle.node_model.proofs.Rans.{ran_none, ran_one}

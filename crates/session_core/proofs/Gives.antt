@@ -4,8 +4,8 @@ use Rattle.std.specs.Prelude.{◌||◌}
 use Rattle.std.proofs.lemmas.List.{append-nil}
 use Rattle.binkp_args.specs.Command.{Eob}
 use Rattle.node_model.specs.Talk.{Talk, Part, on, waits, ends, End, Finished, is_finished, calls, Finishes, Rests, Says_end, Waits_for_end}
-use Rattle.session_core.specs.declared.ending.Gave.TheVariants as G
-use Rattle.session_core.specs.declared.ending.End.TheVariants as E
+use Rattle.session_core.specs.Givings as G
+use Rattle.session_core.specs.Ends as E
 use Rattle.session_core.specs.Sessions.{Stage, Awaits_address, Awaits_password, Talks, command_bytes, said_bytes}
 use Rattle.session_core.specs.Replies.{DidGive}
 

@@ -13,9 +13,9 @@ use Rattle.node_model.specs.Images.{Stand}
 use Rattle.node_model.specs.Talk.{on, End as EndMessage, Talk, Part, Message, Verdict, TakeRow, AfterFile, FileTaken, Asks, Not_yet, AfterData, DataTaken, Nothing_held, Drops, Exceeds, Fits, Outcome}
 use Rattle.node_model.specs.declared.desk.DeskFault.{DeskFault}
 use Rattle.session_core.specs.declared.ending.Cause.TheVariants as C
-use Rattle.session_core.specs.declared.ending.End.TheVariants as E
-use Rattle.session_core.specs.declared.ending.Took.{Took}
-use Rattle.session_core.specs.declared.ending.Took.TheVariants as T
+use Rattle.session_core.specs.Ends as E
+use Rattle.session_core.specs.Takings.{Took}
+use Rattle.session_core.specs.Takings as T
 use Rattle.session_core.specs.declared.receiver.RecvStep.{RecvStep}
 use Rattle.session_core.specs.Sessions.{Setting, Said, ReadRow, unreadable, broken_frame, Stage, Talks, TalkRow, reply_of, said_bytes, outcome_bytes, outcome_took}
 use Rattle.session_core.specs.Replies.{Did, DidPlain, DidTake, IfMore, MadeRow, RefusesArgument, Writes, step_outcome}

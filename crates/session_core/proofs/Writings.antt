@@ -1,9 +1,9 @@
 -- What was written of what a row says.
 use Rattle.std.proofs.Common.{◌≡◌, ◌<◌, ℕ, List, [], ◌∷◌, ◌++◌, codes, ◌∙◌, length, arith, append_assoc, ap, refl, sym, inl, inr}
 use Rattle.std.proofs.lemmas.List.{append-nil}
-use Rattle.session_core.specs.declared.ending.Took.{Took}
-use Rattle.session_core.specs.declared.ending.Took.TheVariants as T
-use Rattle.session_core.specs.declared.ending.End.TheVariants as E
+use Rattle.session_core.specs.Takings.{Took}
+use Rattle.session_core.specs.Takings as T
+use Rattle.session_core.specs.Ends as E
 use Rattle.binkp_args.specs.Command.{CommandText, Error, Accept}
 use Rattle.session_core.specs.declared.ending.Cause.{Cause}
 use Rattle.session_core.specs.declared.ending.Cause.TheVariants as C

@@ -1,2 +1,5 @@
+pub mod Ends
+pub mod Givings
 pub mod Replies
 pub mod Sessions
+pub mod Takings

@@ -13,11 +13,11 @@ use Rattle.node_model.specs.declared.desk.DeskFault.{DeskFault}
 use Rattle.node_model.specs.declared.desk.DeskFault.TheVariants as D
 use Rattle.session_core.specs.declared.ending.Cause.{Cause}
 use Rattle.session_core.specs.declared.ending.Cause.TheVariants as C
-use Rattle.session_core.specs.declared.ending.End.TheVariants as E
-use Rattle.session_core.specs.declared.ending.Gave.{Gave}
-use Rattle.session_core.specs.declared.ending.Gave.TheVariants as G
-use Rattle.session_core.specs.declared.ending.Took.{Took}
-use Rattle.session_core.specs.declared.ending.Took.TheVariants as T
+use Rattle.session_core.specs.Ends as E
+use Rattle.session_core.specs.Givings.{Gave}
+use Rattle.session_core.specs.Givings as G
+use Rattle.session_core.specs.Takings.{Took}
+use Rattle.session_core.specs.Takings as T
 use Rattle.session_core.specs.declared.holding.Receiver.{Receiver}
 use Rattle.session_core.specs.declared.holding.Receiver.TheVariants as R
 use Rattle.session_core.specs.declared.hearing.Heard.{Heard as CodeHeard}

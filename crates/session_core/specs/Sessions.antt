@@ -16,12 +16,12 @@ use Rattle.node_model.specs.Lists.{without}
 use Rattle.node_model.specs.Calls.{Open_call, Fault, Disk, Read, Full, No_memory, Answer, Let_in, Begun, Refused, Event, one}
 use Rattle.node_model.specs.Talk.{Message, File, Data, Got, Get, Skip, End as EndMessage, Talk, first_words, Part, RowEnd, Finished, Out_of_turn, Too_late, Too_much, Refused_by, Outcome, Goes_on, Waits, Ends, Verdict, TakeRow, TurnRow}
 use Rattle.session_core.specs.declared.ending.Cause.TheVariants as C
-use Rattle.session_core.specs.declared.ending.End.{End}
-use Rattle.session_core.specs.declared.ending.End.TheVariants as E
-use Rattle.session_core.specs.declared.ending.Took.{Took}
-use Rattle.session_core.specs.declared.ending.Took.TheVariants as T
-use Rattle.session_core.specs.declared.ending.Gave.{Gave}
-use Rattle.session_core.specs.declared.ending.Gave.TheVariants as G
+use Rattle.session_core.specs.Ends.{End}
+use Rattle.session_core.specs.Ends as E
+use Rattle.session_core.specs.Takings.{Took}
+use Rattle.session_core.specs.Takings as T
+use Rattle.session_core.specs.Givings.{Gave}
+use Rattle.session_core.specs.Givings as G
 use Rattle.node_model.specs.Desks.{DeskPart, held_after}
 
 -- what a session is lent: its own address, the moment, and the most bytes that it takes and writes

@@ -1,6 +1,8 @@
 //! A session after login: the messages of the peer's, and the own turn.
 ghost use Rattle.std.specs.Prelude.{◌≡◌, ◌<◌, ◌||◌, length};
-ghost use Rattle.session_core.specs.declared.ending.Gave.TheVariants as G;
+ghost use Rattle.session_core.specs.Givings.{gave_text};
+ghost use Rattle.session_core.specs.Takings.{took_text};
+ghost use Rattle.session_core.specs.Givings as G;
 ghost use Rattle.ftn_addr.specs.Key.{key_of};
 ghost use Rattle.ftn_addr.specs.Limits.{IsKey};
 ghost use Rattle.node_model.specs.Talk.{File, Data, is_finished, is_idle, calls};
@@ -19,7 +21,7 @@ use std::alloc::Global;
 
 /// Tells what became of a message.
 fn conclude(alloc: Global, number: u64, step: Result<RecvStep, DeskFault>, out: &mut Bytes) -> Took
-    ensures { Writes out.old.list out.new.list (outcome_bytes (step_outcome step)) (outcome_took number (step_outcome step)) result }
+    ensures { Writes out.old.list out.new.list (outcome_bytes (step_outcome step)) (outcome_took number (step_outcome step)) (took_text result) }
 {
     match step {
         Ok(RecvStep::More) => Took::More,
@@ -41,8 +43,8 @@ fn hear_file<K: Desk>(
 ) -> (Stage, Took)
     requires limits { IsKey (key_of key) }
     requires sits { Sits (K.ready desk.old) (K.part desk.old) (Talks (talk_of talking) (held_of talking.receiver)) }
-    ensures row { Did (TalkRow number (talk_of talking) (held_of talking.receiver) (File (key_of key) offset)) K.alone (K.stand desk.old) (K.stand desk.new) (stage_of result.0) out.old.list out.new.list result.1 }
-    ensures sits { SitsStill (K.ready desk.new) (K.part desk.new) (stage_of result.0) result.1 }
+    ensures row { Did (TalkRow number (talk_of talking) (held_of talking.receiver) (File (key_of key) offset)) K.alone (K.stand desk.old) (K.stand desk.new) (stage_of result.0) out.old.list out.new.list (took_text result.1) }
+    ensures sits { SitsStill (K.ready desk.new) (K.part desk.new) (stage_of result.0) (took_text result.1) }
 {
     let step = take_file(&mut talking.receiver, alloc, key, offset, desk, out);
     let took = conclude(alloc, number, step, out);
@@ -59,8 +61,8 @@ pub fn hear_data<K: Desk>(
     out: &mut Bytes,
 ) -> (Stage, Took)
     requires { Sits (K.ready desk.old) (K.part desk.old) (Talks (talk_of talking) (held_of talking.receiver)) }
-    ensures row { Did (TalkRow number (talk_of talking) (held_of talking.receiver) (Data bytes.now)) K.alone (K.stand desk.old) (K.stand desk.new) (stage_of result.0) out.old.list out.new.list result.1 }
-    ensures sits { SitsStill (K.ready desk.new) (K.part desk.new) (stage_of result.0) result.1 }
+    ensures row { Did (TalkRow number (talk_of talking) (held_of talking.receiver) (Data bytes.now)) K.alone (K.stand desk.old) (K.stand desk.new) (stage_of result.0) out.old.list out.new.list (took_text result.1) }
+    ensures sits { SitsStill (K.ready desk.new) (K.part desk.new) (stage_of result.0) (took_text result.1) }
 {
     let step = take_data(&mut talking.receiver, alloc, bytes, desk, out);
     let took = conclude(alloc, number, step, out);
@@ -78,8 +80,8 @@ pub fn take_after_login<K: Desk>(
 ) -> (Stage, Took)
     requires within { IsWithin (heard_text heard) }
     requires sits { Sits (K.ready desk.old) (K.part desk.old) (Talks (talk_of talking) (held_of talking.receiver)) }
-    ensures row { Did (LoggedRow number (talk_of talking) (held_of talking.receiver) (heard_text heard)) K.alone (K.stand desk.old) (K.stand desk.new) (stage_of result.0) out.old.list out.new.list result.1 }
-    ensures sits { SitsStill (K.ready desk.new) (K.part desk.new) (stage_of result.0) result.1 }
+    ensures row { Did (LoggedRow number (talk_of talking) (held_of talking.receiver) (heard_text heard)) K.alone (K.stand desk.old) (K.stand desk.new) (stage_of result.0) out.old.list out.new.list (took_text result.1) }
+    ensures sits { SitsStill (K.ready desk.new) (K.part desk.new) (stage_of result.0) (took_text result.1) }
 {
     match heard {
         Heard::Passed => (Stage::Talks(talking), Took::More),
@@ -138,9 +140,9 @@ fn may_end(talking: &Talking) -> bool
 
 /// The own turn after login.
 pub fn own_turn(alloc: Global, talking: &mut Talking, out: &mut Bytes) -> Gave
-    ensures row { DidGive (Talks (talk_of talking.old) (held_of talking.old.receiver)) (Talks (talk_of talking.new) (held_of talking.new.receiver)) out.old.list out.new.list result }
+    ensures row { DidGive (Talks (talk_of talking.old) (held_of talking.old.receiver)) (Talks (talk_of talking.new) (held_of talking.new.receiver)) out.old.list out.new.list (gave_text result) }
     ensures held { held_of talking.new.receiver ≡ held_of talking.old.receiver }
-    ensures sent { result ≡ G.Sent → 0 < length out.new.list }
+    ensures sent { gave_text result ≡ G.Sent → 0 < length out.new.list }
 {
     if is_done(talking) {
         return Gave::Ended(End::Finished);

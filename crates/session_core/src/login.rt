@@ -4,6 +4,7 @@ ghost use Rattle.std.specs.List.{All};
 ghost use Rattle.ftn_addr.specs.Address.{address, same_address};
 ghost use Rattle.ftn_addr.specs.Limits.{IsAddress};
 ghost use Rattle.node_model.specs.Lists.{without};
+ghost use Rattle.session_core.specs.Takings.{took_text};
 ghost use Rattle.session_core.specs.Replies.{Did, DidPlain, IfMore, IsWithin, NothingMore, Sits, SitsStill, heard_text, setting_of, stage_of};
 ghost use Rattle.session_core.specs.Sessions.{Awaits_password, Password, IsSound, LoginRow, PasswordRow, before_address, named, unreadable};
 
@@ -46,7 +47,7 @@ pub fn unreadable(
     fault: ArgFault,
     out: &mut Bytes,
 ) -> (Stage, Took)
-    ensures { DidPlain (unreadable number (stage_of stage) fault) (stage_of result.0) out.old.list out.new.list result.1 }
+    ensures { DidPlain (unreadable number (stage_of stage) fault) (stage_of result.0) out.old.list out.new.list (took_text result.1) }
 {
     let took = break_off(alloc, Cause::Arg(fault), number, out);
     (stage, took)
@@ -61,8 +62,8 @@ fn take_addresses(
     out: &mut Bytes,
 ) -> (Stage, Took)
     requires { All IsAddress (map address addresses.items) }
-    ensures row { DidPlain (named number (without (same_address (address home.now)) (map address addresses.items))) (stage_of result.0) out.old.list out.new.list result.1 ⊎ NothingMore out.old.list out.new.list result.1 }
-    ensures sound { IfMore result.1 (IsSound (stage_of result.0)) }
+    ensures row { DidPlain (named number (without (same_address (address home.now)) (map address addresses.items))) (stage_of result.0) out.old.list out.new.list (took_text result.1) ⊎ NothingMore out.old.list out.new.list (took_text result.1) }
+    ensures sound { IfMore (took_text result.1) (IsSound (stage_of result.0)) }
 {
     match without_home(alloc, addresses, home) {
         Ok(peers) => {
@@ -90,8 +91,8 @@ pub fn take_before_address(
     out: &mut Bytes,
 ) -> (Stage, Took)
     requires { IsWithin (heard_text heard) }
-    ensures row { DidPlain (before_address (address home.now) number (heard_text heard)) (stage_of result.0) out.old.list out.new.list result.1 ⊎ NothingMore out.old.list out.new.list result.1 }
-    ensures sound { IfMore result.1 (IsSound (stage_of result.0)) }
+    ensures row { DidPlain (before_address (address home.now) number (heard_text heard)) (stage_of result.0) out.old.list out.new.list (took_text result.1) ⊎ NothingMore out.old.list out.new.list (took_text result.1) }
+    ensures sound { IfMore (took_text result.1) (IsSound (stage_of result.0)) }
 {
     match heard {
         Heard::Passed => (Stage::AwaitsAddress, Took::More),
@@ -112,8 +113,8 @@ fn let_in<K: Desk>(
     out: &mut Bytes,
 ) -> (Stage, Took)
     requires { Sits (K.ready desk.old) (K.part desk.old) (Awaits_password (map address peers.items)) }
-    ensures row { Did (LoginRow (setting_of setting.now) (map address peers.items)) K.alone (K.stand desk.old) (K.stand desk.new) (stage_of result.0) out.old.list out.new.list result.1 }
-    ensures sits { SitsStill (K.ready desk.new) (K.part desk.new) (stage_of result.0) result.1 }
+    ensures row { Did (LoginRow (setting_of setting.now) (map address peers.items)) K.alone (K.stand desk.old) (K.stand desk.new) (stage_of result.0) out.old.list out.new.list (took_text result.1) }
+    ensures sits { SitsStill (K.ready desk.new) (K.part desk.new) (stage_of result.0) (took_text result.1) }
 {
     match desk.begin(
         alloc,
@@ -155,8 +156,8 @@ fn take_password<K: Desk>(
     out: &mut Bytes,
 ) -> (Stage, Took)
     requires { Sits (K.ready desk.old) (K.part desk.old) (Awaits_password (map address peers.items)) }
-    ensures row { Did (PasswordRow (setting_of setting.now) number (map address peers.items) (Password text.now.list)) K.alone (K.stand desk.old) (K.stand desk.new) (stage_of result.0) out.old.list out.new.list result.1 }
-    ensures sits { SitsStill (K.ready desk.new) (K.part desk.new) (stage_of result.0) result.1 }
+    ensures row { Did (PasswordRow (setting_of setting.now) number (map address peers.items) (Password text.now.list)) K.alone (K.stand desk.old) (K.stand desk.new) (stage_of result.0) out.old.list out.new.list (took_text result.1) }
+    ensures sits { SitsStill (K.ready desk.new) (K.part desk.new) (stage_of result.0) (took_text result.1) }
 {
     if is_none(text) {
         let_in(alloc, peers, setting, desk, out)
@@ -176,8 +177,8 @@ pub fn take_before_password<K: Desk>(
     out: &mut Bytes,
 ) -> (Stage, Took)
     requires { Sits (K.ready desk.old) (K.part desk.old) (Awaits_password (map address peers.items)) }
-    ensures row { Did (PasswordRow (setting_of setting.now) number (map address peers.items) (heard_text heard)) K.alone (K.stand desk.old) (K.stand desk.new) (stage_of result.0) out.old.list out.new.list result.1 }
-    ensures sits { SitsStill (K.ready desk.new) (K.part desk.new) (stage_of result.0) result.1 }
+    ensures row { Did (PasswordRow (setting_of setting.now) number (map address peers.items) (heard_text heard)) K.alone (K.stand desk.old) (K.stand desk.new) (stage_of result.0) out.old.list out.new.list (took_text result.1) }
+    ensures sits { SitsStill (K.ready desk.new) (K.part desk.new) (stage_of result.0) (took_text result.1) }
 {
     match heard {
         Heard::Passed => (Stage::AwaitsPassword(peers), Took::More),

@@ -4,11 +4,12 @@ ghost use Rattle.ftn_addr.specs.Key.{key_of};
 ghost use Rattle.binkp_args.specs.Command.{Accept, Eob, Error, Got, Adr};
 ghost use Rattle.ftn_addr.specs.Address.{address};
 ghost use Rattle.ftn_addr.specs.Limits.{IsAddress, IsKey};
+ghost use Rattle.session_core.specs.Takings.{took_text};
 ghost use Rattle.session_core.specs.Replies.{Writes, cause_bytes};
 ghost use Rattle.node_model.specs.Desks.{fault_of};
 ghost use Rattle.session_core.specs.Sessions.{command_bytes, disk_fault, fault_bytes, fault_end, ledger_full, greeting, version, welcome};
-ghost use Rattle.session_core.specs.declared.ending.Took.TheVariants as T;
-ghost use Rattle.session_core.specs.declared.ending.End.TheVariants as E;
+ghost use Rattle.session_core.specs.Takings as T;
+ghost use Rattle.session_core.specs.Ends as E;
 
 use crate::{Cause, End, Took};
 use binkp_args::{Command, fits_a_frame, write_command};
@@ -106,7 +107,7 @@ fn say_address(alloc: Global, home: &Addr, out: &mut Bytes) -> Result<(), NoMemo
 /// The greeting: VER, and the own address.
 pub fn say_greeting(alloc: Global, home: &Addr, out: &mut Bytes) -> Took
     requires { IsAddress (address home.now) }
-    ensures { Writes out.old.list out.new.list (greeting (address home.now)) T.More result }
+    ensures { Writes out.old.list out.new.list (greeting (address home.now)) T.More (took_text result) }
 {
     match say_version(alloc, out) {
         Ok(()) => {}
@@ -120,7 +121,7 @@ pub fn say_greeting(alloc: Global, home: &Addr, out: &mut Bytes) -> Took
 
 /// Ends a session that a desk refused, with the M_ERR that this owes.
 pub fn refuse(alloc: Global, fault: DeskFault, out: &mut Bytes) -> Took
-    ensures { Writes out.old.list out.new.list (fault_bytes (fault_of fault)) (T.Ended (fault_end (fault_of fault))) result }
+    ensures { Writes out.old.list out.new.list (fault_bytes (fault_of fault)) (T.Ended (fault_end (fault_of fault))) (took_text result) }
 {
     match fault {
         DeskFault::Disk(count) => match say_disk_fault(alloc, out) {
@@ -137,7 +138,7 @@ pub fn refuse(alloc: Global, fault: DeskFault, out: &mut Bytes) -> Took
 
 /// Ends a session that the peer broke at its frame with that number.
 pub fn break_off(alloc: Global, cause: Cause, number: u64, out: &mut Bytes) -> Took
-    ensures { Writes out.old.list out.new.list (cause_bytes cause) (T.Ended (E.Broke cause number)) result }
+    ensures { Writes out.old.list out.new.list (cause_bytes cause) (T.Ended (E.Broke cause number)) (took_text result) }
 {
     match say_cause(alloc, cause, out) {
         Ok(()) => Took::Ended(End::Broke(cause, number)),

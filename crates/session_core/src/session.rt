@@ -5,9 +5,11 @@ ghost use Rattle.ftn_addr.specs.Limits.{IsAddress};
 ghost use Rattle.binkp_args.specs.Command.{command_text, command_of};
 ghost use Rattle.binkp_args.specs.Limits.{HasFile, HasAddresses};
 ghost use Rattle.binkp_frame.specs.Views.{frame_text};
+ghost use Rattle.session_core.specs.Givings.{gave_text};
+ghost use Rattle.session_core.specs.Takings.{took_text};
 ghost use Rattle.session_core.specs.Replies.{Did, DidGive, GaveUp, IsWithin, MadeRow, RefusesArgument, Sits, SitsStill, heard_text, setting_of, stage_of};
 ghost use Rattle.session_core.specs.Sessions.{Awaits_address, IsSound, desk_part, DataRow, HeardRow, ReadRow, Row, is_unbuilt};
-ghost use Rattle.session_core.specs.declared.ending.Gave.TheVariants as G;
+ghost use Rattle.session_core.specs.Givings as G;
 
 use crate::hearing::{Heard, hear};
 use crate::logged::{hear_data, own_turn, take_after_login};
@@ -47,8 +49,8 @@ fn take_heard<K: Desk>(
 ) -> (Stage, Took)
     requires within { IsWithin (heard_text heard) }
     requires sits { Sits (K.ready desk.old) (K.part desk.old) (stage_of stage) }
-    ensures row { MadeRow (HeardRow (setting_of setting.now) number (stage_of stage) (heard_text heard)) K.alone (K.stand desk.old) (K.stand desk.new) (stage_of result.0) out.old.list out.new.list result.1 }
-    ensures sits { SitsStill (K.ready desk.new) (K.part desk.new) (stage_of result.0) result.1 }
+    ensures row { MadeRow (HeardRow (setting_of setting.now) number (stage_of stage) (heard_text heard)) K.alone (K.stand desk.old) (K.stand desk.new) (stage_of result.0) out.old.list out.new.list (took_text result.1) }
+    ensures sits { SitsStill (K.ready desk.new) (K.part desk.new) (stage_of result.0) (took_text result.1) }
 {
     match stage {
         Stage::AwaitsAddress => take_before_address(alloc, number, heard, &setting.home, out),
@@ -69,8 +71,8 @@ fn take_data_frame<K: Desk>(
     out: &mut Bytes,
 ) -> (Stage, Took)
     requires { Sits (K.ready desk.old) (K.part desk.old) (stage_of stage) }
-    ensures row { Did (DataRow number (stage_of stage) bytes.now.list) K.alone (K.stand desk.old) (K.stand desk.new) (stage_of result.0) out.old.list out.new.list result.1 }
-    ensures sits { SitsStill (K.ready desk.new) (K.part desk.new) (stage_of result.0) result.1 }
+    ensures row { Did (DataRow number (stage_of stage) bytes.now.list) K.alone (K.stand desk.old) (K.stand desk.new) (stage_of result.0) out.old.list out.new.list (took_text result.1) }
+    ensures sits { SitsStill (K.ready desk.new) (K.part desk.new) (stage_of result.0) (took_text result.1) }
 {
     match stage {
         Stage::AwaitsAddress => out_of_turn(alloc, Stage::AwaitsAddress, number, out),
@@ -89,7 +91,7 @@ fn refuse_argument(
     fault: ArgFault,
     out: &mut Bytes,
 ) -> (Stage, Took)
-    ensures { RefusesArgument number (stage_of stage) fault (stage_of result.0) out.old.list out.new.list result.1 }
+    ensures { RefusesArgument number (stage_of stage) fault (stage_of result.0) out.old.list out.new.list (took_text result.1) }
 {
     match fault {
         ArgFault::NoMemory => (stage, Took::Ended(End::NoMemory)),
@@ -110,8 +112,8 @@ fn take_argument<K: Desk>(
 ) -> (Stage, Took)
     requires home { IsAddress (address setting.now.home) }
     requires sits { Sits (K.ready desk.old) (K.part desk.old) (stage_of stage) }
-    ensures row { MadeRow (ReadRow (setting_of setting.now) number (stage_of stage) (command_of (address setting.now.home) code args.now.list)) K.alone (K.stand desk.old) (K.stand desk.new) (stage_of result.0) out.old.list out.new.list result.1 }
-    ensures sits { SitsStill (K.ready desk.new) (K.part desk.new) (stage_of result.0) result.1 }
+    ensures row { MadeRow (ReadRow (setting_of setting.now) number (stage_of stage) (command_of (address setting.now.home) code args.now.list)) K.alone (K.stand desk.old) (K.stand desk.new) (stage_of result.0) out.old.list out.new.list (took_text result.1) }
+    ensures sits { SitsStill (K.ready desk.new) (K.part desk.new) (stage_of result.0) (took_text result.1) }
 {
     match read_command(alloc, code, args.as_slice(), &setting.home) {
         Ok(command) => {
@@ -134,8 +136,8 @@ fn take_frame<K: Desk>(
 ) -> (Stage, Took)
     requires home { IsAddress (address setting.now.home) }
     requires sits { Sits (K.ready desk.old) (K.part desk.old) (stage_of stage) }
-    ensures row { MadeRow (Row (setting_of setting.now) number (stage_of stage) (frame_text frame.now)) K.alone (K.stand desk.old) (K.stand desk.new) (stage_of result.0) out.old.list out.new.list result.1 }
-    ensures sits { SitsStill (K.ready desk.new) (K.part desk.new) (stage_of result.0) result.1 }
+    ensures row { MadeRow (Row (setting_of setting.now) number (stage_of stage) (frame_text frame.now)) K.alone (K.stand desk.old) (K.stand desk.new) (stage_of result.0) out.old.list out.new.list (took_text result.1) }
+    ensures sits { SitsStill (K.ready desk.new) (K.part desk.new) (stage_of result.0) (took_text result.1) }
 {
     match frame {
         Frame::Command { number: code, args } => {
@@ -173,8 +175,8 @@ impl Session {
         requires home { IsAddress (address setting.now.home) }
         requires sits { Sits (K.ready desk.old) (K.part desk.old) (stage_of self.old.stage) }
         ensures frames { self.new.frames ≡ min (self.old.frames + 1) (2 ^ 64 - 1) }
-        ensures row { MadeRow (Row (setting_of setting.now) self.new.frames (stage_of self.old.stage) (frame_text frame.now)) K.alone (K.stand desk.old) (K.stand desk.new) (stage_of self.new.stage) out.old.list out.new.list result }
-        ensures sits { SitsStill (K.ready desk.new) (K.part desk.new) (stage_of self.new.stage) result }
+        ensures row { MadeRow (Row (setting_of setting.now) self.new.frames (stage_of self.old.stage) (frame_text frame.now)) K.alone (K.stand desk.old) (K.stand desk.new) (stage_of self.new.stage) out.old.list out.new.list (took_text result) }
+        ensures sits { SitsStill (K.ready desk.new) (K.part desk.new) (stage_of self.new.stage) (took_text result) }
     {
         self.frames = self.frames.saturating_add(1);
         let stage = mem::replace(&mut self.stage, Stage::AwaitsAddress);
@@ -185,11 +187,11 @@ impl Session {
 
     /// Makes the own turn.
     pub fn give(&mut self, alloc: Global, out: &mut Bytes) -> Gave
-        ensures row { DidGive (stage_of self.old.stage) (stage_of self.new.stage) out.old.list out.new.list result }
+        ensures row { DidGive (stage_of self.old.stage) (stage_of self.new.stage) out.old.list out.new.list (gave_text result) }
         ensures part { desk_part (stage_of self.new.stage) ≡ desk_part (stage_of self.old.stage) }
         ensures sound { IsSound (stage_of self.old.stage) → IsSound (stage_of self.new.stage) }
         ensures frames { self.new.frames ≡ self.old.frames }
-        ensures sent { result ≡ G.Sent → 0 < length out.new.list }
+        ensures sent { gave_text result ≡ G.Sent → 0 < length out.new.list }
     {
         match &mut self.stage {
             Stage::AwaitsAddress => Gave::Waits,

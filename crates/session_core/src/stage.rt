@@ -1,6 +1,7 @@
 //! How far a session has come.
 ghost use Rattle.std.specs.Prelude.{◌≡◌};
 ghost use Rattle.node_model.specs.Talk.{Out_of_turn};
+ghost use Rattle.session_core.specs.Takings.{took_text};
 ghost use Rattle.session_core.specs.Replies.{DidPlain, stage_of};
 ghost use Rattle.session_core.specs.Sessions.{ends, is_none};
 
@@ -39,7 +40,7 @@ pub fn is_none(text: &Bytes) -> bool
 
 /// Refuses a frame that doesn't belong here.
 pub fn out_of_turn(alloc: Global, stage: Stage, number: u64, out: &mut Bytes) -> (Stage, Took)
-    ensures { DidPlain (ends number (stage_of stage) Out_of_turn) (stage_of result.0) out.old.list out.new.list result.1 }
+    ensures { DidPlain (ends number (stage_of stage) Out_of_turn) (stage_of result.0) out.old.list out.new.list (took_text result.1) }
 {
     let took = break_off(alloc, Cause::OutOfTurn, number, out);
     (stage, took)

@@ -11,7 +11,7 @@ use Rattle.node_model.proofs.Alone.{call_shared, chain_shared, drifted_shared, r
 use Rattle.node_model.specs.Calls.{DeskState, Turned, turned, Knock_call, Leave_call}
 use Rattle.node_model.specs.declared.words.Role.TheVariants.{Answers}
 use Rattle.session_core.specs.Sessions.{Setting}
-use Rattle.session_core.specs.declared.ending.End.{End}
+use Rattle.session_core.specs.Ends.{End}
 use Rattle.binkp_link.specs.Lines.{LineState}
 use Rattle.session_run.specs.Machine.{World, Phase, Starting, Taking, Writing, Reading, Over, Draining, Closed, Step, greets, takes_frame, makes_turn, writes, passes_write, reads, gives_up, leaves, drains, closes, Reach, here, next}
 use Rattle.std.proofs.Common.{ℕ, ◌≡◌}

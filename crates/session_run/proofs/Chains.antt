@@ -4,7 +4,7 @@ use Rattle.node_model.specs.Calls.{DeskState, turned, Turns, Knock_call, Leave_c
 use Rattle.node_model.specs.declared.words.Role.TheVariants.{Answers}
 use Rattle.node_model.proofs.Rans.{joined}
 use Rattle.binkp_link.specs.Lines.{LineState}
-use Rattle.session_core.specs.declared.ending.End.{End}
+use Rattle.session_core.specs.Ends.{End}
 use Rattle.session_core.specs.Sessions.{Setting}
 use Rattle.session_run.specs.Machine.{World, Step, greets, takes_frame, makes_turn, writes, passes_write, reads, gives_up, leaves, drains, closes, Reach, here, next, opening}
 use Rattle.session_run.specs.Laws.{WholeRun}

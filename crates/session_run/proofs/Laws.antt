@@ -3,12 +3,12 @@ use Rattle.std.proofs.Common.{◌≡◌, ◌∙◌, ℕ, Bool, true, false, List
 use Rattle.std.proofs.lemmas.List.{append-nil}
 use Rattle.node_model.specs.Calls.{Event, one, Counts, counts_of, DeskState, Turned, turned, asked_of, CallsBeside, Turns, Knock_call, Leave_call}
 use Rattle.node_model.specs.declared.words.Role.TheVariants.{Answers}
-use Rattle.session_core.specs.declared.ending.End.{End}
-use Rattle.session_core.specs.declared.ending.End.TheVariants as E
-use Rattle.session_core.specs.declared.ending.Took.{Took}
-use Rattle.session_core.specs.declared.ending.Took.TheVariants as T
-use Rattle.session_core.specs.declared.ending.Gave.{Gave}
-use Rattle.session_core.specs.declared.ending.Gave.TheVariants as G
+use Rattle.session_core.specs.Ends.{End}
+use Rattle.session_core.specs.Ends as E
+use Rattle.session_core.specs.Takings.{Took}
+use Rattle.session_core.specs.Takings as T
+use Rattle.session_core.specs.Givings.{Gave}
+use Rattle.session_core.specs.Givings as G
 use Rattle.binkp_link.specs.declared.link.ReadAnswer.{ReadAnswer}
 use Rattle.binkp_link.specs.declared.link.ReadAnswer.TheVariants as R
 use Rattle.binkp_link.specs.declared.link.WriteAnswer.{WriteAnswer}

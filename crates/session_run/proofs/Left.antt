@@ -5,7 +5,7 @@ use Rattle.std.proofs.lemmas.Bool.{le-leb, lt-leb}
 use Rattle.std.specs.Prelude.{nat_le}
 use Rattle.binkp_link.specs.declared.link.WriteAnswer.TheVariants as W
 use Rattle.binkp_link.specs.declared.link.WriteAnswer.{WriteAnswer}
-use Rattle.session_core.specs.declared.ending.End.{End}
+use Rattle.session_core.specs.Ends.{End}
 use Rattle.binkp_link.specs.Lines.{LineState, IsWrite, went}
 use Rattle.session_run.specs.Machine.{World, Phase, Draining, Closed, Reach, here, next, drains, closes, Drains, Closes, IsLeft, IsClosed, after_drain}
 

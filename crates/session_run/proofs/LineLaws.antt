@@ -9,10 +9,10 @@ use Rattle.binkp_link.specs.declared.link.ReadAnswer.{ReadAnswer}
 use Rattle.binkp_link.specs.declared.link.ReadAnswer.TheVariants as R
 use Rattle.binkp_link.specs.declared.link.WriteAnswer.{WriteAnswer}
 use Rattle.binkp_link.specs.declared.link.WriteAnswer.TheVariants as W
-use Rattle.session_core.specs.declared.ending.End.{End}
-use Rattle.session_core.specs.declared.ending.End.TheVariants as E
-use Rattle.session_core.specs.declared.ending.Took.{Took}
-use Rattle.session_core.specs.declared.ending.Took.TheVariants as T
+use Rattle.session_core.specs.Ends.{End}
+use Rattle.session_core.specs.Ends as E
+use Rattle.session_core.specs.Takings.{Took}
+use Rattle.session_core.specs.Takings as T
 use Rattle.binkp_link.specs.Lines.{LineBytes, LineState, Moves, IsRead, IsWrite, went}
 use Rattle.session_core.specs.Sessions.{fault_end}
 use Rattle.session_run.specs.Machine.{Phase, Taking, Reading, Over, Draining, Closed, after_took, after_read, after_write, after_drain, after_leave, is_mute}

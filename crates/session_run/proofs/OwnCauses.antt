@@ -7,10 +7,10 @@ use Rattle.ftn_addr.specs.Frames.{FrameText}
 use Rattle.node_model.specs.Calls.{Event, Turned, Fault, Disk, Read, Full, No_memory, Answer, Queued, Let_in, Busy, Begun, Offered, Nothing, Came, Settled, Filed, More, Whole_now, Acted, Given, Held, Refused}
 use Rattle.node_model.specs.Talk.{Talk, Part, Finishes, Rests, Says_end, Waits_for_end, Verdict, TurnRow}
 use Rattle.session_core.specs.declared.ending.Cause.{Cause}
-use Rattle.session_core.specs.declared.ending.End.{End}
-use Rattle.session_core.specs.declared.ending.End.TheVariants as E
-use Rattle.session_core.specs.declared.ending.Took.{Took}
-use Rattle.session_core.specs.declared.ending.Took.TheVariants as T
+use Rattle.session_core.specs.Ends.{End}
+use Rattle.session_core.specs.Ends as E
+use Rattle.session_core.specs.Takings.{Took}
+use Rattle.session_core.specs.Takings as T
 use Rattle.binkp_link.specs.declared.link.ReadAnswer.{ReadAnswer}
 use Rattle.binkp_link.specs.declared.link.ReadAnswer.TheVariants as R
 use Rattle.binkp_link.specs.declared.link.WriteAnswer.{WriteAnswer}

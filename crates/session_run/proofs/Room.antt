@@ -8,8 +8,9 @@ use Rattle.binkp_link.specs.declared.link.WriteAnswer.{WriteAnswer}
 use Rattle.binkp_link.specs.declared.link.WriteAnswer.TheVariants as W
 use Rattle.binkp_link.specs.declared.link.ReadAnswer.{ReadAnswer}
 use Rattle.binkp_link.specs.declared.link.ReadAnswer.TheVariants as R
-use Rattle.session_core.specs.declared.ending.End.{End}
-use Rattle.session_core.specs.declared.ending.End.TheVariants as E
+use Rattle.session_core.specs.declared.ending.End.{End as EndCode}
+use Rattle.session_core.specs.Ends.{End}
+use Rattle.session_core.specs.Ends as E
 use Rattle.binkp_link.specs.Lines.{LineState, IsRead, IsWrite, came, went}
 use Rattle.session_run.specs.Machine.{Phase, Over, Taking, Reading, after_write, after_read}
 use Rattle.session_run.specs.Runs.{Wrote, Came, Advances, InLimit, over_or}
@@ -41,7 +42,7 @@ writes_advance limit run run' l l' waits W.Quiet within is did to =
     }
 writes_advance limit run run' l l' waits W.Failed within is did to = absurd (let clash : Reading waits ≡ Over E.LineFault = to in cc)
 
-pub write_advanced : (limit : ℕ) (run run' : Run) (l l' : LineState) (waits : Bool) (answer : WriteAnswer) (result : Option End) → InLimit limit run l.calm → IsWrite l answer run.out.list l' → Wrote run run' (went answer run.out.list) → over_or result (Reading waits) ≡ after_write answer limit (run.taken + run'.wrote) l'.calm (Reading waits) → IfNone result (Advances limit run run' l.calm l'.calm (0 < length run.out.list))
+pub write_advanced : (limit : ℕ) (run run' : Run) (l l' : LineState) (waits : Bool) (answer : WriteAnswer) (result : Option EndCode) → InLimit limit run l.calm → IsWrite l answer run.out.list l' → Wrote run run' (went answer run.out.list) → over_or result (Reading waits) ≡ after_write answer limit (run.taken + run'.wrote) l'.calm (Reading waits) → IfNone result (Advances limit run run' l.calm l'.calm (0 < length run.out.list))
 write_advanced limit run run' l l' waits answer None within is did to = writes_advance limit run run' l l' waits answer within is did to
 write_advanced limit run run' l l' waits answer (Some end) within is did to = tt
 
@@ -72,7 +73,7 @@ reads_advance limit run run' l l' wait R.NotYet buffer within is did to =
 reads_advance limit run run' l l' wait R.End buffer within is did to = absurd (let clash : Taking ≡ Over E.Dropped = to in cc)
 reads_advance limit run run' l l' wait R.Failed buffer within is did to = absurd (let clash : Taking ≡ Over E.LineFault = to in cc)
 
-pub read_advanced : (limit : ℕ) (run run' : Run) (l l' : LineState) (waits : Bool) (answer : ReadAnswer) (buffer : List ℕ) (result : Option End) → InLimit limit run l.calm → IsRead (waits && (length run.out.list == 0)) l answer buffer l' → Came run run' (came answer buffer) → over_or result Taking ≡ after_read answer limit (run'.taken + run.wrote) l'.calm → IfNone result (Advances limit run run' l.calm l'.calm ((waits ≡ true) × (run.out.list ≡ [])))
+pub read_advanced : (limit : ℕ) (run run' : Run) (l l' : LineState) (waits : Bool) (answer : ReadAnswer) (buffer : List ℕ) (result : Option EndCode) → InLimit limit run l.calm → IsRead (waits && (length run.out.list == 0)) l answer buffer l' → Came run run' (came answer buffer) → over_or result Taking ≡ after_read answer limit (run'.taken + run.wrote) l'.calm → IfNone result (Advances limit run run' l.calm l'.calm ((waits ≡ true) × (run.out.list ≡ [])))
 read_advanced limit run run' l l' waits answer buffer None within is did to =
     let a = reads_advance limit run run' l l' (waits && (length run.out.list == 0)) answer buffer within is did to in
     record { within = a.within; no_more = a.no_more; less = λ h. a.less (ap (λ (b : Bool). b && (length run.out.list == 0)) h.0 ∙ ap (λ (xs : List ℕ). true && (length xs == 0)) h.1) }

@@ -15,12 +15,13 @@ use Rattle.session_core.proofs.Writings.{if_more}
 use Rattle.node_model.specs.Images.{Stand, Kept, Drifted, Shared, RanAt}
 use Rattle.node_model.proofs.Drifting.{drifted_none, drifted_on, earlier}
 use Rattle.node_model.proofs.Rans.{absorbed, ran_none, ran_one, ran_shared, ran_then}
-use Rattle.session_core.specs.declared.ending.End.{End}
-use Rattle.session_core.specs.declared.ending.End.TheVariants as E
-use Rattle.session_core.specs.declared.ending.Took.{Took}
-use Rattle.session_core.specs.declared.ending.Took.TheVariants as T
-use Rattle.session_core.specs.declared.ending.Gave.{Gave}
-use Rattle.session_core.specs.declared.ending.Gave.TheVariants as G
+use Rattle.session_core.specs.declared.ending.End.{End as EndCode}
+use Rattle.session_core.specs.Ends.{End}
+use Rattle.session_core.specs.Ends as E
+use Rattle.session_core.specs.Takings.{Took}
+use Rattle.session_core.specs.Takings as T
+use Rattle.session_core.specs.Givings.{Gave}
+use Rattle.session_core.specs.Givings as G
 use Rattle.session_run.specs.declared.run.Run.{Run}
 use Rattle.session_core.specs.declared.session.Session.{Session}
 use Rattle.binkp_link.specs.Lines.{LineState, IsRead, IsWrite, came, went}
@@ -327,11 +328,11 @@ gave_it alone s run run' line desk gave empty d frames decoder piece taken wrote
     }
     go (inr x) = subst (λ (k : Gave). Goes alone s (spot run line desk [] Taking) (spot run' line desk [] (after_gave k))) (sym x.0) (gave_up_at alone s run run' line desk [] [] Taking tt x.3 taken wrote)
 
-follows_reading : (result : Option End) (waits : Bool) (run : Run) (v : World) → Stream run [] v → Follows (over_or result (Reading waits)) run [] v
+follows_reading : (result : Option EndCode) (waits : Bool) (run : Run) (v : World) → Stream run [] v → Follows (over_or result (Reading waits)) run [] v
 follows_reading None waits run v st = st
 follows_reading (Some end) waits run v st = tt
 
-follows_taking : (result : Option End) (run : Run) (v : World) → Stream run [] v → Follows (over_or result Taking) run [] v
+follows_taking : (result : Option EndCode) (run : Run) (v : World) → Stream run [] v → Follows (over_or result Taking) run [] v
 follows_taking None run v st = st
 follows_taking (Some end) run v st = tt
 
@@ -344,7 +345,7 @@ passes_it alone s run line desk waits empty = record {
       (v, next here (passes_write step), record { setting_is = at.setting_is; line_is = at.line_is; desk_is = at.desk_is; phase_is = refl; unsent = at.unsent; taken = at.taken; wrote = at.wrote; follows = stream_same run run [] w v refl refl refl refl refl refl at.follows }, sym (append-nil w.events));
 }
 
-pub wrote_it : (alone : Bool) (s : Setting) (run run' : Run) (l l' : LineState) (desk : DeskState) (waits : Bool) (answer : WriteAnswer) (result : Option End) → 0 < length run.out.list → IsWrite l answer run.out.list l' → Wrote run run' (went answer run.out.list) → over_or result (Reading waits) ≡ after_write answer s.limit (run.taken + run'.wrote) l'.calm (Reading waits) → Goes alone s (spot run l desk [] (Writing waits)) (spot run' l' desk [] (over_or result (Reading waits)))
+pub wrote_it : (alone : Bool) (s : Setting) (run run' : Run) (l l' : LineState) (desk : DeskState) (waits : Bool) (answer : WriteAnswer) (result : Option EndCode) → 0 < length run.out.list → IsWrite l answer run.out.list l' → Wrote run run' (went answer run.out.list) → over_or result (Reading waits) ≡ after_write answer s.limit (run.taken + run'.wrote) l'.calm (Reading waits) → Goes alone s (spot run l desk [] (Writing waits)) (spot run' l' desk [] (over_or result (Reading waits)))
 wrote_it alone s run run' l l' desk waits answer result some is did to = record {
   goes = λ w at.
       let gone = went answer run.out.list in
@@ -381,7 +382,7 @@ wrote_it alone s run run' l l' desk waits answer result some is did to = record 
       );
 }
 
-pub came_it : (alone : Bool) (s : Setting) (run run' : Run) (l l' : LineState) (desk : DeskState) (waits : Bool) (answer : ReadAnswer) (buffer : List ℕ) (result : Option End) → length buffer ≡ 4096 → IsRead (waits && (length run.out.list == 0)) l answer buffer l' → Came run run' (came answer buffer) → over_or result Taking ≡ after_read answer s.limit (run'.taken + run.wrote) l'.calm → Goes alone s (spot run l desk [] (Reading waits)) (spot run' l' desk [] (over_or result Taking))
+pub came_it : (alone : Bool) (s : Setting) (run run' : Run) (l l' : LineState) (desk : DeskState) (waits : Bool) (answer : ReadAnswer) (buffer : List ℕ) (result : Option EndCode) → length buffer ≡ 4096 → IsRead (waits && (length run.out.list == 0)) l answer buffer l' → Came run run' (came answer buffer) → over_or result Taking ≡ after_read answer s.limit (run'.taken + run.wrote) l'.calm → Goes alone s (spot run l desk [] (Reading waits)) (spot run' l' desk [] (over_or result Taking))
 came_it alone s run run' l l' desk waits answer buffer result room is did to = record {
   goes = λ w at.
       let piece = came answer buffer in

@@ -7,9 +7,9 @@ use Rattle.node_model.specs.Calls.{Counts, counts_of, DeskState, Turned, asked_o
 use Rattle.node_model.specs.Images.{Stand, Drifted, RanAt}
 use Rattle.node_model.specs.Talk.{is_finished}
 use Rattle.session_core.specs.declared.ending.Cause.{Cause}
-use Rattle.session_core.specs.declared.ending.End.{End}
-use Rattle.session_core.specs.declared.ending.End.TheVariants as E
-use Rattle.session_core.specs.declared.ending.Took.TheVariants as T
+use Rattle.session_core.specs.Ends.{End}
+use Rattle.session_core.specs.Ends as E
+use Rattle.session_core.specs.Takings as T
 use Rattle.binkp_link.specs.Lines.{LineState, Moves, shut}
 use Rattle.session_core.specs.Sessions.{Setting, Stage, Talks, Reply, Row, frame_number}
 use Rattle.session_run.specs.Machine.{World, Phase, Over, Draining, Closed, Reach, opening, is_mute}

@@ -8,12 +8,12 @@ use Rattle.binkp_link.specs.declared.link.ReadAnswer.{ReadAnswer}
 use Rattle.binkp_link.specs.declared.link.ReadAnswer.TheVariants as R
 use Rattle.binkp_link.specs.declared.link.WriteAnswer.{WriteAnswer}
 use Rattle.binkp_link.specs.declared.link.WriteAnswer.TheVariants as W
-use Rattle.session_core.specs.declared.ending.End.{End}
-use Rattle.session_core.specs.declared.ending.End.TheVariants as E
-use Rattle.session_core.specs.declared.ending.Took.{Took}
-use Rattle.session_core.specs.declared.ending.Took.TheVariants as T
-use Rattle.session_core.specs.declared.ending.Gave.{Gave}
-use Rattle.session_core.specs.declared.ending.Gave.TheVariants as G
+use Rattle.session_core.specs.Ends.{End}
+use Rattle.session_core.specs.Ends as E
+use Rattle.session_core.specs.Takings.{Took}
+use Rattle.session_core.specs.Takings as T
+use Rattle.session_core.specs.Givings.{Gave}
+use Rattle.session_core.specs.Givings as G
 use Rattle.binkp_link.specs.Lines.{LineState, IsRead, IsWrite, came, went}
 use Rattle.session_core.specs.Sessions.{Setting, Stage, Awaits_address, Reply, Row, AfterKnock, Turn, GiveRow, Said, frame_number}
 

@@ -4,7 +4,8 @@ use Rattle.ftn_addr.specs.Frames.{FrameText}
 use Rattle.binkp_frame.specs.Stream.{Splits}
 use Rattle.node_model.specs.Calls.{DeskState, Turned}
 use Rattle.node_model.specs.Images.{Stand, Drifted, RanAt}
-use Rattle.session_core.specs.declared.ending.End.{End}
+use Rattle.session_core.specs.declared.ending.End.{End as EndCode}
+use Rattle.session_core.specs.Ends.{end_text}
 use Rattle.session_run.specs.declared.run.Run.{Run}
 use Rattle.binkp_link.specs.Lines.{LineState}
 use Rattle.session_core.specs.Sessions.{Setting, Awaits_address, frame_number}
@@ -96,9 +97,9 @@ pub record SameCounts (run run' : Run) : Type 0 where
   pub wrote : run'.wrote ≡ run.wrote
 
 -- the session is over, or goes on there
-abbrev pub over_or : Option End → Phase → Phase
+abbrev pub over_or : Option EndCode → Phase → Phase
 over_or None goal = goal
-over_or (Some end) goal = Over end
+over_or (Some end) goal = Over (end_text end)
 
 -- how much may still come: each turn moves a byte or is one Quiet more
 abbrev pub room : ℕ → Run → ℕ → ℕ

@@ -11,10 +11,12 @@ ghost use Rattle.session_core.specs.Sessions.{Setting as Lent, IsSound, desk_par
 ghost use Rattle.session_run.specs.Runs.{over_or};
 ghost use Rattle.session_run.specs.Laws.{IsSession};
 ghost use Rattle.session_run.specs.Machine.{World, Phase, Starting, Taking, Writing, Reading, Over, IsLeft, IsClosed, is_mute, after_gave, after_leave, after_read, after_took, after_write, moved, quieted};
-ghost use Rattle.session_core.specs.declared.ending.End.{End as Ending};
-ghost use Rattle.session_core.specs.declared.ending.End.TheVariants as E;
-ghost use Rattle.session_core.specs.declared.ending.Took.TheVariants as T;
-ghost use Rattle.session_core.specs.declared.ending.Gave.TheVariants as G;
+ghost use Rattle.session_core.specs.Ends.{End as Ending, end_text};
+ghost use Rattle.session_core.specs.Givings.{gave_text};
+ghost use Rattle.session_core.specs.Takings.{took_text};
+ghost use Rattle.session_core.specs.Ends as E;
+ghost use Rattle.session_core.specs.Takings as T;
+ghost use Rattle.session_core.specs.Givings as G;
 
 use binkp_frame::{Decoder, Frame, pieces_add_up};
 use binkp_link::{Line, ReadAnswer, WriteAnswer};
@@ -84,8 +86,8 @@ impl Run {
         requires home { IsAddress (address setting.now.home) }
         requires sits { Sits (K.ready desk.old) (K.part desk.old) (stage_of self.old.session.stage) }
         requires piece { self.old.piece.list ≡ [] }
-        ensures went { (line : LineState) → Went K.alone (setting_of setting.now) (K.stand desk.old) (spot self.old line (K.stand desk.old).state (frame_texts frames.now) Taking) (K.stand desk.new) (spot self.new line (K.stand desk.new).state [] (after_took result)) }
-        ensures sits { SitsStill (K.ready desk.new) (K.part desk.new) (stage_of self.new.session.stage) result }
+        ensures went { (line : LineState) → Went K.alone (setting_of setting.now) (K.stand desk.old) (spot self.old line (K.stand desk.old).state (frame_texts frames.now) Taking) (K.stand desk.new) (spot self.new line (K.stand desk.new).state [] (after_took (took_text result))) }
+        ensures sits { SitsStill (K.ready desk.new) (K.part desk.new) (stage_of self.new.session.stage) (took_text result) }
         ensures piece { self.new.piece.list ≡ [] }
         ensures counts { SameCounts self.old self.new }
     {
@@ -105,9 +107,9 @@ impl Run {
     fn take_all<K: Desk>(&mut self, alloc: Global, setting: &Setting, desk: &mut K) -> Took
         requires home { IsAddress (address setting.now.home) }
         requires sits { Sits (K.ready desk.old) (K.part desk.old) (stage_of self.old.session.stage) }
-        ensures went { (line : LineState) → Went K.alone (setting_of setting.now) (K.stand desk.old) (spot self.old line (K.stand desk.old).state [] Taking) (K.stand desk.new) (spot self.new line (K.stand desk.new).state [] (after_took result)) }
-        ensures sits { SitsStill (K.ready desk.new) (K.part desk.new) (stage_of self.new.session.stage) result }
-        ensures piece { result ≡ T.More → self.new.piece.list ≡ [] }
+        ensures went { (line : LineState) → Went K.alone (setting_of setting.now) (K.stand desk.old) (spot self.old line (K.stand desk.old).state [] Taking) (K.stand desk.new) (spot self.new line (K.stand desk.new).state [] (after_took (took_text result))) }
+        ensures sits { SitsStill (K.ready desk.new) (K.part desk.new) (stage_of self.new.session.stage) (took_text result) }
+        ensures piece { took_text result ≡ T.More → self.new.piece.list ≡ [] }
         ensures counts { SameCounts self.old self.new }
     {
         match self.feed(alloc) {
@@ -120,10 +122,10 @@ impl Run {
     fn give(&mut self, alloc: Global) -> Gave
         requires piece { self.old.piece.list ≡ [] }
         ensures went { (alone : Bool) (s : Lent) (line : LineState) (desk : DeskState) →
-            Goes alone s (spot self.old line desk [] Taking) (spot self.new line desk [] (after_gave result)) }
+            Goes alone s (spot self.old line desk [] Taking) (spot self.new line desk [] (after_gave (gave_text result))) }
         ensures part { desk_part (stage_of self.new.session.stage) ≡ desk_part (stage_of self.old.session.stage) }
         ensures sound { IsSound (stage_of self.old.session.stage) → IsSound (stage_of self.new.session.stage) }
-        ensures sent { result ≡ G.Sent → 0 < length self.new.out.list }
+        ensures sent { gave_text result ≡ G.Sent → 0 < length self.new.out.list }
         ensures piece { self.new.piece.list ≡ self.old.piece.list }
         ensures counts { SameCounts self.old self.new }
     {
@@ -258,8 +260,8 @@ impl Run {
         requires home { IsAddress (address setting.now.home) }
         requires ready { K.ready desk.old }
         requires part { K.part desk.old ≡ record { open_now = false; held = None } }
-        ensures went { (line : LineState) → Went K.alone (setting_of setting.now) (K.stand desk.old) (spot self.old line (K.stand desk.old).state [] Starting) (K.stand desk.new) (spot self.new line (K.stand desk.new).state [] (after_took result)) }
-        ensures sits { SitsStill (K.ready desk.new) (K.part desk.new) (stage_of self.new.session.stage) result }
+        ensures went { (line : LineState) → Went K.alone (setting_of setting.now) (K.stand desk.old) (spot self.old line (K.stand desk.old).state [] Starting) (K.stand desk.new) (spot self.new line (K.stand desk.new).state [] (after_took (took_text result))) }
+        ensures sits { SitsStill (K.ready desk.new) (K.part desk.new) (stage_of self.new.session.stage) (took_text result) }
         ensures counts { SameCounts self.old self.new }
     {
         match desk.knock(Role::Answers) {
@@ -284,7 +286,7 @@ impl Run {
         requires limit { setting.now.limit ≤ 2 ^ 62 }
         requires calm { (L.state line.old).calm ≡ 0 }
         requires open { (L.state line.old).closed ≡ false }
-        ensures went { Went K.alone (setting_of setting.now) (K.stand desk.old) (spot self.old (L.state line.old) (K.stand desk.old).state [] Starting) (K.stand desk.new) (spot self.new (L.state line.new) (K.stand desk.new).state [] (Over result)) }
+        ensures went { Went K.alone (setting_of setting.now) (K.stand desk.old) (spot self.old (L.state line.old) (K.stand desk.old).state [] Starting) (K.stand desk.new) (spot self.new (L.state line.new) (K.stand desk.new).state [] (Over (end_text result))) }
         ensures open { (L.state line.new).closed ≡ false }
         ensures ready { K.ready desk.new }
     {
@@ -327,7 +329,7 @@ fn quiet(calm: u64) -> Option<End>
 
 /// A `leave` that answers Disk turns any end.
 fn turned(end: End, answer: Result<(), DeskFault>) -> End
-    ensures { result ≡ after_leave end (leave_answer answer) }
+    ensures { end_text result ≡ after_leave (end_text end) (leave_answer answer) }
 {
     match answer {
         Err(DeskFault::Disk(count)) => End::DiskFault(count),
@@ -338,7 +340,7 @@ fn turned(end: End, answer: Result<(), DeskFault>) -> End
 }
 
 fn is_mute(end: End) -> bool
-    ensures { result ≡ is_mute end }
+    ensures { result ≡ is_mute (end_text end) }
 {
     matches!(end, End::LineFault | End::Quiet)
 }
@@ -386,7 +388,7 @@ pub fn run_session<L: Line, K: Desk>(
     requires limit { setting.now.limit ≤ 2 ^ 62 }
     requires calm { (L.state line.old).calm ≡ 0 }
     requires open { (L.state line.old).closed ≡ false }
-    ensures session { IsSession K.alone (setting_of setting.now) (L.state line.old) (K.stand desk.old) result.end result.taken (L.state line.new) (K.stand desk.new) }
+    ensures session { IsSession K.alone (setting_of setting.now) (L.state line.old) (K.stand desk.old) (end_text result.end) result.taken (L.state line.new) (K.stand desk.new) }
     ensures ready { K.ready desk.new }
 {
     let mut run = Run::new(alloc);

@@ -4,7 +4,7 @@ use Rattle.std.proofs.lemmas.Bool.{eqb-true, eqb-false}
 use Rattle.binkp_link.specs.declared.link.WriteAnswer.{WriteAnswer}
 use Rattle.binkp_link.specs.Lines.{LineState, IsWrite}
 use Rattle.session_run.proofs.Runs.{is_nothing}
-use Rattle.session_core.specs.declared.ending.End.{End}
+use Rattle.session_core.specs.Ends.{End}
 use Rattle.session_run.specs.Machine.{World, Draining}
 use Rattle.session_run.proofs.Left.{Drained, begun, drained, closed_by, closed_mute, closed_empty, sixtieth, not_yet}
 use Rattle.session_run.proofs.run.drain.Goals as goal

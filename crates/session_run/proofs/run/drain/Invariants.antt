@@ -1,6 +1,6 @@
 use Rattle.std.proofs.Common.{◌≡◌, ◌+◌, ◌-◌, ◌*◌, Bool, false, length}
 use Rattle.session_run.specs.Machine.{World, IsLeft, Draining}
-use Rattle.session_core.specs.declared.ending.End.{End}
+use Rattle.session_core.specs.Ends.{End}
 use Rattle.session_run.proofs.Left.{Drained}
 use Rattle.session_run.proofs.run.drain.Given as goal
 

@@ -3,6 +3,7 @@ use Rattle.node_model.specs.Calls.{Turned, DeskState}
 use Rattle.node_model.specs.Images.{Stand, Drifted, RanAt}
 use Rattle.node_model.specs.Desks.{leave_answer}
 use Rattle.binkp_link.specs.Lines.{LineState, shut}
+use Rattle.session_core.specs.Ends.{end_text}
 use Rattle.session_core.specs.Replies.{setting_of}
 use Rattle.session_run.specs.Machine.{World, Draining, opening, is_mute}
 use Rattle.session_run.proofs.Runs.{reach_trans, at_opening, left_it, went_then, ends_at}
@@ -16,10 +17,10 @@ returns-clause-session g c =
     let w : World = opening (setting_of c.args.setting.now) line desk in
     let old : Stand = g.K.Desk.stand c.args.desk.now in
     let new : Stand = g.K.Desk.stand c.leave.new.self in
-    let left = ends_at (left_it g.K.Desk.alone (setting_of c.args.setting.now) c.talk-end.new.self (g.L.Line.state c.talk-end.new.line) (g.K.Desk.stand c.talk-end.new.desk) new c.talk-end.result (leave_answer c.leave.result) c.leave.ensures.made) (ap (Draining (is_mute c.talk-end.result)) (sym c.turned-end.ensures)) in
+    let left = ends_at (left_it g.K.Desk.alone (setting_of c.args.setting.now) c.talk-end.new.self (g.L.Line.state c.talk-end.new.line) (g.K.Desk.stand c.talk-end.new.desk) new (end_text c.talk-end.result) (leave_answer c.leave.result) c.leave.ensures.made) (ap (Draining (is_mute (end_text c.talk-end.result))) (sym c.turned-end.ensures)) in
     let y = went_then c.talk-end.ensures.went left in
     let x = y.goes.goes w (at_opening g.K.Desk.alone (setting_of c.args.setting.now) c.new-run.result line desk c.new-run.ensures) in
-    let z = c.drain.ensures g.K.Desk.alone c.turned-end.result x.0 (record { line_is = x.2.line_is; unsent = x.2.unsent; phase = x.2.phase_is ∙ ap (λ (b : Bool). Draining b c.turned-end.result) (sym c.is_mute-mute.ensures) }) in
+    let z = c.drain.ensures g.K.Desk.alone (end_text c.turned-end.result) x.0 (record { line_is = x.2.line_is; unsent = x.2.unsent; phase = x.2.phase_is ∙ ap (λ (b : Bool). Draining b (end_text c.turned-end.result)) (sym c.is_mute-mute.ensures) }) in
     record {
       whole = record {
         last = z.last;

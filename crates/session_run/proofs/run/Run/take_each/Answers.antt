@@ -1,5 +1,6 @@
 use Rattle.std.proofs.Common.{refl}
-use Rattle.session_core.specs.declared.ending.Took.TheVariants as T
+use Rattle.session_core.specs.Ends.{end_text}
+use Rattle.session_core.specs.Takings as T
 use Rattle.session_run.proofs.Runs.{went_then, went_nowhere, took_it, over_drops, pending_as, next_pending, none_pending}
 use Rattle.session_run.proofs.run.Run.take_each.Goals as goal
 
@@ -24,8 +25,8 @@ loop-frame-preserved g c =
 pub returns-in-Ended-clause-went : goal.returns-in-Ended-clause-went
 returns-in-Ended-clause-went g c = λ line.
     let next = next_pending c.args.frames.now c.loop-frame.frame-index c.frame-item.result c.loop-frame-test.true c.frame-item.is in
-    over_drops _ _ _ _ _ _ _ _ _ _ (T.Ended c.in-Ended.end) c.in-Ended.end refl
-    (went_then (pending_as _ _ _ _ _ _ next (c.loop-frame.invariant.went line)) (took_it _ _ _ _ line _ _ _ _ (T.Ended c.in-Ended.end) c.in-Ended.ensures.frames c.in-Ended.ensures.row refl refl refl refl))
+    over_drops _ _ _ _ _ _ _ _ _ _ (T.Ended (end_text c.in-Ended.end)) (end_text c.in-Ended.end) refl
+    (went_then (pending_as _ _ _ _ _ _ next (c.loop-frame.invariant.went line)) (took_it _ _ _ _ line _ _ _ _ (T.Ended (end_text c.in-Ended.end)) c.in-Ended.ensures.frames c.in-Ended.ensures.row refl refl refl refl))
 
 pub returns-clause-went : goal.returns-clause-went
 returns-clause-went g c = λ line. pending_as _ _ _ _ _ _ (none_pending c.args.frames.now _ c.loop-frame-test.false) (c.loop-frame.invariant.went line)
