@@ -1,6 +1,6 @@
 //! The value of the bench.
-ghost use Rattle.std.specs.Prelude.{◌≡◌, ◌+◌, ◌<◌, ℕ, []};
-ghost use Rattle.gate_bench.specs.Counting.{count_of, with_turn, no_turns};
+ghost use Rattle.std.specs.Prelude.{◌≡◌, ◌≢◌, ◌+◌, ◌<◌, ◌%◌, ◌^◌, ℕ, []};
+ghost use Rattle.gate_bench.specs.Counting.{count_of, no_turns};
 
 use std::fmt;
 use turn_gate::Grows;
@@ -40,7 +40,8 @@ impl Counts {
     /// Counts a turn of a seat below 4. A count that has reached its end starts again.
     pub fn count(&mut self, seat: u32)
         requires { seat < 4 }
-        ensures { self.new ≡ with_turn self.old seat }
+        ensures own { count_of self.new seat ≡ (count_of self.old seat + 1) % 2 ^ 64 }
+        ensures others { (k : ℕ) → k ≢ seat → count_of self.new k ≡ count_of self.old k }
     {
         match seat {
             0 => self.first = self.first.wrapping_add(1),

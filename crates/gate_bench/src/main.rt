@@ -1,5 +1,5 @@
 //! `gate_bench gate|mutex THREADS TURNS` lets so many threads make turns on one value, so many each, behind a turn
-//! gate or behind a mutex of the standard library, and tells how many were made in all.
+//! gate or behind a mutex of the standard library, and tells how many each made.
 //!
 //! The value is [`Counts`], four words. [`by_gate`] has it behind a gate and [`by_mutex`] behind a mutex. `bench/gate`
 //! takes the times of this program.

@@ -1,5 +1,5 @@
 -- What a seat knows of a state that others led to.
-use Rattle.std.proofs.Common.{◌≡◌, ◌≢◌, ℕ, zero, suc, List, [], ◌∷◌, ◌++◌, length, All, sym, ap, ◌∙◌, arith}
+use Rattle.std.proofs.Common.{◌≢◌, ℕ, zero, suc, List, [], ◌∷◌, ◌++◌, All, sym, ap, ◌∙◌, arith}
 use mathlib.Core.List.{append_assoc, append-nil}
 use Rattle.turn_gate.specs.Turns.{IsTurn, IsContinued, Path, ByOthers}
 

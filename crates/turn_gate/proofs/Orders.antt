@@ -1,5 +1,5 @@
 -- Passes in the order of their seats.
-use Rattle.std.proofs.Common.{◌≡◌, ℕ, zero, suc, ◌<◌, List, [], ◌∷◌, Contains, length, map, slice_index_or, ap, ◌∙◌, sym, arith, subst}
+use Rattle.std.proofs.Common.{◌≡◌, ℕ, zero, suc, ◌<◌, List, [], ◌∷◌, All, length, map, slice_index_or, ap, ◌∙◌, arith}
 use Rattle.turn_gate.specs.declared.gate.Gate.{Gate}
 use Rattle.turn_gate.specs.declared.grows.Grows.{Ghosts}
 use Rattle.turn_gate.specs.declared.pass.Pass.{Pass}
@@ -30,3 +30,12 @@ module _ {T X E P : Type 0} {g : Ghosts T X E P} where
         let n = length_map (λ (p : Pass T X E P g). (view p).seat) passes in
         (k, omega (arith, short, n), get_map (λ (p : Pass T X E P g). (view p).seat) passes k k d short ∙ (o.each k d short).1);
   }
+
+  -- what holds of all passes holds of that of each seat
+  pub at_seat : (gate : Gate T X E P) (passes : List (Pass T X E P g)) → AreInOrder gate passes → (R : Pass T X E P g → Type 0) → All R passes → (k : ℕ) → k < seats_of gate
+      → (p : Pass T X E P g) × R p × ((view p).seat ≡ k)
+  at_seat gate passes o R h k l =
+      let c = o.count in
+      let short : k < length passes = omega (arith, l, c) in
+      let d = first_of passes k short in
+      (slice_index_or passes k d, h k d short, (o.each k d short).1)

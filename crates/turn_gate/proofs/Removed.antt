@@ -1,5 +1,5 @@
 -- What holds of a list, by what holds of one of its elements and of the list without it.
-use Rattle.std.proofs.Common.{◌≡◌, ◌≢◌, ℕ, zero, suc, ◌+◌, ◌<◌, Bool, true, false, true≢false, List, [], ◌∷◌, length, map, remove, Option, None, Some, All, Contains, slice_get, slice_index_or, refl, sym, ap, ◌∙◌, subst, arith}
+use Rattle.std.proofs.Common.{◌≡◌, ◌≢◌, ℕ, zero, suc, ◌<◌, Bool, true, false, true≢false, List, [], ◌∷◌, length, map, remove, Option, None, Some, All, Contains, slice_get, slice_index_or, refl, sym, ap, ◌∙◌, subst, arith}
 
 -- no element is k, and one is
 pub found : {A : Type 0} (f : A → ℕ) (os : List A) (k i : ℕ) → i < length (map f os) → slice_index_or (map f os) i k ≡ k → All (λ o. f o ≢ k) os → ⊥

@@ -1,14 +1,13 @@
 -- What clauses say of a gate and of its passes.
-use Rattle.std.specs.Prelude.{ℕ, ◌≡◌, ◌+◌, ◌<◌, true, false, List, [], ◌∷◌, None, Some, All, length, map, slice_get, slice_index_or, Contains, ◌⊎◌}
+use Rattle.std.specs.Prelude.{ℕ, ◌≡◌, ◌<◌, true, false, List, [], ◌∷◌, None, Some, All, length, map, slice_get, slice_index_or, Contains, ◌⊎◌}
 use Rattle.turn_gate.specs.declared.gate.Gate.{Gate}
 use Rattle.turn_gate.specs.declared.grows.Grows.{Ghosts}
 use Rattle.turn_gate.specs.declared.no_turn.NoTurn.{NoTurn}
 use Rattle.turn_gate.specs.declared.no_turn.NoTurn.TheVariants.{Busy, Spent}
 use Rattle.turn_gate.specs.declared.pass.Pass.{Pass}
 use Rattle.turn_gate.specs.declared.view.View.{View}
-use Rattle.turn_gate.specs.Turns.{IsTurn, ByOthers, ByTurns}
 use Rattle.turn_gate.specs.Rule.{last_number}
-use Rattle.turn_gate.specs.Views.{new_view, after_acquire, after_busy, after_publish, after_spent, after_release}
+use Rattle.turn_gate.specs.Views.{new_view, after_busy, after_spent}
 
 module _ {T X E P : Type 0} where
   -- the state of the value that the gate was made with

@@ -1,4 +1,4 @@
-use Rattle.std.proofs.Common.{◌≡◌, ◌≢◌, ℕ, ◌<◌, ◌≤◌, length, slice_index_or}
+use Rattle.std.proofs.Common.{◌≢◌, ℕ, ◌<◌, ◌≤◌, length, slice_index_or}
 use Rattle.turn_gate.proofs.seats.first_of.Given as goal
 
 abbrev pub invariant-loop-at : goal.invariant-loop-at

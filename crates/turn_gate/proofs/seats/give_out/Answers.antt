@@ -1,4 +1,4 @@
-use Rattle.std.proofs.Common.{rules, ap, refl}
+use Rattle.std.proofs.Common.{rules, ap}
 use Rattle.turn_gate.proofs.Keeps.{gives_out}
 use Rattle.turn_gate.proofs.seats.give_out.Goals as goal
 

@@ -1,6 +1,6 @@
 use Rattle.std.proofs.Common.{◌≡◌, ℕ, [], ◌+◌, ◌<◌, ◌≤◌, vec_len, slice_index_or}
 use Rattle.turn_gate.specs.Seats.{IsNewAt}
-use Rattle.turn_gate.specs.Views.{keeper_view, new_view}
+use Rattle.turn_gate.specs.Views.{keeper_view}
 use Rattle.turn_gate.proofs.seats.give_out.Given as goal
 
 abbrev pub invariant-loop-seat : goal.invariant-loop-seat

@@ -1,4 +1,4 @@
-use Rattle.std.proofs.Common.{rules, ap, ◌∙◌, ◌++◌, refl}
+use Rattle.std.proofs.Common.{rules, ap, ◌∙◌, refl}
 use Rattle.turn_gate.specs.Seats.{IsIdleAt}
 use Rattle.turn_gate.specs.Views.{joined_of}
 use Rattle.turn_gate.proofs.Keeps.{takes_in}

@@ -1,4 +1,4 @@
-use Rattle.std.proofs.Common.{arith, rules, ◌≡◌, ℕ, ◌<◌, ◌∙◌, length, slice_index_or, sym, ap, subst}
+use Rattle.std.proofs.Common.{arith, rules, ℕ, ◌<◌, ◌∙◌, length, slice_index_or, sym, ap, subst}
 use mathlib.Core.Option as maybe
 use Rattle.std.specs.Slots.{slots_len}
 use Rattle.turn_gate.specs.Passes.{IsFree}

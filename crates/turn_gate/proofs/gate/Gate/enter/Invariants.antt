@@ -1,4 +1,3 @@
-use Rattle.std.proofs.Common.{◌≡◌}
 use Rattle.turn_gate.specs.Passes.{IsFree, Waited, view}
 use Rattle.turn_gate.proofs.gate.Gate.enter.Given as goal
 

@@ -1,5 +1,5 @@
-use Rattle.std.proofs.Common.{rules, ◌≡◌, ℕ, [], ◌∷◌, ◌+◌, ◌<◌, length, None, Some, sym, ap, ◌∙◌, refl, subst}
-use mathlib.Core.Option.{none, some}
+use Rattle.std.proofs.Common.{rules, ℕ, [], ◌∷◌, ◌+◌, length, None, Some, sym, ap, ◌∙◌, refl}
+use mathlib.Core.Option.{none}
 use Rattle.atomic_table.specs.Table.{rest, step}
 use Rattle.turn_gate.specs.declared.view.Counted.{Counted}
 use Rattle.turn_gate.specs.Views.{after_publish, after_release}
