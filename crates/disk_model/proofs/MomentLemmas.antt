@@ -2,6 +2,7 @@
 use Rattle.std.specs.Prelude.{◌≡◌, ◌⊎◌, ℕ, ◌+◌, ◌<◌, ◌≤◌, Option, Some, None, Result, Ok, Err, IfOk}
 use Rattle.std.proofs.Common.{inl, inr, ⊎_elim, refl, sym, subst, arith}
 use Rattle.std.proofs.lemmas.Bool.{cases_lt}
+use Rattle.ftn_addr.proofs.MomentsGrow.{moments_grew-refl, moments_grew-then}
 use Rattle.disk_model.specs.World.{World}
 use Rattle.disk_model.specs.Changes.{Every, Follows, Same, AtOnce}
 use Rattle.disk_model.specs.Moments.{Steps, Leaves, StepOf, Together}
@@ -10,8 +11,7 @@ module _ {D : Type 0} (moment : D → ℕ) (images : D → ℕ → World → Typ
   -- before the first call
   pub started : (step : World → World → Type 0) (old : D) → ((c : World) → images old (moment old) c → step c c) → Leaves moment images step old old
   started step old same = record {
-    later = omega arith;
-    kept = λ k c le left. left;
+    grew = moments_grew-refl (moment old) (images old);
     each = λ k c from to left.
         let now : images old (moment old) c = subst (λ (m : ℕ). images old m c) (omega arith) left in
         (c, now, same c now);
@@ -21,10 +21,9 @@ module _ {D : Type 0} (moment : D → ℕ) (images : D → ℕ → World → Typ
   pub goes_on : (R step : World → World → Type 0) (old mid new : D) → Leaves moment images step old mid → Steps moment images R mid new
       → Follows step (images old (moment old)) (images new (moment new)) → Leaves moment images step old new
   goes_on R step old mid new so_far time here = record {
-    later = omega (arith, so_far.later, time.later);
-    kept = λ k c le left. so_far.kept k c le (time.kept k c (omega (arith, le, so_far.later)) left);
+    grew = moments_grew-then (moment old) (images old) (moment mid) (images mid) (moment new) (images new) so_far.grew time.grew;
     each = λ k c from to left. ⊎_elim
-        (λ (before : k ≤ moment mid). so_far.each k c from before (time.kept k c before left))
+        (λ (before : k ≤ moment mid). so_far.each k c from before (time.grew.before k c before left))
         (λ (now : k ≡ moment new). here c (subst (λ (m : ℕ). images new m c) now left))
         (last k (moment mid) (moment new) to time.next);
   }
@@ -37,15 +36,14 @@ module _ {D : Type 0} (moment : D → ℕ) (images : D → ℕ → World → Typ
       → ((d c : World) → images old (moment old) d → R d c → T d c)
       → ((d e c : World) → images old (moment old) d → images mid (moment mid) e → R d e → S e c → T d c) → Leaves moment images T old new
   runs_on R S T old mid new first second stays steps = record {
-    later = omega (arith, first.later, second.later);
-    kept = λ k c le left. first.kept k c le (second.kept k c (omega (arith, le, first.later)) left);
+    grew = moments_grew-then (moment old) (images old) (moment mid) (images mid) (moment new) (images new) first.grew second.grew;
     each = λ k c from to left. ⊎_elim
         (λ (before : k ≤ moment mid).
-        let was = first.each k c from before (second.kept k c before left) in
+        let was = first.each k c from before (second.grew.before k c before left) in
         (was.0, was.1, stays was.0 c was.1 was.2))
         (λ (after : moment mid ≤ k).
         let was = second.each k c after to left in
-        let first_was = first.each (moment mid) was.0 first.later (omega arith) was.1 in
+        let first_was = first.each (moment mid) was.0 first.grew.later (omega arith) was.1 in
         (first_was.0, first_was.1, steps first_was.0 was.0 c first_was.1 was.1 first_was.2 was.2))
         (either k (moment mid));
   }
@@ -56,8 +54,7 @@ module _ {D : Type 0} (moment : D → ℕ) (images : D → ℕ → World → Typ
   -- the same run, of which less is said
   pub weakened : (R T : World → World → Type 0) (old new : D) → ((d c : World) → images old (moment old) d → R d c → T d c) → Leaves moment images R old new → Leaves moment images T old new
   weakened R T old new leads run = record {
-    later = run.later;
-    kept = run.kept;
+    grew = run.grew;
     each = λ k c from to left. let was = run.each k c from to left in (was.0, was.1, leads was.0 c was.1 was.2);
   }
 
@@ -68,9 +65,8 @@ module _ {D : Type 0} (moment : D → ℕ) (images : D → ℕ → World → Typ
   -- the same call, of which less is said
   pub steps_map : (R T : World → World → Type 0) (old new : D) → ((d c : World) → R d c → T d c) → Steps moment images R old new → Steps moment images T old new
   steps_map R T old new leads call = record {
-    later = call.later;
+    grew = call.grew;
     next = call.next;
-    kept = call.kept;
     now = λ c left. let was = call.now c left in (was.0, was.1, leads was.0 c was.2);
   }
 

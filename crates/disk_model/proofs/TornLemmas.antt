@@ -1,5 +1,5 @@
 -- A write that may be in part.
-use Rattle.std.proofs.Common.{◌≡◌, ℕ, ◌+◌, ◌-◌, ◌≤◌, List, drop, length, refl, sym, ◌∙◌, ap, arith, drop-drop}
+use Rattle.std.proofs.Common.{◌≡◌, ℕ, ◌+◌, ◌-◌, ◌≤◌, List, drop, refl, sym, ◌∙◌, ap, arith, drop-drop}
 use Rattle.disk_model.specs.Changes.{Torn}
 
 -- one that wrote nothing

@@ -1,5 +1,6 @@
 -- The moments of a disk are the numbers up to `moment`, and `images d k` is what a stop at the moment k may have left.
 use Rattle.std.specs.Prelude.{◌≡◌, ℕ, ◌+◌, ◌≤◌, Option, Some, None, Result, IfOk}
+use Rattle.ftn_addr.specs.Moments.{MomentsGrew}
 use Rattle.disk_model.specs.World.{World}
 use Rattle.disk_model.specs.Changes.{Follows, Same}
 
@@ -15,15 +16,13 @@ AtRest files moment images d = (c w : World) → images d (moment d) c → files
 -- One call: one moment more (none where there was no memory to note it), those before it stay as they were, and each
 -- image now is one of those before after a step.
 pub record Steps {D : Type 0} (moment : D → ℕ) (images : D → ℕ → World → Type 0) (step : World → World → Type 0) (old new : D) : Type 0 where
-  pub later : moment old ≤ moment new
+  pub grew : MomentsGrew (moment old) (images old) (moment new) (images new)
   pub next : moment new ≤ moment old + 1
-  pub kept : (k : ℕ) (c : World) → k ≤ moment old → images new k c → images old k c
   pub now : (c : World) → images new (moment new) c → (d : World) × images old (moment old) d × step d c
 
 -- Many calls: at every moment since they began, each image is one of those at the beginning after a step.
 pub record Leaves {D : Type 0} (moment : D → ℕ) (images : D → ℕ → World → Type 0) (step : World → World → Type 0) (old new : D) : Type 0 where
-  pub later : moment old ≤ moment new
-  pub kept : (k : ℕ) (c : World) → k ≤ moment old → images new k c → images old k c
+  pub grew : MomentsGrew (moment old) (images old) (moment new) (images new)
   pub each : (k : ℕ) (c : World) → moment old ≤ k → k ≤ moment new → images new k c → (d : World) × images old (moment old) d × step d c
 
 -- the step of what was made, if anything

@@ -61,7 +61,7 @@ module _ {D : Type 0} (moment : D → ℕ) (images : D → ℕ → World → Typ
       pub makes_stop : Steps moment images (AtOnce result (RenamesTo name to)) d1 d2 → Leaves moment images Makes d0 d2
       makes_stop call = goes_on moment images (AtOnce result (RenamesTo name to)) Makes d0 d1 d2 new_file_alone call (λ c now.
           let was = call.now c now in
-          let before = first.each (moment d1) was.0 first.later (omega arith) was.1 in
+          let before = first.each (moment d1) was.0 first.grew.later (omega arith) was.1 in
           (before.0, before.1, renamed_or_not result before.0 was.0 c (subst (λ (n : List ℕ). Only n before.0 was.0) named before.2) (stood_there was.0 was.1) (as_named was.0 c was.2)))
 
       pub makes_read : Follows (Only name) (files d0) (files d1) → Follows (AtOnce result (RenamesTo name to)) (files d1) (files d2) → Follows Makes (files d0) (files d2)

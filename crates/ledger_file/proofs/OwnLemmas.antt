@@ -76,7 +76,7 @@ module _ {D : Type 0} {moment : D → ℕ} {images : D → ℕ → World → Typ
   pub same_goes_on : (old mid new : D) → Leaves moment images Same old mid → Steps moment images Same mid new → Leaves moment images Same old new
   same_goes_on old mid new so_far call = goes_on moment images Same Same old mid new so_far call (λ c now.
       let was = call.now c now in
-      let first = so_far.each (moment mid) was.0 so_far.later (omega arith) was.1 in
+      let first = so_far.each (moment mid) was.0 so_far.grew.later (omega arith) was.1 in
       (first.0, first.1, was.2 ∙ first.2))
 
 -- runs that change one own file alone
@@ -87,7 +87,7 @@ module _ {D : Type 0} {moment : D → ℕ} {images : D → ℕ → World → Typ
   only_steps : (R : World → World → Type 0) (old mid new : D) → ((d c : World) → R d c → Only name d c) → Steps moment images R mid new → Leaves moment images (Only name) old mid → Leaves moment images (Only name) old new
   only_steps R old mid new leads call so_far = goes_on moment images R (Only name) old mid new so_far call (λ c now.
       let was = call.now c now in
-      let first = so_far.each (moment mid) was.0 so_far.later (omega arith) was.1 in
+      let first = so_far.each (moment mid) was.0 so_far.grew.later (omega arith) was.1 in
       (first.0, first.1, only_then name first.0 was.0 c first.2 (leads was.0 c was.2)))
 
   pub only_after_change : {R : List ℕ → List ℕ → Type 0} {old mid new : D} → Steps moment images (OnOwn (Rewrites name R)) mid new → Leaves moment images (Only name) old mid → Leaves moment images (Only name) old new

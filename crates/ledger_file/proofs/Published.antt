@@ -70,7 +70,7 @@ module _ {D : Type 0} (moment : D → ℕ) (images : D → ℕ → World → Typ
 
   -- a sync is under way
   syncing : (d1 d2 : D) → So d0 d1 → Syncs d1 d2 → So d0 d2
-  syncing d1 d2 so_far call = goes_on moment images Same Step d0 d1 d2 so_far call (λ c now. so_far.each (moment d1) c so_far.later (omega arith) (same_now moment images d1 d2 call c now))
+  syncing d1 d2 so_far call = goes_on moment images Same Step d0 d1 d2 so_far call (λ c now. so_far.each (moment d1) c so_far.grew.later (omega arith) (same_now moment images d1 d2 call c now))
 
   pub second : (d1 d2 : D) → WritesBlock d0 d1 → Syncs d1 d2 → So d0 d2
   second d1 d2 call sync = syncing d1 d2 (first d1 call) sync

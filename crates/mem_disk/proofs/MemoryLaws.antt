@@ -1,11 +1,11 @@
 -- A disk in memory is a disk.
 use Rattle.std.proofs.Common.{◌≡◌, inl, inr, ℕ, ◌+◌, List, [], ◌∷◌, ◌++◌, length, take, refl, sym, ◌∙◌, ap, subst, arith, length-append, length-take, Result, Ok, Err}
-use Rattle.std.specs.Prelude.{◌≤◌, ◌/◌, IfOk, OnOk, MatchResult}
-use Rattle.std.proofs.lemmas.List.{take_all, take-append-le}
+use Rattle.std.specs.Prelude.{◌/◌, IfOk, OnOk, MatchResult}
+use Rattle.std.proofs.lemmas.List.{take-append-le}
 use Rattle.ftn_addr.specs.declared.refusals.NoMemory.{NoMemory}
 use Rattle.disk_model.specs.World.{World}
 use Rattle.disk_model.specs.Changes.{Follows, OnOwn, Rewrites, Torn}
-use Rattle.disk_model.specs.Moments.{Now, Steps, AtRest}
+use Rattle.disk_model.specs.Moments.{Steps, AtRest}
 use Rattle.disk_model.proofs.TornLemmas.{torn_same, torn_within}
 use Rattle.mem_disk.specs.Holding.{Holding, in_part, play, replay, shown}
 use Rattle.mem_disk.specs.MemoryDisk.{may, run, left, Tells, mem_files, mem_moment, mem_images, Added, Unnoted, NotedAs, Plays}
@@ -31,11 +31,13 @@ run_last images h (y ∷ ys) x c is = run_last (λ after. (d : World) × images 
 module _ (old new : MemDisk) where
   pub added_steps : (x : Call) (R : World → World → Type 0) → Added x old new → ((d c : World) → may x (shown old.held) d c → R d c) → Steps mem_moment mem_images R old new
   added_steps x R is leads = record {
-    later = omega (arith, size);
+    grew = record {
+      later = omega (arith, size);
+      before = λ k c le was.
+          let short : take k new.log.items ≡ take k old.log.items = ap (λ (l : List Call). take k l) is.log ∙ take-append-le k old.log.items (x ∷ []) le in
+          subst (λ (h : Holding). left h (take k old.log.items) c) is.first (subst (λ (l : List Call). left new.first l c) short was);
+    };
     next = omega (arith, size);
-    kept = λ k c le was.
-        let short : take k new.log.items ≡ take k old.log.items = ap (λ (l : List Call). take k l) is.log ∙ take-append-le k old.log.items (x ∷ []) le in
-        subst (λ (h : Holding). left h (take k old.log.items) c) is.first (subst (λ (l : List Call). left new.first l c) short was);
     now = λ c was.
         let after = subst (λ (l : List Call). left old.first l c) is.log (subst (λ (h : Holding). left h new.log.items c) is.first (now_of new c was)) in
         let before = run_last (λ w. w ≡ shown old.first) old.first old.log.items x c after in
@@ -47,9 +49,8 @@ module _ (old new : MemDisk) where
 
   pub unnoted_steps : (R : World → World → Type 0) → Unnoted old new → ((c : World) → R c c) → Steps mem_moment mem_images R old new
   unnoted_steps R is same = record {
-    later = omega (arith, ap length is.log);
+    grew = record { later = omega (arith, ap length is.log); before = λ k c le was. back k c was };
     next = omega (arith, ap length is.log);
-    kept = λ k c le was. back k c was;
     now = λ c was. (c, of_now old c (subst (λ (l : List Call). left old.first l c) is.log (subst (λ (h : Holding). left h new.log.items c) is.first (now_of new c was))), same c);
   }
     where

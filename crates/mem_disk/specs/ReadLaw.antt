@@ -1,6 +1,6 @@
 -- A disk in memory as it reads is one of its images. (It stands here with the laws that it needs, since an implementation
 -- of a trait may cite nothing else of its own crate.)
-use Rattle.std.proofs.Common.{◌≡◌, ℕ, List, length, take, sym, ◌∙◌, ap, subst, arith}
+use Rattle.std.proofs.Common.{List, length, sym, ◌∙◌, ap, subst, arith}
 use Rattle.std.proofs.lemmas.List.{take_all}
 use Rattle.disk_model.specs.World.{World}
 use Rattle.disk_model.specs.Moments.{Now}

@@ -7,7 +7,7 @@ use std::cmp::Ordering;
 use std::marker::Model;
 
 /// Bytes as a disk in memory keeps them.
-#[derive(Debug, Drop)]
+#[derive(Drop)]
 pub struct Block {
     items: Vec<u8>,
 }

@@ -6,7 +6,7 @@ use crate::block::Block;
 use disk_model::Name;
 
 /// A call, or what a test put outside.
-#[derive(Debug, Drop)]
+#[derive(Drop)]
 pub enum Call {
     /// A call that only read, or failed and left nothing.
     Nothing,

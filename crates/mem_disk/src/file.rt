@@ -10,14 +10,14 @@ use std::alloc::{AllocError, Global};
 use std::marker::Model;
 
 /// What a write or a cut replaced: at a place, so many bytes now stand where these stood.
-#[derive(Debug, Drop)]
+#[derive(Drop)]
 pub struct Change {
     at: usize,
     len: usize,
     old: Block,
 }
 
-#[derive(Debug, Drop)]
+#[derive(Drop)]
 pub struct MemFile {
     bytes: Vec<u8>,
     changes: Vec<Change>,

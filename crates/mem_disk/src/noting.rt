@@ -108,7 +108,7 @@ impl MemDisk {
     fn fail(&mut self) -> Failed
         ensures same { Unnoted self.old self.new }
         ensures failing { self.new.failing.items ≡ self.old.failing.items }
-        ensures risen { self.new.faults ≡ risen self.old.faults }
+        ensures counted { self.new.faults ≡ next_count self.old.faults }
         ensures cause { HasCause {T = ℕ} self.old.faults self.new.faults (Err result) }
     {
         self.faults = self.faults.saturating_add(1);

@@ -5,7 +5,7 @@ use std::alloc::AllocError;
 use std::marker::Model;
 
 /// An outside file.
-#[derive(Debug, Drop)]
+#[derive(Drop)]
 pub struct OutsideFile {
     pub(crate) bytes: Block,
     pub(crate) time: u64,
@@ -20,7 +20,7 @@ impl Model for OutsideFile {
 }
 
 /// A file that was given away.
-#[derive(Debug, Drop)]
+#[derive(Drop)]
 pub struct GivenFile {
     pub(crate) own: Name,
     pub(crate) folder: Block,

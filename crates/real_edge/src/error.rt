@@ -3,12 +3,11 @@ ghost use Rattle.std.specs.Prelude.{◌≡◌, Ok, Err, IfOk, IfErr};
 
 use ftn_addr::NoMemory;
 use std::alloc::{AllocError, AllocFailed};
-use std::fmt;
 use std::fmt::{Display, Formatter, Write};
-use std::io;
+use std::{fmt, io};
 
 /// A call of the system.
-#[derive(Clone, Copy, Debug, PartialEq, Eq)]
+#[derive(Clone, Copy, Debug)]
 pub enum SystemCall {
     /// To spell a path, for which there may be no memory.
     Path,

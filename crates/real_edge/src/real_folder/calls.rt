@@ -1,6 +1,6 @@
 //! The calls of a disk and a yard, each counted where the system failed.
 ghost use Rattle.ftn_addr.specs.Counts.{next_count};
-ghost use Rattle.std.specs.Prelude.{◌≡◌, Some, IfOk, IfErr, OnOk, OnErr};
+ghost use Rattle.std.specs.Prelude.{◌≡◌, ◌≤◌, Some, IsSome, IfOk, IfErr, OnOk, OnErr};
 ghost use Rattle.disk_model.specs.Causes.{HasCause, ListsWithCause};
 
 use super::own::Folder;
@@ -17,6 +17,7 @@ pub struct RealFolder<R: Files> {
     folder: Folder<R>,
     faults: u64,
     last_error: Option<SystemError>,
+    ghost explained: { 1 ≤ faults → IsSome last_error },
 }
 
 impl<R: Files + AllocGlobal + Clone + Drop> RealFolder<R> {
@@ -32,9 +33,10 @@ impl<R: Files + AllocGlobal + Clone + Drop> RealFolder<R> {
         })
     }
 
-    /// The last call of the system that failed, and why. None before the first.
+    /// The last call of the system that failed, and why. Where a fault is counted there is one.
     pub fn last_error(&self) -> Option<SystemError>
-        ensures { result ≡ self.now.last_error }
+        ensures last { result ≡ self.now.last_error }
+        ensures counted { 1 ≤ self.now.faults → IsSome result }
     {
         self.last_error
     }
@@ -43,8 +45,8 @@ impl<R: Files + AllocGlobal + Clone + Drop> RealFolder<R> {
         ensures counted { self.new.faults ≡ next_count self.old.faults }
         ensures kept { self.new.last_error ≡ Some error }
     {
-        self.faults = self.faults.saturating_add(1);
         self.last_error = Some(error);
+        self.faults = self.faults.saturating_add(1);
     }
 
     // Counts an answer where it is an error.

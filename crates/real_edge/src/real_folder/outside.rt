@@ -50,6 +50,9 @@ impl<R: Files + Drop> Folder<R> {
         let Some(path) = text(path.as_slice()) else {
             return Ok(Copied::Absent);
         };
+        if file_at(&self.files, path)?.is_none() {
+            return Ok(Copied::Absent);
+        }
         let mut how = OpenOptions::new();
         how.read(true);
         let Some((mut source, metadata)) = open_file(&self.files, path, &how)? else {

@@ -64,7 +64,11 @@ impl Paths {
         ensures own { IfOk result (λ paths. paths.0.now ≡ path_in (string_bytes self.old.folder) own.now) }
         ensures given { IfOk result (λ paths. paths.1.now ≡ path_in folder.now name.now) }
     {
-        join(&mut self.first, self.folder.as_str(), whole_text(own.as_slice())?)?;
+        join(
+            &mut self.first,
+            self.folder.as_str(),
+            whole_text(own.as_slice())?,
+        )?;
         join(&mut self.second, folder, name)?;
         Ok((self.first.as_str(), self.second.as_str()))
     }

@@ -2,8 +2,8 @@
 ghost use Rattle.std.specs.Prelude.{OnOk};
 ghost use Rattle.std.specs.Io.KnownBytes.{Appends};
 
-use crate::error::{Answer, SystemCall, refused, told};
 use super::paths::folder_of;
+use crate::error::{Answer, SystemCall, refused, told};
 use disk_model::OutStat;
 use std::fs::{Metadata, OpenFile, OpenOptions};
 use std::io::Write;
@@ -76,15 +76,12 @@ pub fn open_plain<R: Files>(files: &R, path: &str) -> Answer<Option<R::File>> {
     Ok(Some(file))
 }
 
-/// Opens the regular file to which a path leads, to be read or to be cut.
+/// Opens the regular file to which a path leads, and says what it is.
 pub fn open_file<R: Files>(
     files: &R,
     path: &str,
     how: &OpenOptions,
 ) -> Answer<Option<(R::File, Metadata)>> {
-    if file_at(files, path)?.is_none() {
-        return Ok(None);
-    }
     let Some(file) = found(SystemCall::Open, how.open(files, path))? else {
         return Ok(None);
     };

@@ -1,12 +1,11 @@
-use Rattle.std.proofs.Common.{ℕ, List, [], Result, Ok, subst}
+use Rattle.std.proofs.Common.{ℕ, List, Ok, subst}
 use Rattle.ftn_addr.specs.declared.refusals.Failed.{Failed}
 use Rattle.disk_model.specs.Moments.{Together}
 use Rattle.disk_model.specs.Changes.{PutsOut}
 use Rattle.disk_model.specs.Answers.{Empties}
 use Rattle.disk_model.specs.declared.answers.Hit.{Hit}
 use Rattle.disk_model.specs.declared.answers.Hit.TheVariants.{Done}
-use Rattle.mem_disk.specs.Holding.{shown}
-use Rattle.mem_disk.specs.MemoryDisk.{mem_files, mem_moment, mem_images, may}
+use Rattle.mem_disk.specs.MemoryDisk.{mem_files, mem_moment, mem_images}
 use Rattle.mem_disk.specs.declared.call.Call.TheVariants.{PutOut}
 use Rattle.mem_disk.proofs.PlayLemmas.{noted_both}
 use Rattle.mem_disk.proofs.yard_calls.MemDiskYard.cut_if.Goals as goal

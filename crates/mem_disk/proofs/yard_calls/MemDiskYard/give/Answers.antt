@@ -1,5 +1,4 @@
-use Rattle.std.proofs.Common.{◌≡◌, ⊎_elim, ℕ, List, Result, Ok, refl, ◌∙◌, ap, subst, rules}
-use Rattle.ftn_addr.specs.declared.refusals.Failed.{Failed}
+use Rattle.std.proofs.Common.{⊎_elim, ℕ, List, refl, ◌∙◌, ap, subst, rules}
 use Rattle.disk_model.specs.Changes.{Every}
 use Rattle.disk_model.specs.Folders.{IsInUse}
 use Rattle.disk_model.specs.Answers.{GivesTo}

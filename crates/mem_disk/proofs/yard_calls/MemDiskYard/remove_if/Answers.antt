@@ -1,4 +1,4 @@
-use Rattle.std.proofs.Common.{ℕ, List, Result, Ok, subst}
+use Rattle.std.proofs.Common.{ℕ, List, Ok, subst}
 use Rattle.ftn_addr.specs.declared.refusals.Failed.{Failed}
 use Rattle.disk_model.specs.Moments.{Together}
 use Rattle.disk_model.specs.Answers.{Removes}

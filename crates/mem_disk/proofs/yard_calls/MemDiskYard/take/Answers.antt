@@ -1,4 +1,4 @@
-use Rattle.std.proofs.Common.{◌≡◌, ⊎_elim, ℕ, List, true, Some, Result, Ok, subst, rules}
+use Rattle.std.proofs.Common.{◌≡◌, ⊎_elim, ℕ, List, true, Some, Ok, subst, rules}
 use Rattle.std.specs.Prelude.{is_some}
 use Rattle.ftn_addr.specs.declared.refusals.Failed.{Failed}
 use Rattle.disk_model.specs.World.{OutFile}
