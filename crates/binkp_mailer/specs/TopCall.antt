@@ -66,4 +66,4 @@ StaysTold old new = StaysReceived (told old).state (told new).state
 -- calls of the program over one store, one after another: each begins with what the one before it left
 pub data Calls_in_turn (store : StoreState) : StoreState → Type 0 where
   none_yet : Calls_in_turn store store
-  next_count : {old new : StoreState} → Calls_in_turn store old → (words : List (List ℕ)) (moment : ℕ) (status : Status) (line line' : LineState) → Answers_line words moment line old status line' new → Calls_in_turn store new
+  one_more : {old new : StoreState} → Calls_in_turn store old → (words : List (List ℕ)) (moment : ℕ) (status : Status) (line line' : LineState) → Answers_line words moment line old status line' new → Calls_in_turn store new
