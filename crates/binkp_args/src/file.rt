@@ -2,7 +2,7 @@
 ghost use Rattle.std.specs.Prelude.{◌≡◌, ◌<◌, map};
 ghost use Rattle.ftn_addr.specs.Content.{Content};
 ghost use Rattle.ftn_addr.specs.Key.{key_of};
-ghost use Rattle.ftn_addr.specs.Outcomes.{Gives};
+ghost use Rattle.ftn_addr.specs.Outcomes.{Gives, GivesExactly};
 ghost use Rattle.binkp_args.specs.File.{word_at, number_at, name_of, key_words, offset_or_0, not_large, place_in, file_of, offered_of, wanted_of};
 
 use crate::fault::ArgFault;
@@ -14,7 +14,7 @@ use std::alloc::Global;
 #[tactic(auto, unfolding(crate::specs::File::word_at))]
 fn word_at<'a>(n: u32, words: &[&'a [u8]]) -> Result<&'a [u8], ArgFault>
     requires { 0 < n }
-    ensures { Gives ArgFault.NoMemory (λ word. word.now) result (word_at n (map (λ w. w.now) words.now)) }
+    ensures { GivesExactly (λ word. word.now) result (word_at n (map (λ w. w.now) words.now)) }
 {
     match words.get(n as usize - 1) {
         Some(word) => Ok(*word),
@@ -25,7 +25,7 @@ fn word_at<'a>(n: u32, words: &[&'a [u8]]) -> Result<&'a [u8], ArgFault>
 #[tactic(auto, unfolding(crate::specs::File::number_at))]
 fn number_at(n: u32, words: &[&[u8]]) -> Result<u64, ArgFault>
     requires { 0 < n }
-    ensures { Gives ArgFault.NoMemory (λ number. number) result (number_at n (map (λ w. w.now) words.now)) }
+    ensures { GivesExactly (λ number. number) result (number_at n (map (λ w. w.now) words.now)) }
 {
     let digits = word_at(n, words)?;
     match read_digits(digits) {
@@ -59,7 +59,7 @@ fn key_words(alloc: Global, words: &[&[u8]]) -> Result<FileKey, ArgFault>
 
 #[tactic(auto, unfolding(crate::specs::File::offset_or_0))]
 fn offset_or_0(words: &[&[u8]]) -> Result<u64, ArgFault>
-    ensures { Gives ArgFault.NoMemory (λ offset. offset) result (offset_or_0 (map (λ w. w.now) words.now)) }
+    ensures { GivesExactly (λ offset. offset) result (offset_or_0 (map (λ w. w.now) words.now)) }
 {
     match words.len() {
         0..=3 => Ok(0),
@@ -69,7 +69,7 @@ fn offset_or_0(words: &[&[u8]]) -> Result<u64, ArgFault>
 
 #[tactic(auto, unfolding(crate::specs::File::not_large))]
 fn not_large(key: FileKey) -> Result<FileKey, ArgFault>
-    ensures { Gives ArgFault.NoMemory key_of result (not_large (key_of key)) }
+    ensures { GivesExactly key_of result (not_large (key_of key)) }
 {
     if key.size > MAX_SIZE {
         return Err(ArgFault::TooLarge);
@@ -79,7 +79,7 @@ fn not_large(key: FileKey) -> Result<FileKey, ArgFault>
 
 #[tactic(auto, unfolding(crate::specs::File::place_in))]
 fn place_in(key: FileKey, offset: u64) -> Result<(FileKey, u64), ArgFault>
-    ensures { Gives ArgFault.NoMemory (λ place. (key_of place.0, place.1)) result (place_in (key_of key) offset) }
+    ensures { GivesExactly (λ place. (key_of place.0, place.1)) result (place_in (key_of key) offset) }
 {
     let key = not_large(key)?;
     if offset > key.size {

@@ -6,7 +6,7 @@ ghost use Rattle.ftn_addr.specs.Key.{key_of};
 ghost use Rattle.ftn_addr.specs.Limits.{IsAddress, IsKey};
 ghost use Rattle.ftn_addr.specs.Writing.{canonical};
 ghost use Rattle.ledger_rec.specs.Limits.{HasShortNumbers};
-ghost use Rattle.ftn_addr.specs.Outcomes.{Gives};
+ghost use Rattle.ftn_addr.specs.Outcomes.{Gives, GivesExactly};
 ghost use Rattle.ledger_rec.specs.Reading.{if_canonical, bytes_at, byte_at, short_at, number_at, wide_at, canonical_at, address_at, key_at, path_at};
 ghost use Rattle.ledger_rec.specs.Spelling.{number_bytes, wide_bytes, short_bytes, address_bytes, key_bytes, path_bytes};
 
@@ -17,7 +17,7 @@ use std::alloc::Global;
 /// So many bytes, and what is left behind them.
 #[tactic(auto, unfolding(crate::specs::Reading::bytes_at))]
 fn bytes_at(bytes: &[u8], len: usize) -> Result<(&[u8], &[u8]), RecFault>
-    ensures gives { Gives RecFault.NoMemory (λ x. (x.0.now, x.1.now)) result (bytes_at len bytes.now) }
+    ensures gives { GivesExactly (λ x. (x.0.now, x.1.now)) result (bytes_at len bytes.now) }
     ensures spelled { IfOk result (λ x. bytes.now ≡ x.0.now ++ x.1.now) }
     ensures len { IfOk result (λ x. length x.0.now ≡ len) }
 {
@@ -30,7 +30,7 @@ fn bytes_at(bytes: &[u8], len: usize) -> Result<(&[u8], &[u8]), RecFault>
 /// A byte from `low` to `high`.
 #[tactic(auto, unfolding(crate::specs::Reading::byte_at))]
 pub(crate) fn byte_at(bytes: &[u8], low: u8, high: u8) -> Result<(u8, &[u8]), RecFault>
-    ensures gives { Gives RecFault.NoMemory (λ x. (x.0, x.1.now)) result (byte_at low high bytes.now) }
+    ensures gives { GivesExactly (λ x. (x.0, x.1.now)) result (byte_at low high bytes.now) }
     ensures spelled { IfOk result (λ x. bytes.now ≡ x.0 ∷ x.1.now) }
     ensures low { IfOk result (λ x. low ≤ x.0) }
     ensures high { IfOk result (λ x. x.0 ≤ high) }
@@ -49,7 +49,7 @@ pub(crate) fn byte_at(bytes: &[u8], low: u8, high: u8) -> Result<(u8, &[u8]), Re
 
 #[tactic(auto, unfolding(crate::specs::Reading::short_at))]
 fn short_at(bytes: &[u8]) -> Result<(u16, &[u8]), RecFault>
-    ensures gives { Gives RecFault.NoMemory (λ x. (x.0, x.1.now)) result (short_at bytes.now) }
+    ensures gives { GivesExactly (λ x. (x.0, x.1.now)) result (short_at bytes.now) }
     ensures spelled { IfOk result (λ x. bytes.now ≡ short_bytes x.0 ++ x.1.now) }
 {
     let (front, rest) = bytes_at(bytes, 2)?;
@@ -59,7 +59,7 @@ fn short_at(bytes: &[u8]) -> Result<(u16, &[u8]), RecFault>
 /// A number of four bytes.
 #[tactic(auto, unfolding(crate::specs::Reading::number_at))]
 pub(crate) fn number_at(bytes: &[u8]) -> Result<(u32, &[u8]), RecFault>
-    ensures gives { Gives RecFault.NoMemory (λ x. (x.0, x.1.now)) result (number_at bytes.now) }
+    ensures gives { GivesExactly (λ x. (x.0, x.1.now)) result (number_at bytes.now) }
     ensures spelled { IfOk result (λ x. bytes.now ≡ number_bytes x.0 ++ x.1.now) }
 {
     let (front, rest) = bytes_at(bytes, 4)?;
@@ -70,7 +70,7 @@ pub(crate) fn number_at(bytes: &[u8]) -> Result<(u32, &[u8]), RecFault>
 /// A number of eight bytes.
 #[tactic(auto, unfolding(crate::specs::Reading::wide_at))]
 pub(crate) fn wide_at(bytes: &[u8]) -> Result<(u64, &[u8]), RecFault>
-    ensures gives { Gives RecFault.NoMemory (λ x. (x.0, x.1.now)) result (wide_at bytes.now) }
+    ensures gives { GivesExactly (λ x. (x.0, x.1.now)) result (wide_at bytes.now) }
     ensures spelled { IfOk result (λ x. bytes.now ≡ wide_bytes x.0 ++ x.1.now) }
 {
     let (front, rest) = bytes_at(bytes, 8)?;

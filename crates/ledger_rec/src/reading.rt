@@ -2,7 +2,7 @@
 ghost use Rattle.std.specs.Prelude.{◌≡◌, ◌++◌, Ok, IfOk, IsErrOf};
 ghost use Rattle.ftn_addr.specs.Address.{address};
 ghost use Rattle.ledger_rec.specs.Limits.{HasNumbers, IsNewFile, IsReceived, IsRefused, IsMark};
-ghost use Rattle.ftn_addr.specs.Outcomes.{Gives};
+ghost use Rattle.ftn_addr.specs.Outcomes.{Gives, GivesExactly};
 ghost use Rattle.ledger_rec.specs.Reading.{new_file_at, received_at, refused_at, mark_at, pair_at, one_at, fields_at, record_at};
 ghost use Rattle.ledger_rec.specs.Record.{RecordText, Queue, Received, Refused, Mark, record_of, new_file, received, refused, mark};
 ghost use Rattle.ledger_rec.specs.Spelling.{Spells, SpellsNone, field_bytes, number_bytes};
@@ -110,7 +110,7 @@ fn mark_at(alloc: Global, bytes: &[u8], home: &Addr) -> Result<MarkRec, RecFault
 /// Two numbers and nothing else.
 #[tactic(auto, unfolding(crate::specs::Reading::pair_at))]
 fn pair_at(bytes: &[u8]) -> Result<(u32, u32), RecFault>
-    ensures gives { Gives RecFault.NoMemory (λ x. (x.0, x.1)) result (pair_at bytes.now) }
+    ensures gives { GivesExactly (λ x. (x.0, x.1)) result (pair_at bytes.now) }
     ensures spelled { IfOk result (λ x. bytes.now ≡ number_bytes x.0 ++ number_bytes x.1) }
 {
     let (first, rest) = number_at(bytes)?;
@@ -125,7 +125,7 @@ fn pair_at(bytes: &[u8]) -> Result<(u32, u32), RecFault>
 /// A number and nothing else.
 #[tactic(auto, unfolding(crate::specs::Reading::one_at))]
 fn one_at(bytes: &[u8]) -> Result<u32, RecFault>
-    ensures gives { Gives RecFault.NoMemory (λ n. n) result (one_at bytes.now) }
+    ensures gives { GivesExactly (λ n. n) result (one_at bytes.now) }
     ensures spelled { IfOk result (λ n. bytes.now ≡ number_bytes n) }
 {
     let (number, rest) = number_at(bytes)?;

@@ -1,7 +1,7 @@
 //! Settings as far as their lines were taken.
 ghost use Rattle.std.specs.Prelude.{◌≡◌, map};
 ghost use Rattle.ftn_addr.specs.Address.{address};
-ghost use Rattle.ftn_addr.specs.Outcomes.{Gives};
+ghost use Rattle.ftn_addr.specs.Outcomes.{Gives, GivesExactly};
 ghost use Rattle.mail_conf.specs.Draft.{addresses_from, empty_draft, list_taken, number_taken, path_taken, text_taken};
 ghost use Rattle.mail_conf.specs.Drafted.{drafted};
 
@@ -117,7 +117,7 @@ pub(crate) fn take_number(
     word: NumberWord,
     words: &[&[u8]],
 ) -> Result<(), ConfCause>
-    ensures { Gives ConfCause.NoMemory (λ _. drafted draft.new) result
+    ensures { GivesExactly (λ _. drafted draft.new) result
         (number_taken word (map (λ word. word.now) words.now) (drafted draft.old)) }
 {
     match word {

@@ -1,7 +1,7 @@
 //! The `node` line.
 ghost use Rattle.std.specs.Prelude.{◌≡◌, ◌==◌, map, position, IfOk};
 ghost use Rattle.ftn_addr.specs.Address.{address};
-ghost use Rattle.ftn_addr.specs.Outcomes.{Gives};
+ghost use Rattle.ftn_addr.specs.Outcomes.{Gives, GivesExactly};
 ghost use Rattle.mail_conf.specs.Host.{first_host, host_and_port, host_at, host_word, is_none, is_option, node_line, password_word, without_options};
 ghost use Rattle.mail_conf.specs.Views.{node_text};
 
@@ -41,7 +41,7 @@ fn first_host(word: &[u8]) -> &[u8]
 /// A host, and the port behind its first `:`.
 #[tactic(auto, unfolding(crate::specs::Host::host_and_port))]
 fn host_and_port(text: &[u8]) -> Result<(&[u8], u16), ConfCause>
-    ensures { Gives ConfCause.NoMemory (λ x. (x.0.now, x.1)) result (host_and_port text.now) }
+    ensures { GivesExactly (λ x. (x.0.now, x.1)) result (host_and_port text.now) }
 {
     match first_place(text, b':') {
         Some(end) => {
@@ -55,7 +55,7 @@ fn host_and_port(text: &[u8]) -> Result<(&[u8], u16), ConfCause>
 /// The host and the port that a word names: the first of its list, if that isn't none.
 #[tactic(auto, unfolding(crate::specs::Host::host_at))]
 fn host_at(word: &[u8]) -> Result<(&[u8], u16), ConfCause>
-    ensures { Gives ConfCause.NoMemory (λ x. (x.0.now, x.1)) result (host_at word.now) }
+    ensures { GivesExactly (λ x. (x.0.now, x.1)) result (host_at word.now) }
 {
     let host = first_host(word);
     if is_none(host) {
@@ -66,7 +66,7 @@ fn host_at(word: &[u8]) -> Result<(&[u8], u16), ConfCause>
 
 #[tactic(auto, unfolding(crate::specs::Host::host_word))]
 fn host_word<'a>(words: &[&'a [u8]]) -> Result<(&'a [u8], u16), ConfCause>
-    ensures { Gives ConfCause.NoMemory (λ x. (x.0.now, x.1)) result (host_word (map (λ word. word.now) words.now)) }
+    ensures { GivesExactly (λ x. (x.0.now, x.1)) result (host_word (map (λ word. word.now) words.now)) }
 {
     match words.get(1) {
         Some(word) => host_at(*word),

@@ -1,6 +1,6 @@
 //! The values of a line: texts, paths and numbers.
 ghost use Rattle.std.specs.Prelude.{◌≡◌, ◌≤◌, ◌==◌, map, position, IfOk};
-ghost use Rattle.ftn_addr.specs.Outcomes.{Gives};
+ghost use Rattle.ftn_addr.specs.Outcomes.{Gives, GivesExactly};
 ghost use Rattle.mail_conf.specs.Values.{before_comment, number_in, number_once, once, text_of, unquoted, word_at, word_once};
 
 use crate::ConfCause;
@@ -36,7 +36,7 @@ fn unquoted(text: &[u8]) -> &[u8]
 /// The word at a place, counted from 0.
 #[tactic(auto, unfolding(crate::specs::Values::word_at))]
 pub(crate) fn word_at<'a>(words: &[&'a [u8]], i: usize) -> Result<&'a [u8], ConfCause>
-    ensures { Gives ConfCause.NoMemory (λ word. word.now) result (word_at (map (λ word. word.now) words.now) i) }
+    ensures { GivesExactly (λ word. word.now) result (word_at (map (λ word. word.now) words.now) i) }
 {
     match words.get(i) {
         Some(word) => Ok(*word),
@@ -46,7 +46,7 @@ pub(crate) fn word_at<'a>(words: &[&'a [u8]], i: usize) -> Result<&'a [u8], Conf
 
 /// Refuses what is set already.
 pub(crate) fn once(given: bool) -> Result<(), ConfCause>
-    ensures { Gives ConfCause.NoMemory (λ x. x) result (once given) }
+    ensures { GivesExactly (λ x. x) result (once given) }
 {
     if given { Err(ConfCause::Twice) } else { Ok(()) }
 }
@@ -77,7 +77,7 @@ pub(crate) fn word_once(alloc: Global, given: bool, words: &[&[u8]]) -> Result<B
 /// A number from `low` to `high`.
 #[tactic(auto, unfolding(crate::specs::Values::number_in))]
 pub(crate) fn number_in(digits: &[u8], low: u64, high: u64) -> Result<u64, ConfCause>
-    ensures gives { Gives ConfCause.NoMemory (λ number. number) result (number_in digits.now low high) }
+    ensures gives { GivesExactly (λ number. number) result (number_in digits.now low high) }
     ensures within { IfOk result (λ number. number ≤ high) }
 {
     match read_digits(digits) {
@@ -94,7 +94,7 @@ pub(crate) fn number_once(
     low: u64,
     high: u64,
 ) -> Result<u64, ConfCause>
-    ensures gives { Gives ConfCause.NoMemory (λ number. number) result
+    ensures gives { GivesExactly (λ number. number) result
         (number_once given (map (λ word. word.now) words.now) low high) }
     ensures within { IfOk result (λ number. number ≤ high) }
 {

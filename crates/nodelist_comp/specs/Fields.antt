@@ -1,8 +1,10 @@
 -- The node of a line (FTS-5000).
-use Rattle.std.specs.Prelude.{◌≡◌, ℕ, ◌==◌, nat_lt, List, length, drop, slice_get, codes, Option, Some, None, Result, Ok, Err, if◌then◌else◌}
+use Rattle.std.specs.Prelude.{ℕ, ◌==◌, nat_lt, List, [], length, drop, slice_get, codes, Option, Some, None, Result, Ok, Err, if◌then◌else◌}
+use Rattle.std.specs.List.{slice_split}
 use Rattle.ftn_addr.specs.Digits.{saturated_number}
 use Rattle.ftn_addr.specs.Outcomes.{◌>>=◌}
 use Rattle.ftn_addr.specs.Case.{same_word}
+use Rattle.ftn_addr.specs.declared.limits.TheConstants.{MAX_ADDRESS_NUMBER}
 use Rattle.nodelist_comp.specs.Flags.{endpoint}
 use Rattle.nodelist_comp.specs.Node.{ListedNode}
 use Rattle.nodelist_comp.specs.declared.fault.ListCause.{ListCause}
@@ -40,13 +42,18 @@ abbrev pub kind_or : Option (List ℕ) → Result NodeKind ListCause
 kind_or None = Err UnknownKeyword
 kind_or (Some word) = known (kind_of word)
 
+-- the fields of what is left of a line
+abbrev pub fields_left : Option (List ℕ) → List (List ℕ)
+fields_left None = []
+fields_left (Some rest) = slice_split (λ byte. byte == 44) rest
+
 -- the first field is the keyword
 unfoldable pub kind_at : List (List ℕ) → Result NodeKind ListCause
 kind_at fields = kind_or (slice_get fields 0)
 
 abbrev pub number_or : Option ℕ → Result ℕ ListCause
 number_or None = Err BadNumber
-number_or (Some number) = if nat_lt 32767 number then Err BadNumber else Ok number
+number_or (Some number) = if nat_lt MAX_ADDRESS_NUMBER number then Err BadNumber else Ok number
 
 abbrev pub number_of : Option (List ℕ) → Result ℕ ListCause
 number_of None = Err BadNumber

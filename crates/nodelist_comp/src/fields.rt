@@ -1,13 +1,14 @@
 //! The fields of a line, and the node that it stands for.
-ghost use Rattle.std.specs.Prelude.{◌≡◌, ◌==◌, map, drop, option_map, IfOk};
+ghost use Rattle.std.specs.Prelude.{◌≡◌, ◌==◌, option_map, slice_get};
 ghost use Rattle.std.specs.List.{slice_split};
-ghost use Rattle.ftn_addr.specs.Outcomes.{Gives};
-ghost use Rattle.nodelist_comp.specs.Fields.{Area, area, area_for, kind_at, kind_of, node_of, number_at, placed};
+ghost use Rattle.ftn_addr.specs.Outcomes.{Gives, GivesExactly};
+ghost use Rattle.nodelist_comp.specs.Fields.{area, area_for, fields_left, kind_of, node_of, number_of, placed};
 ghost use Rattle.nodelist_comp.specs.Views.{listed};
 
+use crate::comma::{behind_fields, first_field};
 use crate::flags::endpoint;
 use crate::{ListCause, Listed, NodeKind};
-use ftn_addr::{Bytes, NoMemory, is_same_word, read_digits};
+use ftn_addr::{Bytes, MAX_ADDRESS_NUMBER, is_same_word, read_digits};
 use std::alloc::Global;
 
 /// The zone and the net that hold for a line.
@@ -15,15 +16,6 @@ use std::alloc::Global;
 pub(crate) struct Area {
     pub zone: u16,
     pub net: u16,
-}
-
-/// What stands between the commas of a line.
-fn fields<'a>(alloc: Global, line: &'a [u8]) -> Result<Vec<&'a [u8]>, NoMemory>
-    ensures { IfOk result (λ fields. map (λ field. field.now) fields.items
-        ≡ slice_split (λ byte. byte == 44) line.now) }
-{
-    let fields = line.split(|byte| *byte == b',').collect(alloc)?;
-    Ok(fields)
 }
 
 fn kind_of(word: &[u8]) -> Option<NodeKind>
@@ -50,32 +42,19 @@ fn kind_of(word: &[u8]) -> Option<NodeKind>
     }
 }
 
-#[tactic(auto, unfolding(crate::specs::Fields::kind_at))]
-fn kind_at(fields: &[&[u8]]) -> Result<NodeKind, ListCause>
-    ensures { Gives ListCause.NoMemory (λ kind. kind) result (kind_at (map (λ field. field.now) fields.now)) }
+/// The number of a field, from 0 to 32,767.
+fn number_of(digits: Option<&[u8]>) -> Result<u16, ListCause>
+    ensures { GivesExactly (λ number. number) result (number_of (option_map (λ digits. digits.now) digits.entry)) }
 {
-    match fields.get(0) {
-        Some(word) => kind_of(*word).ok_or(ListCause::UnknownKeyword),
-        None => Err(ListCause::UnknownKeyword),
-    }
-}
-
-#[tactic(auto, unfolding(crate::specs::Fields::number_at))]
-fn number_at(fields: &[&[u8]]) -> Result<u16, ListCause>
-    ensures { Gives ListCause.NoMemory (λ number. number) result (number_at (map (λ field. field.now) fields.now)) }
-{
-    let Some(digits) = fields.get(1) else {
-        return Err(ListCause::BadNumber);
-    };
-    match read_digits(*digits) {
-        Some(number) if number <= 32_767 => Ok(number as u16),
+    match read_digits(digits.ok_or(ListCause::BadNumber)?) {
+        Some(number) if number <= u64::from(MAX_ADDRESS_NUMBER) => Ok(number as u16),
         _ => Err(ListCause::BadNumber),
     }
 }
 
 /// The zone and the net above a line, which a zone's line needs not.
 fn area_for(kind: NodeKind, above: Option<Area>) -> Result<Area, ListCause>
-    ensures { Gives ListCause.NoMemory area result (area_for kind (option_map area above)) }
+    ensures { GivesExactly area result (area_for kind (option_map area above)) }
 {
     match (kind, above) {
         (NodeKind::Zone, _) => Ok(Area { zone: 0, net: 0 }),
@@ -97,21 +76,27 @@ fn placed(kind: NodeKind, above: Area, number: u16) -> (u16, u16, u16)
     }
 }
 
-fn flags_of<'a, 'b>(fields: &'b [&'a [u8]]) -> &'b [&'a [u8]]
-    ensures { map (λ field. field.now) result.now ≡ drop 7 (map (λ field. field.now) fields.now) }
+/// The first of the fields that are left.
+fn first_of(rest: Option<&[u8]>) -> Option<&[u8]>
+    ensures { option_map (λ field. field.now) result
+        ≡ slice_get (fields_left (option_map (λ rest. rest.now) rest.entry)) 0 }
 {
-    if fields.len() > 7 { &fields[7..] } else { &[] }
+    let (field, _) = first_field(rest?);
+    Some(field)
 }
 
-#[tactic(auto, unfolding(crate::specs::Fields::node_of))]
-fn node_of_fields(alloc: Global, above: Option<Area>, fields: &[&[u8]]) -> Result<Listed, ListCause>
-    ensures { Gives ListCause.NoMemory listed result (node_of (option_map area above) (map (λ field. field.now) fields.now)) }
+/// The node that a line stands for, below an area. The fields are walked, and none is kept.
+#[tactic(auto, unfolding(crate::specs::Fields::node_of, crate::specs::Fields::kind_at, crate::specs::Fields::number_at))]
+pub(crate) fn node_of(alloc: Global, above: Option<Area>, line: &[u8]) -> Result<Listed, ListCause>
+    ensures { Gives ListCause.NoMemory listed result
+        (node_of (option_map area above) (slice_split (λ byte. byte == 44) line.now)) }
 {
-    let kind = kind_at(fields)?;
+    let (keyword, rest) = first_field(line);
+    let kind = kind_of(keyword).ok_or(ListCause::UnknownKeyword)?;
     let above = area_for(kind, above)?;
-    let number = number_at(fields)?;
+    let number = number_of(first_of(rest))?;
     let (zone, net, node) = placed(kind, above, number);
-    let (host, port) = endpoint(flags_of(fields));
+    let (host, port) = endpoint(behind_fields(rest, 6));
     Ok(Listed {
         zone,
         net,
@@ -120,13 +105,4 @@ fn node_of_fields(alloc: Global, above: Option<Area>, fields: &[&[u8]]) -> Resul
         host: Bytes::from_slice(alloc, host)?,
         port,
     })
-}
-
-/// The node that a line stands for, below an area.
-pub(crate) fn node_of(alloc: Global, above: Option<Area>, line: &[u8]) -> Result<Listed, ListCause>
-    ensures { Gives ListCause.NoMemory listed result
-        (node_of (option_map area above) (slice_split (λ byte. byte == 44) line.now)) }
-{
-    let fields = fields(alloc, line)?;
-    node_of_fields(alloc, above, fields.as_slice())
 }

@@ -1,7 +1,9 @@
 //! The flags of a node that say where it answers binkp (FTS-5001).
-ghost use Rattle.std.specs.Prelude.{◌≡◌, ◌==◌, map, option_map, position};
+ghost use Rattle.std.specs.Prelude.{◌≡◌, ◌==◌, option_map, position};
+ghost use Rattle.nodelist_comp.specs.Fields.{fields_left};
 ghost use Rattle.nodelist_comp.specs.Flags.{after, endpoint, first_ibn, first_ina, host_and_port, ibn_value, plain_host, bracketed_host, port_of, port_behind};
 
+use crate::comma::first_field;
 use ftn_addr::read_digits;
 
 /// The port of binkp where none is named.
@@ -26,25 +28,32 @@ fn ibn_value(flag: &[u8]) -> Option<&[u8]>
 }
 
 /// The value of the first `IBN` flag.
-fn first_ibn<'a>(flags: &[&'a [u8]]) -> Option<&'a [u8]>
-    ensures { option_map (λ value. value.now) result ≡ first_ibn (map (λ flag. flag.now) flags.now) }
+fn first_ibn(flags: Option<&[u8]>) -> Option<&[u8]>
+    ensures { option_map (λ value. value.now) result
+        ≡ first_ibn (fields_left (option_map (λ flags. flags.now) flags.entry)) }
 {
-    for flag in flags {
-        if let Some(value) = ibn_value(*flag) {
+    let mut rest = flags;
+    while let Some(flags) = rest {
+        let (flag, after) = first_field(flags);
+        if let Some(value) = ibn_value(flag) {
             return Some(value);
         }
+        rest = after;
     }
     None
 }
 
 /// The value of the first `INA:` flag, or nothing.
-fn first_ina<'a>(flags: &[&'a [u8]]) -> &'a [u8]
-    ensures { result.now ≡ first_ina (map (λ flag. flag.now) flags.now) }
+fn first_ina(flags: Option<&[u8]>) -> &[u8]
+    ensures { result.now ≡ first_ina (fields_left (option_map (λ flags. flags.now) flags.entry)) }
 {
-    for flag in flags {
-        if let Some(value) = after(b"INA:", *flag) {
+    let mut rest = flags;
+    while let Some(flags) = rest {
+        let (flag, more) = first_field(flags);
+        if let Some(value) = after(b"INA:", flag) {
             return value;
         }
+        rest = more;
     }
     &[]
 }
@@ -113,10 +122,10 @@ fn host_and_port(value: &[u8]) -> (&[u8], u16)
     }
 }
 
-/// Where a node with these flags answers binkp.
+/// Where a node answers binkp whose flags are the fields of this rest of its line.
 #[tactic(auto, unfolding(crate::specs::Flags::endpoint))]
-pub(crate) fn endpoint<'a>(flags: &[&'a [u8]]) -> (&'a [u8], u16)
-    ensures { (result.0.now, result.1) ≡ endpoint (map (λ flag. flag.now) flags.now) }
+pub(crate) fn endpoint(flags: Option<&[u8]>) -> (&[u8], u16)
+    ensures { (result.0.now, result.1) ≡ endpoint (fields_left (option_map (λ flags. flags.now) flags.entry)) }
 {
     let Some(value) = first_ibn(flags) else {
         return (&[], BINKP_PORT);

@@ -8,6 +8,7 @@
 //! Left out: reading the index, and looking an address up (`nodelist_find`).
 #![tactic(auto)]
 
+mod comma;
 mod fault;
 mod fields;
 mod flags;

@@ -1,7 +1,11 @@
-use Rattle.std.proofs.Common.{◌≡◌, drop, map}
+use Rattle.std.proofs.Common.{◌≡◌, ℕ, ◌+◌, List, length, Option, Some, None, option_map}
+use Rattle.nodelist_comp.proofs.FirstField.{bytes_left}
+use Rattle.nodelist_comp.specs.Fields.{fields_left}
 use Rattle.nodelist_comp.specs.Flags.{first_ibn}
 use Rattle.nodelist_comp.proofs.flags.first_ibn.Given as goal
 
-abbrev pub invariant-loop-flag : goal.invariant-loop-flag
-invariant-loop-flag l =
-    first_ibn (map (λ flag. flag.now) (drop l.flag-index l.flags)) ≡ first_ibn (map (λ flag. flag.now) l.flags)
+abbrev pub invariant-loop-rest : goal.invariant-loop-rest
+invariant-loop-rest l = first_ibn (fields_left (option_map (λ flags. flags.now) l.rest)) ≡ first_ibn (fields_left (option_map (λ flags. flags.now) l.fn.flags))
+
+abbrev pub decreases-loop-rest : goal.decreases-loop-rest
+decreases-loop-rest l = bytes_left (option_map (λ flags. flags.now) l.rest)
