@@ -1,6 +1,7 @@
 //! The value of the bench.
 ghost use Rattle.std.specs.Prelude.{◌≡◌, ◌≢◌, ◌+◌, ◌<◌, ◌%◌, ◌^◌, ℕ, []};
 ghost use Rattle.gate_bench.specs.Counting.{count_of, no_turns};
+ghost use Rattle.turn_gate.specs.Turns.{IsTurn};
 
 use std::fmt;
 use turn_gate::Grows;
@@ -31,9 +32,13 @@ impl Grows for Counts {
 
     ghost part = { λ k s. count_of s k };
 
+    ghost turn = { IsTurn (λ s. []) (λ e. 0) (λ k s. count_of s k) };
+
     fn grown(&self) -> u64 {
         0
     }
+
+    ghost turn_is_own = { λ seat a b turn. turn };
 }
 
 impl Counts {
