@@ -1,7 +1,6 @@
 //! The value of the bench.
 ghost use Rattle.std.specs.Prelude.{◌≡◌, ◌≢◌, ◌+◌, ◌<◌, ◌%◌, ◌^◌, ℕ, []};
-ghost use Rattle.gate_bench.specs.Counting.{count_of, no_turns};
-ghost use Rattle.turn_gate.specs.Turns.{IsTurn};
+ghost use Rattle.gate_bench.specs.Counting.{count_of, no_turns, IsCountTurn};
 
 use std::fmt;
 use turn_gate::Grows;
@@ -32,7 +31,7 @@ impl Grows for Counts {
 
     ghost part = { λ k s. count_of s k };
 
-    ghost turn = { IsTurn (λ s. []) (λ e. 0) (λ k s. count_of s k) };
+    ghost turn = { IsCountTurn };
 
     fn grown(&self) -> u64 {
         0
