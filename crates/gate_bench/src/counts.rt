@@ -1,6 +1,6 @@
 //! The value of the bench.
 ghost use Rattle.std.specs.Prelude.{◌≡◌, ◌≢◌, ◌+◌, ◌<◌, ◌%◌, ◌^◌, ℕ, []};
-ghost use Rattle.gate_bench.specs.Counting.{count_of, no_turns};
+ghost use Rattle.gate_bench.specs.Counting.{count_of, no_turns, IsCountTurn};
 
 use std::fmt;
 use turn_gate::Grows;
@@ -31,9 +31,13 @@ impl Grows for Counts {
 
     ghost part = { λ k s. count_of s k };
 
+    ghost turn = { IsCountTurn };
+
     fn grown(&self) -> u64 {
         0
     }
+
+    ghost turn_is_own = { λ seat a b turn. turn };
 }
 
 impl Counts {

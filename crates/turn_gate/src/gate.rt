@@ -25,7 +25,7 @@ pub struct Gate<T: Grows> {
 
 impl<T: Grows> Gate<T> {
     ghost use Rattle.turn_gate.specs.Passes.{view, opening, seats_of, IsFree, HasTurn, IsNew, AreAll, IsLastLeft, Waited, after_refusal};
-    ghost use Rattle.turn_gate.specs.Turns.{IsTurn, ByOthers, ByTurns, IsContinued};
+    ghost use Rattle.turn_gate.specs.Turns.{ByOthers, ByTurns, IsContinued};
     ghost use Rattle.turn_gate.specs.Views.{after_acquire, after_spent, after_release};
     ghost use Rattle.turn_gate.specs.Rule.{last_number};
 
@@ -74,7 +74,7 @@ impl<T: Grows> Gate<T> {
         requires free { IsFree self.now pass.old }
         ensures has_turn { HasTurn self.now pass.new result.count }
         ensures held { Waited (after_acquire (view pass.old) (T.state result.value) result.count) (view pass.new) }
-        ensures reached { ByOthers (IsTurn T.entries T.by T.part) (view pass.old).seat (view pass.old).left (T.state result.value) }
+        ensures reached { ByOthers T.turn (view pass.old).seat (view pass.old).left (T.state result.value) }
         ensures continued { IsContinued T.entries T.by T.part (view pass.old).seat (view pass.old).left (T.state result.value) }
     {
         for _ in rt.forever() {
@@ -97,7 +97,7 @@ impl<T: Grows> Gate<T> {
         requires free { IsFree self.now pass.old }
         ensures has_turn { IfOk result (λ held. HasTurn self.now pass.new held.count) }
         ensures held { IfOk result (λ held. view pass.new ≡ after_acquire (view pass.old) (T.state held.value) held.count) }
-        ensures reached { IfOk result (λ held. ByOthers (IsTurn T.entries T.by T.part) (view pass.old).seat (view pass.old).left (T.state held.value)) }
+        ensures reached { IfOk result (λ held. ByOthers T.turn (view pass.old).seat (view pass.old).left (T.state held.value)) }
         ensures continued { IfOk result (λ held. IsContinued T.entries T.by T.part (view pass.old).seat (view pass.old).left (T.state held.value)) }
         ensures free { IfErr result (λ why. IsFree self.now pass.new) }
         ensures refused { IfErr result (λ why. view pass.new ≡ after_refusal why (view pass.old)) }
@@ -144,8 +144,8 @@ impl<T: Grows> Gate<T> {
     /// Takes all passes in, and gives the value back. Takes no memory.
     pub fn close(self, mut passes: Vec<Pass<T>>) -> T
         requires all { AreAll self passes.items }
-        ensures reached { ByTurns (IsTurn T.entries T.by T.part) (opening T.state self) (T.state result) }
-        ensures by_others { All (λ p. ByOthers (IsTurn T.entries T.by T.part) (view p).seat (view p).left (T.state result)) passes.items }
+        ensures reached { ByTurns T.turn (opening T.state self) (T.state result) }
+        ensures by_others { All (λ p. ByOthers T.turn (view p).seat (view p).left (T.state result)) passes.items }
         ensures continued { All (λ p. IsContinued T.entries T.by T.part (view p).seat (view p).left (T.state result)) passes.items }
         ensures last { IsLastLeft (opening T.state self) (T.state result) passes.items }
     {

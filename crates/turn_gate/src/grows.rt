@@ -1,5 +1,6 @@
 //! What the gate asks of a value.
 ghost use Rattle.std.specs.Prelude.{◌≡◌, ℕ, List, length};
+ghost use Rattle.turn_gate.specs.Turns.{IsTurn};
 
 /// A value with a list that only grows, in which each entry names the seat that made it.
 pub trait Grows {
@@ -25,7 +26,13 @@ pub trait Grows {
     /// What belongs to a seat in a state.
     ghost part: { ℕ → Self.State → Self.Part };
 
+    /// What a turn of a seat may do to a state: a rule of the value's own, or `IsTurn entries by part` where it has none.
+    ghost turn: { ℕ → Self.State → Self.State → Type 0 };
+
     /// The length of the list. Takes no memory.
     fn grown(&self) -> u64
         ensures { result ≡ length (entries (state self.now)) };
+
+    /// A turn appends entries of its seat alone, and changes no other seat's part.
+    ghost turn_is_own: { (seat : ℕ) (a b : Self.State) → turn seat a b → IsTurn entries by part seat a b };
 }

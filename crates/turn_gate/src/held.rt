@@ -1,7 +1,6 @@
 //! A value while it is handed out.
 ghost use Rattle.std.specs.Prelude.{◌≡◌};
 ghost use Rattle.turn_gate.specs.Passes.{view, IsFree, HasTurn};
-ghost use Rattle.turn_gate.specs.Turns.{IsTurn};
 ghost use Rattle.turn_gate.specs.Views.{after_publish, after_release};
 
 use crate::gate::Gate;
@@ -22,7 +21,7 @@ impl<T: Grows> Held<T> {
     /// memory, and waits for nobody.
     pub fn leave(self, gate: &Gate<T>, pass: &mut Pass<T>)
         requires has_turn { HasTurn gate.now pass.old self.count }
-        requires turn { IsTurn T.entries T.by T.part (view pass.old).seat (view pass.old).taken (T.state self.value) }
+        requires turn { T.turn (view pass.old).seat (view pass.old).taken (T.state self.value) }
         ensures free { IsFree gate.now pass.new }
         ensures left { view pass.new ≡ after_release (after_publish (view pass.old) (T.state self.value)) }
     {

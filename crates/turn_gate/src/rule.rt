@@ -1,7 +1,6 @@
 //! The rule of the gate's table. These types are for the proofs alone.
 ghost use Rattle.std.specs.Prelude.{[]};
 ghost use Rattle.turn_gate.specs.Rule.{IsKept};
-ghost use Rattle.turn_gate.specs.Turns.{IsTurn};
 ghost use Rattle.turn_gate.specs.Views.{keeper_view};
 
 use crate::grows::Grows;
@@ -23,7 +22,7 @@ pub struct GateRule<T> {
 }
 
 impl<T: Grows> TableRule<Option<Counted<T>>, View<T::State>, Opening<T>> for GateRule<T> {
-    ghost holds = { λ o. IsKept T.state (IsTurn T.entries T.by T.part) (T.state o.value.value) o.seats };
+    ghost holds = { λ o. IsKept T.state T.turn (T.state o.value.value) o.seats };
 
     ghost first = { λ o. keeper_view (T.state o.value.value) 0 [] };
 }

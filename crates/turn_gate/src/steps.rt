@@ -1,6 +1,5 @@
 //! What each kind of step tells the seat that makes it. These types are for the proofs alone.
 ghost use Rattle.turn_gate.specs.Steps.{Acquires, Publishes, FindsSpent, Releases};
-ghost use Rattle.turn_gate.specs.Turns.{IsTurn};
 ghost use Rattle.turn_gate.specs.Views.{after_split, new_view, after_join, ended_view};
 
 use crate::grows::Grows;
@@ -14,7 +13,7 @@ pub struct Acquire<T> {
 }
 
 impl<T: Grows> Play<Option<Counted<T>>, View<T::State>> for Acquire<T> {
-    ghost then = { Acquires T.state (IsTurn T.entries T.by T.part) };
+    ghost then = { Acquires T.state T.turn };
 }
 
 /// The turn is counted, and from then on the new state is the current one.

@@ -1,5 +1,6 @@
 ghost use Rattle.std.specs.Prelude.{◌≡◌, ◌++◌, ◌∷◌, ◌≤◌, [], MatchBool, IfOk, IfSome, All, length, slice_index_or, vec_len, ℕ, ◌<◌};
 ghost use Rattle.turn_gate.specs.Passes.{view, IsFree, HasTurn, AreAll, AreInOrder};
+ghost use Rattle.turn_gate.specs.Turns.{IsTurn};
 
 use crate::{Gate, Grows, Held, NoTurn, Pass};
 use std::alloc::{AllocError, Global};
@@ -31,9 +32,13 @@ impl Grows for Pairs {
 
     ghost part = { λ k s. tt };
 
+    ghost turn = { IsTurn (λ s. s) (λ e. e.0) (λ k s. tt {0}) };
+
     fn grown(&self) -> u64 {
         self.items.len() as u64
     }
+
+    ghost turn_is_own = { λ seat a b turn. turn };
 }
 
 impl Pairs {

@@ -90,7 +90,7 @@ returns-clause-continued g c =
     let cov = λ (n : ℕ) (l : n < c.args.self.table.shared.key.seats). let e = c.requires.all.every_seat n l in number_of_whole (λ q. joined_of q.token.me.0) (λ o. o.seat) n items at p place here e.0 e.1 e.2 in
     let ends = closed_value g.T.Grows.state _ _ _ _ _ _ _ _ _ _ is cov c.close_with-closed.ensures.values.2 c.in-Some.field-0 (c.take.ensures.value ∙ ap maybe.some c.in-Some.is) in
     let whole = ends_whole (λ q. joined_of q.token.me.0) _ _ _ items at p place here ends in
-    λ k d l. continued g.T.Grows.entries g.T.Grows.by g.T.Grows.part _ _ _ (whole.1 k d l)
+    λ k d l. continued g.T.Grows.entries g.T.Grows.by g.T.Grows.part g.T.Grows.turn g.met.T.Grows.turn_is_own _ _ _ (whole.1 k d l)
 
 pub returns-clause-last : goal.returns-clause-last
 returns-clause-last g c =

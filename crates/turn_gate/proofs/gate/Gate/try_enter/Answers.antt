@@ -1,7 +1,7 @@
 use Rattle.std.proofs.Common.{rules, ◌∷◌, Some, sym, ap, ◌∙◌}
 use mathlib.Core.Option.{none}
 use Rattle.atomic_table.specs.Table.{rest, step}
-use Rattle.turn_gate.specs.Turns.{IsTurn, ByOthers}
+use Rattle.turn_gate.specs.Turns.{ByOthers}
 use Rattle.turn_gate.proofs.Continued.{continued}
 use Rattle.turn_gate.proofs.Keeps.{acquires_as}
 use Rattle.turn_gate.proofs.gate.Gate.try_enter.Goals as goal
@@ -19,5 +19,5 @@ pub returns-clause-continued : goal.returns-clause-continued
 returns-clause-continued g c =
     let i = g.T.Grows in
     let v = c.args.pass.now.token.me.0 in
-    let r : ByOthers (IsTurn i.entries i.by i.part) v.seat v.left (i.state c.in-Some.field-0.value) = search rules in
-    continued i.entries i.by i.part _ _ _ r
+    let r : ByOthers i.turn v.seat v.left (i.state c.in-Some.field-0.value) = search rules in
+    continued i.entries i.by i.part i.turn g.met.T.Grows.turn_is_own _ _ _ r
