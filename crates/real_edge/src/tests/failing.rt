@@ -8,9 +8,9 @@ use std::fs;
 use std::rt::Files;
 use std::test::Fail;
 
-/// The files that a call of the yard wants.
+/// What the calls are made with.
 #[derive(Drop)]
-struct Names {
+struct Wanted {
     a: Name,
     b: Name,
     x: Bytes,
@@ -20,8 +20,8 @@ struct Names {
     mark: Bytes,
 }
 
-fn names(alloc: Global) -> Result<Names, Fail> {
-    Ok(Names {
+fn wanted_files(alloc: Global) -> Result<Wanted, Fail> {
+    Ok(Wanted {
         a: name(b"a")?,
         b: name(b"b")?,
         x: bytes(alloc, b"fo/x")?,
@@ -48,7 +48,7 @@ fn prepare<R: Files + AllocGlobal + Clone + Drop>(rt: &R) -> Result<(), Fail> {
 fn own_call<R: Files + AllocGlobal + Clone + Drop>(
     yard: &mut RealFolder<R>,
     call: u32,
-    it: &Names,
+    it: &Wanted,
 ) -> Result<(), Failed> {
     match call {
         0 => yard.stat(&it.a).map(|_| ()),
@@ -66,7 +66,7 @@ fn own_call<R: Files + AllocGlobal + Clone + Drop>(
 fn yard_call<R: Files + AllocGlobal + Clone + Drop>(
     yard: &mut RealFolder<R>,
     call: u32,
-    it: &Names,
+    it: &Wanted,
 ) -> Result<(), Failed> {
     match call {
         0 => yard.look(&it.x).map(|_| ()),
@@ -89,7 +89,7 @@ fn yard_call<R: Files + AllocGlobal + Clone + Drop>(
 
 // Lets each call of the system fail, and counts them.
 fn failed_calls<R: Files + AllocGlobal + Clone + Drop>(rt: R, call: u32) -> Result<u32, Fail> {
-    let it = names(rt.alloc())?;
+    let it = wanted_files(rt.alloc())?;
     for failing in 1..64 {
         prepare(&rt)?;
         let seen = Seen::new();
