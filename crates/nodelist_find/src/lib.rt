@@ -4,6 +4,14 @@
 //! and [`Index::node`] gives its node. [`Index::route`] says how a node is reached: by its own host, by
 //! the host of its net, or not at all.
 //!
+//! ```
+//! let index = Index::open(alloc, bytes)?;
+//! match index.route(&addr) {
+//!     Route::Direct(i) | Route::ViaHost(i) => call(&index.node(i).host),
+//!     Route::Down | Route::Unknown => wait(),
+//! }
+//! ```
+//!
 //! Left out: reading the file, and the settings of a node, which go before the nodelist.
 #![tactic(auto)]
 
