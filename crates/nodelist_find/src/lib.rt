@@ -26,4 +26,4 @@ mod tests;
 
 pub use fault::IndexFault;
 pub use index::{Index, Route};
-pub use laws::{finds_what_the_list_has, reads_what_is_written};
+pub use laws::{finds_what_the_list_has, reads_what_is_written, what_is_read_is_an_index};
