@@ -2,6 +2,7 @@
 use Rattle.std.specs.Prelude.{ℕ, ◌-◌, nat_lt, List, length, slice_get, Option, Some, None, Result, Ok, Err, if◌then◌else◌}
 use Rattle.ftn_addr.specs.Digits.{saturated_number}
 use Rattle.ftn_addr.specs.Key.{Key}
+use Rattle.ftn_addr.specs.declared.limits.TheConstants.{MAX_NAME, MAX_SIZE}
 use Rattle.binkp_args.specs.Escape.{unescaped}
 use Rattle.ftn_addr.specs.Outcomes.{◌>>=◌}
 use Rattle.binkp_args.specs.declared.fault.ArgFault.{ArgFault}
@@ -29,7 +30,7 @@ number_at n words = do
 unfoldable pub name_of : List (List ℕ) → Result (List ℕ) ArgFault
 name_of words = do
   word ← word_at 1 words
-  if nat_lt 200 (length (unescaped word)) then Err LongName else Ok (unescaped word)
+  if nat_lt MAX_NAME (length (unescaped word)) then Err LongName else Ok (unescaped word)
 
 -- the name, the size and the time
 unfoldable pub key_words : List (List ℕ) → Result Key ArgFault
@@ -45,7 +46,7 @@ offset_or_0 words = if nat_lt 3 (length words) then number_at 4 words else Ok 0
 
 -- a file of at most 2147483647 bytes
 unfoldable pub not_large : Key → Result Key ArgFault
-not_large key = if nat_lt 2147483647 key.size then Err TooLarge else Ok key
+not_large key = if nat_lt MAX_SIZE key.size then Err TooLarge else Ok key
 
 -- a place in a file: at its end at the most
 unfoldable pub place_in : Key → ℕ → Result (Key × ℕ) ArgFault

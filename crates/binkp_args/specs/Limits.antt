@@ -4,13 +4,14 @@ use Rattle.std.specs.List.{All}
 use Rattle.ftn_addr.specs.Address.{Address}
 use Rattle.ftn_addr.specs.Key.{Key}
 use Rattle.ftn_addr.specs.Limits.{IsAddress, IsKey}
+use Rattle.ftn_addr.specs.declared.limits.TheConstants.{MAX_FRAME_DATA, MAX_SIZE}
 use Rattle.binkp_args.specs.Command.{CommandText, Nul, Adr, Pwd, File, Accept, Eob, Got, Error, Bsy, Get, Skip, Other}
 use Rattle.binkp_args.specs.Words.{ends_in_zero}
 
 -- a name of 1 to 200 bytes, a size that is taken, and a time of 63 bits
 pub record IsFile (k : Key) : Type 0 where
   pub key : IsKey k
-  pub size : k.size ≤ 2147483647
+  pub size : k.size ≤ MAX_SIZE
   pub time : k.time < 2 ^ 63
 
 -- a file, and a place in it
@@ -61,15 +62,15 @@ pub record AreFew (addresses : List Address) : Type 0 where
 
 -- A command whose argument fits a frame, for what it is made of.
 abbrev pub IsShort : CommandText → Type 0
-IsShort (Nul text) = length text < 32767
+IsShort (Nul text) = length text < MAX_FRAME_DATA
 IsShort (Adr addresses) = AreFew addresses
-IsShort (Pwd text) = length text < 32767
+IsShort (Pwd text) = length text < MAX_FRAME_DATA
 IsShort (File key offset) = IsKey key
-IsShort (Accept text) = length text < 32767
+IsShort (Accept text) = length text < MAX_FRAME_DATA
 IsShort Eob = Unit {0}
 IsShort (Got key) = IsKey key
-IsShort (Error text) = length text < 32767
-IsShort (Bsy text) = length text < 32767
+IsShort (Error text) = length text < MAX_FRAME_DATA
+IsShort (Bsy text) = length text < MAX_FRAME_DATA
 IsShort (Get key offset) = IsKey key
 IsShort (Skip key) = IsKey key
 IsShort (Other number) = Unit {0}

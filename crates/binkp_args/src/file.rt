@@ -7,7 +7,7 @@ ghost use Rattle.binkp_args.specs.File.{word_at, number_at, name_of, key_words, 
 
 use crate::fault::ArgFault;
 use crate::names::unescape;
-use ftn_addr::{Bytes, FileKey, MAX_SIZE, read_digits};
+use ftn_addr::{Bytes, FileKey, MAX_NAME, MAX_SIZE, read_digits};
 use std::alloc::Global;
 
 /// The nth word, counted from 1.
@@ -41,7 +41,7 @@ fn name_of(alloc: Global, words: &[&[u8]]) -> Result<Bytes, ArgFault>
     let word = word_at(1, words)?;
     let mut name = Bytes::new(alloc);
     unescape(alloc, word, &mut name)?;
-    if name.len() > 200 {
+    if name.len() > MAX_NAME {
         return Err(ArgFault::LongName);
     }
     Ok(name)

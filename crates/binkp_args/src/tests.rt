@@ -108,6 +108,48 @@ fn name_of_201_bytes_is_too_long(rt: HostRuntime) -> Result<(), Fail> {
 }
 
 #[test]
+fn the_longest_name_and_the_largest_file_are_read(rt: HostRuntime) -> Result<(), Fail> {
+    let home = home(rt.alloc())?;
+    let mut args = bytes(rt.alloc(), &[b'a'; 200])?;
+    args.push_slice(b" 2147483647 9223372036854775807 2147483647")?;
+    let wanted = FileKey {
+        name: bytes(rt.alloc(), &[b'a'; 200])?,
+        size: 2_147_483_647,
+        time: 9_223_372_036_854_775_807,
+    };
+    let command = read_command(rt.alloc(), 9, args.as_slice(), &home)?;
+    assert_eq!(rt; command, Command::Get(wanted, 2_147_483_647));
+    let fault = read_command(rt.alloc(), 10, b"a.txt 1 9223372036854775808", &home).err();
+    assert_eq!(rt; fault, Some(ArgFault::BadNumber(3)));
+    let fault = read_command(rt.alloc(), 6, b"a.txt 2147483648 1", &home).err();
+    assert_eq!(rt; fault, Some(ArgFault::TooLarge));
+    Ok(())
+}
+
+#[test]
+fn plain_bytes_are_written_as_they_are(rt: HostRuntime) -> Result<(), Fail> {
+    let plain = b"ABCXYZabcxyz0189-_.!@#$%&()+=~";
+    let mut out = Bytes::new(rt.alloc());
+    escape(rt.alloc(), plain, &mut out)?;
+    assert_eq!(rt; out.as_slice(), plain.as_slice());
+    let mut out = Bytes::new(rt.alloc());
+    escape(rt.alloc(), b"'*,/:;<>?[]^`{|}", &mut out)?;
+    let wanted =
+        b"\\x27\\x2a\\x2c\\x2f\\x3a\\x3b\\x3c\\x3e\\x3f\\x5b\\x5d\\x5e\\x60\\x7b\\x7c\\x7d";
+    assert_eq!(rt; out.as_slice(), wanted.as_slice());
+    Ok(())
+}
+
+#[test]
+fn a_password_may_be_empty(rt: HostRuntime) -> Result<(), Fail> {
+    let home = home(rt.alloc())?;
+    let empty = || -> Result<Command, Fail> { Ok(Command::Pwd(Bytes::new(rt.alloc()))) };
+    assert_eq!(rt; read_command(rt.alloc(), 2, b"", &home)?, empty()?);
+    assert_eq!(rt; read_command(rt.alloc(), 2, b"\0", &home)?, empty()?);
+    Ok(())
+}
+
+#[test]
 fn file_without_offset(rt: HostRuntime) -> Result<(), Fail> {
     let home = home(rt.alloc())?;
     let key = hello(rt.alloc())?;

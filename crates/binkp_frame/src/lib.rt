@@ -5,6 +5,15 @@
 //! adds each frame, once it is whole, to a list that its caller walks; it refuses nothing.
 //! [`put_frame`] writes one frame, and [`head_of`] reads the two bytes before a frame's data.
 //!
+//! ```
+//! let mut decoder = Decoder::new(alloc);
+//! let mut frames = Vec::new(alloc);
+//! decoder.feed(alloc, piece, &mut frames)?;
+//! for frame in frames.as_slice() {
+//!     put_frame(frame, &mut sent_back)?;
+//! }
+//! ```
+//!
 //! `specs/Stream.antt` says which frames a stream has. Three laws about it are functions with empty
 //! bodies: [`reads_one_way`], [`pieces_add_up`] and [`reads_what_is_sent`].
 //!

@@ -6,6 +6,15 @@
 //! The side that answers judges that with [`check`], which takes a plain password too. The digest is
 //! [`hmac`], with the password as the key and the challenge as the text.
 //!
+//! ```
+//! let mut offer = Bytes::new(alloc);
+//! offer_text(alloc, &challenge, &mut offer)?; // OPT CRAM-MD5- and 32 digits
+//! if let Offer::Md5(challenge) = read_offer(alloc, offer.as_slice())? {
+//!     answer_text(alloc, password, challenge.as_slice(), &mut answer)?;
+//!     assert!(check(password, challenge.as_slice(), answer.as_slice()));
+//! }
+//! ```
+//!
 //! Left out: frames and commands, and which offer counts where several came.
 #![tactic(auto)]
 

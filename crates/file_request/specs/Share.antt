@@ -1,6 +1,7 @@
 -- Shares, and the file that a word asks for (own).
 use Rattle.std.specs.Prelude.{ℕ, Bool, ◌&&◌, nat_le, List, [], ◌∷◌, ◌++◌, length, find, Option, Some, None}
 use Rattle.ftn_addr.specs.Case.{same_word}
+use Rattle.ftn_addr.specs.declared.limits.TheConstants.{MAX_NAME}
 
 -- a folder, and the names of the files in it that may be requested
 pub record SharedFolder : Type 0 where
@@ -9,7 +10,7 @@ pub record SharedFolder : Type 0 where
 
 -- a name of at most 200 bytes, with the case of letters ignored
 abbrev pub is_asked : List ℕ → List ℕ → Bool
-is_asked word name = nat_le (length name) 200 && same_word name word
+is_asked word name = nat_le (length name) MAX_NAME && same_word name word
 
 -- the first name that the word asks for
 abbrev pub name_in : List ℕ → List (List ℕ) → Option (List ℕ)

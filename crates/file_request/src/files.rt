@@ -6,12 +6,9 @@ ghost use Rattle.file_request.specs.Share.{name_in, path_in, path_of};
 ghost use Rattle.file_request.specs.Views.{shared};
 
 use crate::Share;
-use ftn_addr::{Bytes, NoMemory};
+use ftn_addr::{Bytes, MAX_NAME, NoMemory};
 use std::alloc::Global;
 use std::collections::BTreeMap;
-
-/// The longest name that may be requested, in bytes.
-const MAX_NAME: usize = 200;
 
 /// A file that may be requested.
 #[derive(Clone, Copy)]

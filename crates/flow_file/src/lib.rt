@@ -3,6 +3,11 @@
 //!
 //! [`read_flow`] gives one [`FlowLine`] for each line. It refuses nothing: what names no file is passed.
 //!
+//! ```
+//! let lines = read_flow(alloc, b"^/out/a.txt\n~/out/sent.txt\n")?;
+//! // one file to be sent and then deleted, and one line that is passed over
+//! ```
+//!
 //! Left out: the files that are named, and which node a flow file is for.
 #![tactic(auto)]
 

@@ -6,6 +6,13 @@
 //! refused and marked. With [`Folded::reserve`] and [`Folded::hold`] a caller makes sure that a record
 //! that must be folded later takes no memory then.
 //!
+//! ```
+//! let mut payload = Bytes::new(alloc);
+//! write_record(&Record::Done(number, session), &mut payload)?;
+//! let mut folded = Folded::new(alloc);
+//! folded.add_owned(read_record(alloc, payload.as_slice(), &home)?)?;
+//! ```
+//!
 //! Left out: the ledger's file with its gates and lengths, the bytes of files, and what was given away.
 #![tactic(auto)]
 

@@ -1,5 +1,6 @@
 -- Readings that may be refused.
 use Rattle.std.specs.Prelude.{◌≡◌, ℕ, Result, Ok, Err}
+use Rattle.ftn_addr.specs.LineNumbers.{or_fault}
 use Rattle.ftn_addr.specs.Outcomes.{GivesUnless}
 use Rattle.mail_conf.specs.declared.cause.ConfCause.{ConfCause}
 use Rattle.mail_conf.specs.declared.cause.ConfCause.TheVariants.{NoMemory}
@@ -11,5 +12,4 @@ GivesAt view result read = GivesUnless (λ fault. fault.cause ≡ NoMemory) view
 
 -- a cause, told with its line
 abbrev pub on_line : {A B : Type 0} → ℕ → Result A ConfCause → (A → Result B ConfFault) → Result B ConfFault
-on_line number (Ok x) f = f x
-on_line number (Err cause) f = Err (record { line = number; cause = cause })
+on_line number read f = or_fault (λ cause. record { line = number; cause = cause }) read f

@@ -2,6 +2,7 @@
 use Rattle.std.specs.Prelude.{ℕ, ◌+◌, ◌-◌, ◌^◌, min, nat_lt, List, [], ◌∷◌, length, codes, Option, Some, None, unwrap_or, Result, Ok, Err, if◌then◌else◌}
 use Rattle.std.specs.Str.Lines.{lines}
 use Rattle.ftn_addr.specs.Address.{Address}
+use Rattle.ftn_addr.specs.LineNumbers.{next_line}
 use Rattle.mail_conf.specs.Cause.{on_line}
 use Rattle.mail_conf.specs.Domain.{DomainText, home_of}
 use Rattle.mail_conf.specs.Draft.{DraftText, empty_draft}
@@ -31,9 +32,6 @@ pub record ConfText : Type 0 where
   pub refuse_over : ℕ
   pub shares : List (List ℕ)
   pub session_limit : ℕ
-
-abbrev pub next_line : ℕ → ℕ
-next_line number = min (number + 1) 4294967295
 
 -- what further lines set, or the first that is refused
 abbrev pub with_lines : Address → DraftText → ℕ → List (List ℕ) → Result DraftText ConfFault

@@ -2,6 +2,7 @@
 use Rattle.std.specs.Prelude.{ℕ, Bool, false, List, [], ◌∷◌, ◌++◌, Option, Some, None, is_some, Result, Ok, if◌then◌else◌}
 use Rattle.ftn_addr.specs.Address.{Address}
 use Rattle.ftn_addr.specs.Outcomes.{◌>>=◌}
+use Rattle.ftn_addr.specs.declared.limits.TheConstants.{MAX_FRAME_DATA}
 use Rattle.mail_conf.specs.Domain.{DomainText, address_at, domain_line, is_alias}
 use Rattle.mail_conf.specs.Host.{NodeText, node_line}
 use Rattle.mail_conf.specs.Values.{number_once, text_of, word_at, word_once}
@@ -56,7 +57,7 @@ unfoldable pub number_taken : NumberWord → List (List ℕ) → DraftText → R
 number_taken Port words d = number_once (is_some d.port) words 1 65535 >>= λ n. Ok (record d { port = Some n })
 number_taken MaxServers words d = number_once (is_some d.max_servers) words 1 100 >>= λ n. Ok (record d { max_servers = Some n })
 number_taken MaxClients words d = number_once (is_some d.max_clients) words 0 100 >>= λ n. Ok (record d { max_clients = Some n })
-number_taken Block words d = number_once (is_some d.block) words 128 32767 >>= λ n. Ok (record d { block = Some n })
+number_taken Block words d = number_once (is_some d.block) words 128 MAX_FRAME_DATA >>= λ n. Ok (record d { block = Some n })
 number_taken RefuseOver words d = number_once (is_some d.refuse_over) words 0 9223372036854775807 >>= λ n. Ok (record d { refuse_over = Some n })
 number_taken SessionLimit words d = number_once (is_some d.session_limit) words 1 17592186044416 >>= λ n. Ok (record d { session_limit = Some n })
 

@@ -5,6 +5,13 @@
 //! domain take those of the `domain` line, wherever it stands. [`Conf::node`] finds the settings of
 //! another node.
 //!
+//! ```
+//! let conf = read_conf(alloc, b"domain fidonet out 2\naddress 5020/1042\niport 24554\n")?;
+//! if let Some(node) = conf.node(&peer) {
+//!     call(&node.host, node.port);
+//! }
+//! ```
+//!
 //! Left out: reading the file.
 #![tactic(auto)]
 

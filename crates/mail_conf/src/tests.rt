@@ -330,3 +330,54 @@ fn a_fault_is_told_with_its_line(rt: HostRuntime) -> Result<(), Fail> {
     assert_eq!(rt; text.as_str(), "line 2: no number, or one out of its range");
     Ok(())
 }
+
+#[test]
+fn each_word_wants_its_value(rt: HostRuntime) -> Result<(), Fail> {
+    let missing: [&[u8]; 18] = [
+        b"address",
+        b"sysname",
+        b"sysop #",
+        b"location",
+        b"nodeinfo",
+        b"inbound",
+        b"inbound-nonsecure",
+        b"domain",
+        b"domain a",
+        b"domain a out",
+        b"node",
+        b"iport",
+        b"maxservers",
+        b"maxclients",
+        b"oblksize",
+        b"refuse-over",
+        b"session-limit",
+        b"refuse-name",
+    ];
+    for lines in missing {
+        assert_eq!(rt; cause_of(rt.alloc(), lines)?, Some(ConfCause::MissingWord));
+    }
+    assert_eq!(rt;
+        cause_of(rt.alloc(), b"request-folder")?,
+        Some(ConfCause::MissingWord)
+    );
+    Ok(())
+}
+
+#[test]
+fn a_domain_and_an_address_are_told_where_they_are_bad(rt: HostRuntime) -> Result<(), Fail> {
+    let bad: [&[u8]; 7] = [
+        b"domain abcdefghij_klmnopqrst-uvwxyz.0199 out 1",
+        b"domain a~b out 1",
+        b"address 2:5020",
+        b"address 2:32768/1",
+        b"address 2:1/1@",
+        b"node 2:1/x a.example",
+        b"node 1/1@a b",
+    ];
+    for lines in bad {
+        assert_eq!(rt; cause_of(rt.alloc(), lines)?, Some(ConfCause::BadAddress));
+    }
+    let good = b"domain abcdefghij_klmnopqrst-uvwxyz.019 out 1";
+    assert_eq!(rt; cause_of(rt.alloc(), good)?, None);
+    Ok(())
+}

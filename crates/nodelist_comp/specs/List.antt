@@ -2,6 +2,7 @@
 use Rattle.std.specs.Prelude.{◌≡◌, ℕ, ◌+◌, ◌==◌, min, Bool, ◌||◌, nat_le, nat_eq, List, [], ◌∷◌, ◌++◌, length, take, position, codes, Option, Some, None, Result, Ok, Err, if◌then◌else◌}
 use Rattle.std.specs.List.{slice_split, starts_with}
 use Rattle.std.specs.Str.Lines.{lines}
+use Rattle.ftn_addr.specs.LineNumbers.{next_line, or_fault}
 use Rattle.ftn_addr.specs.Outcomes.{◌>>=◌, GivesUnless}
 use Rattle.nodelist_comp.specs.Fields.{Area, node_of}
 use Rattle.nodelist_comp.specs.Node.{ListedNode, place_of, has_place}
@@ -30,13 +31,8 @@ line_taken nodes above line =
     if is_passed line then Ok (nodes, above)
     else (node_of above (slice_split (λ byte. byte == 44) line) >>= λ node. added nodes node >>= λ more. Ok (more, Some (record { zone = node.zone; net = node.net })))
 
--- the number of the next line; the greatest stands for all from there on (own)
-abbrev pub next_line : ℕ → ℕ
-next_line number = min (number + 1) 4294967295
-
 abbrev pub on_line : {A B : Type 0} → ℕ → Result A ListCause → (A → Result B ListTextFault) → Result B ListTextFault
-on_line number (Ok x) f = f x
-on_line number (Err cause) f = Err (record { line = number; cause = cause })
+on_line number read f = or_fault (λ cause. record { line = number; cause = cause }) read f
 
 -- the nodes and those of further lines below an area, or the first fault
 abbrev pub with_lines : List ListedNode → Option Area → ℕ → List (List ℕ) → Result (List ListedNode) ListTextFault

@@ -5,6 +5,11 @@
 //! the host and the port at which it answers binkp. [`index_bytes`] writes the nodes in the order of
 //! their addresses, for a fast look-up.
 //!
+//! ```
+//! let nodes = compile(alloc, b"Zone,2,Europe,Town,One,-Unpublished-,300,IBN:z.example\n")?;
+//! let index = index_bytes(alloc, nodes.as_slice())?;
+//! ```
+//!
 //! Left out: reading the index, and looking an address up (`nodelist_find`).
 #![tactic(auto)]
 

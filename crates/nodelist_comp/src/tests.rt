@@ -139,3 +139,33 @@ fn a_list_has_at_most_65536_nodes(rt: HostRuntime) -> Result<(), Fail> {
     assert_eq!(rt; fault(rt.alloc(), text.as_slice()), Some(told));
     Ok(())
 }
+
+#[test]
+fn a_line_may_have_many_fields(rt: HostRuntime) -> Result<(), Fail> {
+    let mut text = Bytes::from_slice(rt.alloc(), b"Zone,1")?;
+    let commas = vec![in rt.alloc(); b','; 20_000]?;
+    text.push_slice(commas.as_slice())?;
+    text.push_slice(b"INA:a.example,IBN\n,2,,,,,IBN:c.example,IBN:b.example,IBN:d.example")?;
+    let nodes = compile(rt.alloc(), text.as_slice())?;
+    assert_eq!(rt; nodes.len(), 2);
+    assert!(rt; is(&nodes[0], (1, 1, 0), NodeKind::Zone, b"a.example", 24_554));
+    assert!(rt; is(&nodes[1], (1, 1, 2), NodeKind::Plain, b"b.example", 24_554));
+    Ok(())
+}
+
+#[test]
+fn each_field_that_is_wanted_may_be_missing(rt: HostRuntime) {
+    let told = |line, cause| Some(ListTextFault { line, cause });
+    assert_eq!(rt; fault(rt.alloc(), b"Zone"), told(1, ListCause::BadNumber));
+    assert_eq!(rt; fault(rt.alloc(), b"Zone,"), told(1, ListCause::BadNumber));
+    assert_eq!(rt;
+        fault(rt.alloc(), b"Zone,1\n "),
+        told(2, ListCause::UnknownKeyword)
+    );
+    assert_eq!(rt;
+        fault(rt.alloc(), b"Zone,1\n,32768"),
+        told(2, ListCause::BadNumber)
+    );
+    assert_eq!(rt; fault(rt.alloc(), b"Zone,32767\n,32767"), None);
+    assert_eq!(rt; fault(rt.alloc(), b"Host,1"), told(1, ListCause::NoZone));
+}

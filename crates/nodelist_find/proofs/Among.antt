@@ -1,5 +1,5 @@
 -- An address is read among others number by number.
-use Rattle.std.proofs.Common.{◌≡◌, ℕ, ◌<◌, ◌≤◌, Bool, true, false, ◌&&◌, cond, eqb, refl, arith}
+use Rattle.std.proofs.Common.{◌≡◌, ℕ, ◌≤◌, Bool, true, false, ◌&&◌, cond, eqb, refl, arith}
 use Rattle.std.proofs.lemmas.Bool.{eqb-true, eqb-false}
 use Rattle.nodelist_find.specs.Cursor.{Span}
 use Rattle.nodelist_find.specs.Nodes.{Bounds, IsAmong, IsBounds, IsSpot, SpotAt, nets_in, nodes_in, ordinal, zones_in}

@@ -1,26 +1,25 @@
 -- The index of a list is read as its nodes in order.
-use Rattle.std.proofs.Common.{◌≡◌, ℕ, ◌+◌, ◌*◌, ◌/◌, ◌%◌, ◌-◌, ◌^◌, ◌<◌, ◌≤◌, min, Bool, true, false, cond, eqb, ltb, List, [], ◌∷◌, ◌++◌, length, map, Option, Some, None, option_map, Result, Ok, fold, refl, sym, ap, ◌∙◌, inl, inr, arith}
-use Rattle.std.specs.Prelude.{codes, slice_get}
+use Rattle.std.proofs.Common.{◌≡◌, ℕ, ◌+◌, ◌*◌, ◌/◌, ◌%◌, ◌-◌, ◌^◌, ◌<◌, ◌≤◌, min, Bool, true, false, cond, eqb, ltb, List, [], ◌∷◌, ◌++◌, length, map, Result, Ok, fold, refl, sym, ap, ◌∙◌, inl, inr, arith}
+use Rattle.std.specs.Prelude.{codes}
 use Rattle.std.specs.Int.{w16, w32, to_be_bytes}
 use Rattle.std.specs.List.{AllByRecursion, flat_map}
 use Rattle.std.proofs.lemmas.Bool.{cases_Bool, eqb-true, eqb-false, ltb-true, ltb-false, or_parts}
-use Rattle.std.proofs.lemmas.List.{append_assoc, append-nil, length-append}
-use Rattle.std.proofs.lemmas.Nat.{from_be_bytes-to_be_bytes_4}
+use Rattle.std.proofs.lemmas.List.{append_assoc, append-nil}
 use Rattle.nodelist_comp.specs.Index.{host_bytes, in_order, index_of, insert_node, kind_byte, node_bytes, with_node}
 use Rattle.nodelist_comp.specs.Node.{ListedNode, has_place, place_of}
 use Rattle.nodelist_find.proofs.ReadBack.{Reads, address_again, host_again, kind_again, number_again}
 use Rattle.nodelist_find.proofs.SpotNumbers.{is_bounds, ordinal-spot_at}
 use Rattle.ftn_addr.specs.Outcomes.{◌>>=◌}
-use Rattle.nodelist_find.specs.Cursor.{Left, after_magic, byte_at, byte_in, number_in}
+use Rattle.nodelist_find.specs.Cursor.{Left, after_magic}
 use Rattle.nodelist_find.specs.Law.{IsListed, clipped}
-use Rattle.nodelist_find.specs.Nodes.{Bounds, IsAmong, IsBounds, SpotAt, address_of, all_numbers, bounds_for, count_at, node_at, nodes_from, ordinal, read_index, spot_at}
+use Rattle.nodelist_find.specs.Nodes.{Bounds, IsAmong, IsBounds, address_of, all_numbers, bounds_for, count_at, node_at, nodes_from, ordinal, read_index}
 use Rattle.nodelist_find.specs.declared.fault.IndexFault.{IndexFault}
 
 abbrev left : ℕ → List ℕ → Left
 left place rest = record { place = place; rest = rest }
 
 -- the bytes of a node, grouped from the right
-node_spelled : (n : ListedNode) (rest : List ℕ) → node_bytes n ++ rest ≡ to_be_bytes w16 n.zone ++ (to_be_bytes w16 n.net ++ (to_be_bytes w16 n.node ++ (kind_byte n.kind ∷ (host_bytes n.host ++ (to_be_bytes w16 n.port ++ rest)))))
+pub node_spelled : (n : ListedNode) (rest : List ℕ) → node_bytes n ++ rest ≡ to_be_bytes w16 n.zone ++ (to_be_bytes w16 n.net ++ (to_be_bytes w16 n.node ++ (kind_byte n.kind ∷ (host_bytes n.host ++ (to_be_bytes w16 n.port ++ rest)))))
 node_spelled n rest =
     ap (λ (host : List ℕ). to_be_bytes w16 n.zone ++ (to_be_bytes w16 n.net ++ (to_be_bytes w16 n.node ++ (kind_byte n.kind ∷ host)))) (append_assoc (host_bytes n.host) (to_be_bytes w16 n.port) rest)
 
@@ -35,7 +34,7 @@ node_again b place n rest is fits among =
     (host.0 + 1 + 1, ap (λ (bytes : List ℕ). node_at b (left place bytes)) spelled ∙ rw (address, kind, host.1, port) refl)
 
 -- each node has a number of at least the one before and one
-abbrev Climbs : ℕ → List ListedNode → Type 0
+abbrev pub Climbs : ℕ → List ListedNode → Type 0
 Climbs next [] = Unit {0}
 Climbs next (n ∷ nodes) = (next ≤ ordinal (address_of n)) × Climbs (ordinal (address_of n) + 1) nodes
 
@@ -65,7 +64,7 @@ nodes_again next place before (n ∷ nodes) rest low fits climbs =
     (more.0, ap (λ (r : Result (ListedNode × Left) IndexFault). r >>= λ x. nodes_from (length nodes) (ordinal (address_of x.0) + 1) (before ++ x.0 ∷ []) x.1) first ∙ more.1 ∙ ap (λ (ns : List ListedNode). Ok (ns, left more.0 rest)) (append_assoc before (clipped n ∷ []) (map clipped nodes)))
 
 -- places rise as numbers do
-ordinal_rises : (a b : ListedNode) → IsListed a → IsListed b → place_of a < place_of b → ordinal (address_of a) + 1 ≤ ordinal (address_of b)
+pub ordinal_rises : (a b : ListedNode) → IsListed a → IsListed b → place_of a < place_of b → ordinal (address_of a) + 1 ≤ ordinal (address_of b)
 ordinal_rises a b x y below =
     let at : a.net ≤ 32767 = x.net in let ad : a.node ≤ 32767 = x.node in
     let bt : b.net ≤ 32767 = y.net in let bd : b.node ≤ 32767 = y.node in
@@ -103,7 +102,7 @@ four : (a b c d e f g h : ℕ) → a ≡ e → b ≡ f → c ≡ g → d ≡ h �
 four a b c d e f g h w x y z = rw (w, x, y, z) refl
 
 -- a count in four bytes is two numbers
-count_halves : (count : ℕ) → to_be_bytes w32 count ≡ to_be_bytes w16 (count / 65536) ++ to_be_bytes w16 (count % 65536)
+pub count_halves : (count : ℕ) → to_be_bytes w32 count ≡ to_be_bytes w16 (count / 65536) ++ to_be_bytes w16 (count % 65536)
 count_halves count = four _ _ _ _ _ _ _ _ (omega arith) (omega arith) (omega arith) (omega arith)
 
 low_half : (count : ℕ) (p : Bool) → eqb (count / 65536) 1 ≡ p → count ≤ 65536 → count % 65536 ≤ cond p 0 65535

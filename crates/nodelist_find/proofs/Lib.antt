@@ -3,6 +3,7 @@ pub mod Found
 pub mod IndexLaw
 pub mod LookUp
 pub mod OneNode
+pub mod Opened
 pub mod ReadBack
 pub mod SpotNumbers
 pub mod Told

@@ -173,3 +173,13 @@ fn counts_over_65536_fit_no_index(rt: HostRuntime) {
     assert_eq!(rt; bad(b"nodeidx1\0\x02\0\0"), Some(IndexFault::Bad(9)));
     assert_eq!(rt; bad(b"nodeidx1\x01\0\0\0"), Some(IndexFault::Bad(8)));
 }
+
+#[test]
+fn an_index_that_ends_within_a_node_is_told_at_its_end(rt: HostRuntime) {
+    let bad = |bytes: &[u8]| Index::open(rt.alloc(), bytes).err();
+    let whole = b"nodeidx1\0\0\0\x01\0\x02\0\x02\0\0\0\x03abc\x5f\xea";
+    assert_eq!(rt; bad(whole), None);
+    for end in 0..whole.len() {
+        assert_eq!(rt; bad(&whole[..end]), Some(IndexFault::Bad(end as u64)));
+    }
+}

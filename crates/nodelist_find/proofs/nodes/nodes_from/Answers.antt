@@ -4,9 +4,9 @@ use Rattle.nodelist_comp.specs.Node.{ListedNode}
 use Rattle.nodelist_comp.specs.Views.{listed}
 use Rattle.nodelist_find.proofs.OneNode.{IsBelow, below_push, nodes_more, rising_more}
 use Rattle.nodelist_find.proofs.SpotNumbers.{ordinal-spot_at}
-use Rattle.nodelist_find.specs.Nodes.{Bounds, IsAmong, address_of, bounds_for, node_at, nodes_from, ordinal, spot_at}
+use Rattle.nodelist_find.specs.Nodes.{Bounds, IsAmong, address_of, bounds_for, node_at, nodes_from, ordinal}
 use Rattle.nodelist_find.specs.Rising.{Rising}
-use Rattle.nodelist_find.specs.Views.{bounds, seen, spot}
+use Rattle.nodelist_find.specs.Views.{seen}
 use Rattle.nodelist_find.proofs.nodes.nodes_from.Goals as goal
 
 pub loop-left-preserved : goal.loop-left-preserved
