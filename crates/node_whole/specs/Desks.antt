@@ -1,0 +1,89 @@
+-- What a desk's answers say, and what every desk tells of its session.
+use Rattle.std.specs.Prelude.{◌≡◌, ℕ, ◌-◌, ◌≤◌, Bool, true, false, Option, Some, None, Result, Ok, Err, length}
+use Rattle.node_whole.specs.declared.desk.DeskFault.{DeskFault}
+use Rattle.node_whole.specs.declared.desk.DeskFault.TheVariants as D
+use Rattle.node_whole.specs.declared.desk.Knock.{Knock}
+use Rattle.node_whole.specs.declared.desk.Knock.TheVariants.{Come}
+use Rattle.node_whole.specs.declared.desk.FileIn.{FileIn}
+use Rattle.node_whole.specs.declared.desk.FileIn.TheVariants as F
+use Rattle.node_whole.specs.declared.desk.DataIn.{DataIn}
+use Rattle.node_whole.specs.declared.desk.DataIn.TheVariants as I
+use Rattle.node_whole.specs.Rows.{Have, Go, Whole, From, Late}
+use Rattle.node_whole.specs.Calls.{Call, File_call, Data_call, Open_call, Leave_call, Fault, Disk, Full, No_memory, Answer, Let_in, Begun, Filed, More, Whole_now, Settled, Refused, Knows, Tells, Counts_alone}
+use Rattle.std.specs.Option.{is_some}
+use Rattle.node_whole.specs.Node.{Node, session_at}
+use Rattle.node_whole.specs.Talk.{Part, part_at}
+
+abbrev pub fault_of : DeskFault → Fault
+fault_of (D.Disk count) = Disk count
+fault_of D.Full = Full
+fault_of D.NoMemory = No_memory
+
+abbrev pub knock_answer : Result Knock DeskFault → Answer
+knock_answer (Ok Come) = Let_in
+knock_answer (Err fault) = Refused (fault_of fault)
+
+abbrev pub begin_answer : Result ℕ DeskFault → Answer
+begin_answer (Ok number) = Begun number
+begin_answer (Err fault) = Refused (fault_of fault)
+
+abbrev pub file_answer : Result FileIn DeskFault → Answer
+file_answer (Ok F.Go) = Filed Go
+file_answer (Ok F.Whole) = Filed Whole
+file_answer (Ok F.Have) = Filed Have
+file_answer (Ok (F.From place)) = Filed (From place)
+file_answer (Ok F.Late) = Filed Late
+file_answer (Err fault) = Refused (fault_of fault)
+
+abbrev pub data_answer : Result DataIn DeskFault → Answer
+data_answer (Ok I.More) = More
+data_answer (Ok I.Whole) = Whole_now
+data_answer (Err fault) = Refused (fault_of fault)
+
+abbrev pub leave_answer : Result (Unit {0}) DeskFault → Answer
+leave_answer (Ok done) = Settled
+leave_answer (Err fault) = Refused (fault_of fault)
+
+-- whether a session is open, and the file that it holds
+pub record DeskPart : Type 0 where
+  pub open_now : Bool
+  pub held : Option Part
+
+abbrev pub less : ℕ → Option Part → Option Part
+less n None = None
+less n (Some p) = Some (record p { left = p.left - n })
+
+-- the file that is held after a call
+abbrev pub held_after : Option Part → Call → Answer → Option Part
+held_after old (File_call key offset) (Filed Go) = Some (record { key = key; left = key.size - offset; taking = true })
+held_after old (File_call key offset) (Filed (From place)) = Some (record { key = key; left = key.size - place; taking = false })
+held_after old (File_call key offset) answer = None
+held_after old (Data_call bytes) More = less (length bytes) old
+held_after old (Data_call bytes) Whole_now = None
+held_after old Leave_call Settled = None
+held_after old call answer = old
+
+abbrev pub open_after : Bool → Call → Answer → Bool
+open_after old (Open_call role peers secure moment) (Begun number) = true
+open_after old Leave_call Settled = false
+open_after old call answer = old
+
+abbrev pub part_after : DeskPart → Call → Answer → DeskPart
+part_after old call answer = record { open_now = open_after old.open_now call answer; held = held_after old.held call answer }
+
+-- so many bytes fit what is held
+pub record Fits (part : DeskPart) (n : ℕ) : Type 0 where
+  pub held : Part
+  pub is : part.held ≡ Some held
+  pub taking : held.taking ≡ true
+  pub fits : n ≤ held.left
+
+-- the part is that of the seat's session: whether one is open, and the file that it holds
+pub record IsPartAt (part : DeskPart) (seat : ℕ) (n : Node) : Type 0 where
+  pub opened : part.open_now ≡ is_some (session_at n seat)
+  pub held : part.held ≡ part_at n seat
+
+-- the same where a desk tells its node, and that isn't broken: of a broken store no held file is told
+abbrev pub PartTold : DeskPart → ℕ → Knows → Type 0
+PartTold part seat (Tells n) = n.broken ≡ None → IsPartAt part seat n
+PartTold part seat (Counts_alone c) = Unit {0}
