@@ -10,9 +10,9 @@
 //! changed its part. `docs/gate.md` tells how it works.
 //!
 //! ```
-//! let (gate, mut passes) = Gate::new(alloc, value, 2)?;
+//! let Ok((gate, mut passes)) = Gate::new(alloc, value, 2) else { .. };
 //! let mut held = gate.enter(rt, &mut passes[0]);
-//! held.value.append(passes[0].seat(), entry)?;
+//! held.value.append(passes[0].seat(), entry);
 //! held.leave(&gate, &mut passes[0]);
 //! let value = gate.close(passes);
 //! ```

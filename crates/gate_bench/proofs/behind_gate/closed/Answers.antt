@@ -1,7 +1,6 @@
-use Rattle.std.proofs.Common.{◌≡◌, ◌∙◌, sym, ap, subst}
+use Rattle.std.proofs.Common.{◌≡◌, ◌∙◌, subst}
 use Rattle.gate_bench.specs.Counting.{count_of}
 use Rattle.turn_gate.specs.Passes.{view}
-use Rattle.turn_gate.specs.Turns.{IsContinued}
 use Rattle.turn_gate.proofs.Orders.{in_order, at_seat}
 use Rattle.gate_bench.proofs.behind_gate.closed.Goals as goal
 

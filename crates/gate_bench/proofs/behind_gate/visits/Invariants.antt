@@ -1,4 +1,4 @@
-use Rattle.std.proofs.Common.{◌≡◌, ◌<◌}
+use Rattle.std.proofs.Common.{◌≡◌}
 use Rattle.gate_bench.specs.Counting.{count_of}
 use Rattle.turn_gate.specs.Passes.{IsFree, view}
 use Rattle.gate_bench.proofs.behind_gate.visits.Given as goal
