@@ -25,6 +25,7 @@ fn a_copy_is_made_in_pieces_and_synced_later(rt: HostRuntime) -> Result<(), Fail
         seen.take().as_str(),
         "stat d1/x,open d1/x,fstat d1/x,unlink c1/a,"
     );
+    assert_eq!(rt; yard.write_at(&a, 0, b"x"), Err(Failed));
     assert_eq!(rt; yard.stat(&a), Ok(None));
     seen.take();
     let copied = yard.copy(&x, &a, 5);
@@ -65,6 +66,7 @@ fn a_taken_and_a_given_file_is_synced_in_both_folders(rt: HostRuntime) -> Result
     assert_eq!(rt; yard.names(&folder).map(|names| names.len()), Ok(1));
     assert_eq!(rt; seen.take().as_str(), "list d2/,");
     assert_eq!(rt; yard.take(&bytes(alloc, b"d2/y")?, &a), Ok(Moved::Done));
+    yard.write_at(&a, 0, b"A")?;
     seen.take();
     assert_eq!(rt; yard.give(&a, &z, &y), Ok(Giving::Given));
     assert_eq!(rt;
@@ -72,7 +74,8 @@ fn a_taken_and_a_given_file_is_synced_in_both_folders(rt: HostRuntime) -> Result
         "lstat n2/m/y,lstat c2/a,stat n2/m,stat n2,mkdir n2,open .,sync .,stat n2/m,mkdir n2/m,\
          open n2,sync n2,rename c2/a n2/m/y,open n2/m,sync n2/m,open c2,sync c2,"
     );
-    assert_eq!(rt; fs::read(&rt, "n2/m/y")?.as_slice(), b"abc".as_slice());
+    assert_eq!(rt; yard.write_at(&a, 0, b"x"), Err(Failed));
+    assert_eq!(rt; fs::read(&rt, "n2/m/y")?.as_slice(), b"Abc".as_slice());
     Ok(())
 }
 

@@ -110,6 +110,11 @@ fn a_file_that_grows_is_copied_as_it_is_read(rt: HostRuntime) -> Result<(), Fail
     assert_eq!(rt; fs::read(&rt, "s4")?.as_slice(), b"raced".as_slice());
     // A file that has more bytes than its size says.
     let long = bytes(alloc, b"/proc/self/status")?;
+    let Ok(Copied::Copied(stat)) = yard.copy(&long, &a, 100000) else {
+        return Err(Failed.into());
+    };
+    assert!(rt; 9 < stat.size);
+    assert_eq!(rt; yard.stat(&a), Ok(Some(stat.size)));
     assert_eq!(rt; yard.copy(&long, &a, 9), Ok(Copied::Over));
     assert_eq!(rt; yard.stat(&a), Ok(None));
     Ok(())
