@@ -296,7 +296,8 @@ fn torn_block_is_no_payload(rt: HostRuntime) -> Result<(), Fail> {
     assert_eq!(rt; ledger.append(&mut disk, b"one"), Err(AppendFault::Disk));
     let bytes = file_of(alloc, &mut disk)?;
     // Of the 6 bytes behind the gate, the length, the payload and the next gate, three are there.
-    assert_eq!(rt; bytes[16..], b"\x00\x00\x03o"[..]);
+    let wanted = b"binkpldg\x00\x00\x00\x01\x00\x00\x00\x00\x00\x00\x03o";
+    assert_eq!(rt; bytes.as_slice(), wanted.as_slice());
     assert_eq!(rt; count_of(alloc, disk), Ok(0));
     Ok(())
 }
