@@ -4,7 +4,7 @@ use Rattle.std.proofs.lemmas.Bool.Decides.{Decides-eqb}
 use Rattle.ftn_addr.specs.Address.{Address}
 use Rattle.ftn_addr.specs.Key.{Key}
 use Rattle.ftn_addr.specs.Files.{is_same}
-use Rattle.node_whole.specs.declared.words.TheConstants.{GREATEST_NUMBER}
+use Rattle.ftn_addr.specs.declared.limits.TheConstants.{MAX_NUMBER}
 use Rattle.node_whole.specs.Items.{Receipt, Refusal, Mark}
 use Rattle.node_whole.specs.Lists.{Each}
 use Rattle.node_whole.specs.Durable.{Durable, is_known, mark_of, bytes_of_mark, marked}
@@ -55,7 +55,7 @@ drawn_more a b = omega arith
 number_drawn : (a b : ℕ) → b ≤ max a b
 number_drawn a b = omega arith
 
-part_few : (n : Node) (from : Address) (key : Key) (number : ℕ) → PartNumber n from key number → n.drawn ≤ GREATEST_NUMBER → max n.drawn number ≤ GREATEST_NUMBER
+part_few : (n : Node) (from : Address) (key : Key) (number : ℕ) → PartNumber n from key number → n.drawn ≤ MAX_NUMBER → max n.drawn number ≤ MAX_NUMBER
 part_few n from key number part few = let a = part.few in omega (arith, a, few)
 
 part_numbered : (n : Node) (from : Address) (key : Key) (number : ℕ) → is_known from key n.state ≡ false → PartNumber n from key number → StoreFits n.state n.staged n.drawn → Numbered n.state (max n.drawn number) from key number

@@ -3,7 +3,7 @@ use Rattle.std.proofs.Common.{◌≡◌, ◌≢◌, ℕ, ◌≤◌, false, List,
 use Rattle.ftn_addr.specs.Address.{Address}
 use Rattle.ftn_addr.specs.Key.{Key}
 use Rattle.ftn_addr.specs.Files.{is_same}
-use Rattle.node_whole.specs.declared.words.TheConstants.{GREATEST_NUMBER}
+use Rattle.ftn_addr.specs.declared.limits.TheConstants.{MAX_NUMBER}
 use Rattle.node_whole.specs.Items.{Entry, Receipt, Refusal, Mark}
 use Rattle.node_whole.specs.Lists.{Each}
 use Rattle.node_whole.specs.Durable.{Durable, is_known, mark_of, bytes_of_mark, marked, unmarked, with_mark, with_receipt, with_refusal}
@@ -121,7 +121,7 @@ seat_drawn begun begun' settings d drawn drawn' s later more f =
     go None h = tt
     go (Some h) o = hold_on settings d d drawn drawn' s.first s.hold_places h refl o.new o.marks o.receipts more o
 
-pub store_drawn : (d : Durable) (staged staged' drawn drawn' : ℕ) → staged ≤ staged' → drawn ≤ drawn' → drawn' ≤ GREATEST_NUMBER → StoreFits d staged drawn → StoreFits d staged' drawn'
+pub store_drawn : (d : Durable) (staged staged' drawn drawn' : ℕ) → staged ≤ staged' → drawn ≤ drawn' → drawn' ≤ MAX_NUMBER → StoreFits d staged drawn → StoreFits d staged' drawn'
 store_drawn d staged staged' drawn drawn' later more few f =
     record {
       queue = f.queue;

@@ -3,7 +3,8 @@ use Rattle.std.proofs.Common.{◌≡◌, ◌≢◌, ◌⊎◌, ℕ, ◌+◌, ◌
 use Rattle.ftn_addr.specs.Address.{Address}
 use Rattle.ftn_addr.specs.Key.{Key}
 use Rattle.ftn_addr.specs.Files.{is_same}
-use Rattle.node_whole.specs.declared.words.TheConstants.{MOST_RECORDS, GREATEST_NUMBER}
+use Rattle.node_whole.specs.declared.words.TheConstants.{MOST_RECORDS}
+use Rattle.ftn_addr.specs.declared.limits.TheConstants.{MAX_NUMBER}
 use Rattle.node_whole.specs.Items.{Live, Entry, Receipt, Mark}
 use Rattle.node_whole.specs.Lists.{Member, Each}
 use Rattle.node_whole.specs.Durable.{Durable, is_known, marked}
@@ -88,7 +89,7 @@ pub record StoreFits (d : Durable) (staged drawn : ℕ) : Type 0 where
   pub marks_drawn : Each (λ (m : Mark). (1 ≤ m.number) × (m.number ≤ drawn)) d.marks
   pub receipts_drawn : Each (λ (r : Receipt). (1 ≤ r.number) × (r.number ≤ drawn)) d.inbox
   pub queue_staged : Each (λ (e : Entry). e.number ≤ staged) d.queue
-  pub drawn_few : drawn ≤ GREATEST_NUMBER
+  pub drawn_few : drawn ≤ MAX_NUMBER
 
 pub record SeatsFit (n : Node) : Type 0 where
   pub each : (k : ℕ) (s : Session) → session_at n k ≡ Some s → SeatOk n s

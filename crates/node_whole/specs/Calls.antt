@@ -6,7 +6,7 @@ use Rattle.ftn_addr.specs.Key.{Key}
 use Rattle.node_whole.specs.declared.words.Role.{Role}
 use Rattle.node_whole.specs.Durable.{Durable}
 use Rattle.node_whole.specs.Items.{Entry}
-use Rattle.node_whole.specs.declared.words.TheConstants.{GREATEST_NUMBER}
+use Rattle.ftn_addr.specs.declared.limits.TheConstants.{MAX_NUMBER}
 use Rattle.node_whole.specs.Lists.{Each}
 use Rattle.node_whole.specs.Node.{Session, Node, Logged, session_at, hold_in, seat_in, put_seat}
 use Rattle.node_whole.specs.Rows.{KnockCome, KnockBusy, OpenRow, FileAnswer, FileRow, FileFull, DataMore, DataWhole, LeaveRow, mark_any, released, unheld}
@@ -147,7 +147,7 @@ Unmade seat fulls old call new = new ≡ record old { fulls = fulls }
 -- and giving want no place.
 abbrev pub FindsFull : ℕ → Node → Call → Type 0
 FindsFull seat old (Queue_call files taken answered) = QueueFull files taken answered old
-FindsFull seat old (Open_call role peers secure moment) = old.begun ≡ GREATEST_NUMBER
+FindsFull seat old (Open_call role peers secure moment) = old.begun ≡ MAX_NUMBER
 FindsFull seat old Offer_call = OfferFull seat old
 FindsFull seat old (File_call key offset) = FileFull seat key offset old
 FindsFull seat old (Act_call dest) = ActFull dest old

@@ -3,13 +3,13 @@ use Rattle.std.specs.Prelude.{◌≡◌, ℕ, ◌-◌, ◌≤◌, Bool, true, fa
 use Rattle.node_whole.specs.declared.desk.DeskFault.{DeskFault}
 use Rattle.node_whole.specs.declared.desk.DeskFault.TheVariants as D
 use Rattle.node_whole.specs.declared.desk.Knock.{Knock}
-use Rattle.node_whole.specs.declared.desk.Knock.TheVariants.{Come}
+use Rattle.node_whole.specs.declared.desk.Knock.TheVariants as K
 use Rattle.node_whole.specs.declared.desk.FileIn.{FileIn}
 use Rattle.node_whole.specs.declared.desk.FileIn.TheVariants as F
 use Rattle.node_whole.specs.declared.desk.DataIn.{DataIn}
 use Rattle.node_whole.specs.declared.desk.DataIn.TheVariants as I
-use Rattle.node_whole.specs.Rows.{Have, Go, Whole, From, Late}
-use Rattle.node_whole.specs.Calls.{Call, File_call, Data_call, Open_call, Leave_call, Fault, Disk, Full, No_memory, Answer, Let_in, Begun, Filed, More, Whole_now, Settled, Refused, Knows, Tells, Counts_alone}
+use Rattle.node_whole.specs.Rows.{Have, Refuse, Elsewhere, Go, Whole, From, Late}
+use Rattle.node_whole.specs.Calls.{Call, File_call, Data_call, Open_call, Leave_call, Fault, Disk, Full, No_memory, Answer, Let_in, Busy, Begun, Filed, More, Whole_now, Settled, Refused, Knows, Tells, Counts_alone}
 use Rattle.std.specs.Option.{is_some}
 use Rattle.node_whole.specs.Node.{Node, session_at}
 use Rattle.node_whole.specs.Talk.{Part, part_at}
@@ -20,7 +20,8 @@ fault_of D.Full = Full
 fault_of D.NoMemory = No_memory
 
 abbrev pub knock_answer : Result Knock DeskFault → Answer
-knock_answer (Ok Come) = Let_in
+knock_answer (Ok K.Come) = Let_in
+knock_answer (Ok K.Busy) = Busy
 knock_answer (Err fault) = Refused (fault_of fault)
 
 abbrev pub begin_answer : Result ℕ DeskFault → Answer
@@ -31,6 +32,8 @@ abbrev pub file_answer : Result FileIn DeskFault → Answer
 file_answer (Ok F.Go) = Filed Go
 file_answer (Ok F.Whole) = Filed Whole
 file_answer (Ok F.Have) = Filed Have
+file_answer (Ok F.Refuse) = Filed Refuse
+file_answer (Ok F.Elsewhere) = Filed Elsewhere
 file_answer (Ok (F.From place)) = Filed (From place)
 file_answer (Ok F.Late) = Filed Late
 file_answer (Err fault) = Refused (fault_of fault)

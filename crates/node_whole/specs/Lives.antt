@@ -1,6 +1,7 @@
 -- Lives of a node: steps of any of its seats, whatever is called and answered, and stops at any moment (own).
 use Rattle.std.specs.Prelude.{◌≡◌, ◌⊎◌, ℕ, ◌≤◌, List, [], ◌∷◌}
-use Rattle.node_whole.specs.declared.words.TheConstants.{MOST_RECORDS, GREATEST_NUMBER}
+use Rattle.node_whole.specs.declared.words.TheConstants.{MOST_RECORDS}
+use Rattle.ftn_addr.specs.declared.limits.TheConstants.{MAX_NUMBER}
 use Rattle.node_whole.specs.Items.{Entry, Receipt, Mark}
 use Rattle.node_whole.specs.Lists.{Each}
 use Rattle.node_whole.specs.Durable.{Durable}
@@ -21,7 +22,7 @@ pub record OpensWith (d : Durable) (o : Opening) : Type 0 where
   pub staged : Each (λ (e : Entry). e.number ≤ o.staged) d.queue
   pub marks : Each (λ (m : Mark). m.number ≤ o.drawn) d.marks
   pub receipts : Each (λ (r : Receipt). r.number ≤ o.drawn) d.inbox
-  pub few : o.drawn ≤ GREATEST_NUMBER
+  pub few : o.drawn ≤ MAX_NUMBER
 
 abbrev pub Happens : Node → Happening → Node → Type 0
 Happens old (Steps seat call answer) new = NodeStep seat old call answer new

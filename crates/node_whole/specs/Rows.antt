@@ -5,7 +5,8 @@ use Rattle.std.specs.Cmp.Lexicographic.{pointwise}
 use Rattle.ftn_addr.specs.Address.{Address}
 use Rattle.ftn_addr.specs.Files.{is_same}
 use Rattle.ftn_addr.specs.Key.{Key}
-use Rattle.node_whole.specs.declared.words.TheConstants.{MOST_RECORDS, GREATEST_NUMBER, LEAST_STRIDE, STRIDES}
+use Rattle.node_whole.specs.declared.words.TheConstants.{MOST_RECORDS, LEAST_STRIDE, STRIDES}
+use Rattle.ftn_addr.specs.declared.limits.TheConstants.{MAX_NUMBER}
 use Rattle.node_whole.specs.declared.words.Role.{Role}
 use Rattle.node_whole.specs.declared.words.Role.TheVariants.{Calls, Answers}
 use Rattle.node_whole.specs.Items.{Receipt, Mark}
@@ -72,7 +73,7 @@ pub record OpenRow (seat : ℕ) (role : Role) (peers : List Address) (secure : B
   pub others : List Address
   pub has_first : peers ≡ first ∷ others
   pub none_yet : session_at old seat ≡ None
-  pub few : old.begun < GREATEST_NUMBER
+  pub few : old.begun < MAX_NUMBER
   pub after : new ≡ record (with_session seat (Some (new_session (old.begun + 1) role first others secure moment)) old) { begun = old.begun + 1 }
 
 -- File.
@@ -143,7 +144,7 @@ pub record PartNumber (n : Node) (from : Address) (key : Key) (number : ℕ) : T
   pub unheld : (seat : ℕ) (h : Hold) → hold_in (session_at n seat) ≡ Some h → h.number ≢ number
   pub some : 1 ≤ number
   pub next : number ≤ n.drawn + 1
-  pub few : number ≤ GREATEST_NUMBER
+  pub few : number ≤ MAX_NUMBER
 
 -- the unmarked bytes after which a mark is made: 16 MiB, or a 128th of the file, rounded up, where that is more
 abbrev pub stride : ℕ → ℕ
@@ -247,7 +248,7 @@ pub record FileFull (seat : ℕ) (key : Key) (offset : ℕ) (old : Node) : Type 
   pub answer : FileAnswer
   pub applies : Applies seat (unheld session) key offset answer (released seat session old)
   pub cause : LacksRoom (released seat session old) (wanted_places answer (mark_length session key (released seat session old)) key.size)
-      ⊎ ((draws answer ≡ true) × (mark_of session.first key (released seat session old).state ≡ None) × (old.drawn ≡ GREATEST_NUMBER))
+      ⊎ ((draws answer ≡ true) × (mark_of session.first key (released seat session old).state ≡ None) × (old.drawn ≡ MAX_NUMBER))
 
 -- Data.
 

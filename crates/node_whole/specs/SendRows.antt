@@ -6,7 +6,7 @@ use Rattle.ftn_addr.specs.Files.{is_same}
 use Rattle.ftn_addr.specs.Key.{Key}
 use Rattle.ftn_addr.specs.declared.source_file.Action.{Action}
 use Rattle.ftn_addr.specs.declared.source_file.Action.TheVariants.{Leave, Delete, Cut}
-use Rattle.node_whole.specs.declared.words.TheConstants.{GREATEST_NUMBER}
+use Rattle.ftn_addr.specs.declared.limits.TheConstants.{MAX_NUMBER}
 use Rattle.node_whole.specs.declared.words.Flavour.{Flavour}
 use Rattle.node_whole.specs.declared.words.Flavour.TheVariants.{Immediate, Crash, Direct, Normal, Hold as Held_back}
 use Rattle.node_whole.specs.Items.{EntryOf, Entry, Live, ReceiptOf, Receipt}
@@ -71,7 +71,7 @@ pub record QueueRow (seat : ℕ) (files : List NewFile) (taken answered : Option
   pub staged : ℕ
   pub numbers : Each (λ (e : Entry). e.number ≤ staged) queue
   pub risen : old.staged ≤ staged
-  pub few : staged ≤ GREATEST_NUMBER
+  pub few : staged ≤ MAX_NUMBER
   pub after : new ≡ record old { state = with_queued queue answered old.state; log = old.log ++ all_by seat (queued_records files taken answered slots); records = old.records + length (queued_records files taken answered slots); staged = staged }
 
 -- a file that isn't queued yet
@@ -80,7 +80,7 @@ is_new queue f = not (is_queued f.dest f.key queue)
 
 -- There is no place for the records of the files that aren't queued yet, or no number for all that were staged.
 pub record QueueFull (files : List NewFile) (taken answered : Option ℕ) (old : Node) : Type 0 where
-  pub cause : LacksRoom old (count_by (is_new old.state.queue) files + length (taken_records taken ++ answered_records answered)) ⊎ (GREATEST_NUMBER < old.staged + length files)
+  pub cause : LacksRoom old (count_by (is_new old.state.queue) files + length (taken_records taken ++ answered_records answered)) ⊎ (MAX_NUMBER < old.staged + length files)
 
 -- Offer.
 

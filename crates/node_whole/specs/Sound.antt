@@ -7,7 +7,8 @@ use Rattle.node_whole.specs.Durable.{Durable, is_known, is_refused, marked}
 use Rattle.node_whole.specs.Node.{Hold, Session, Seat, peers, Node, session_at, hold_in, claim_in}
 use Rattle.node_whole.specs.Rows.{refuses, places_for}
 use Rattle.ftn_addr.specs.Key.{Key}
-use Rattle.node_whole.specs.declared.words.TheConstants.{MOST_RECORDS, GREATEST_NUMBER}
+use Rattle.node_whole.specs.declared.words.TheConstants.{MOST_RECORDS}
+use Rattle.ftn_addr.specs.declared.limits.TheConstants.{MAX_NUMBER}
 
 -- no two of these are the same
 abbrev pub Distinct : {A : Type 0} → (A → A → Bool) → List A → Type 0
@@ -102,7 +103,7 @@ pub record SoundParts (n : Node) : Type 0 where
   pub receipts_drawn : Each (λ (r : Receipt). (1 ≤ r.number) × (r.number ≤ n.drawn)) n.state.inbox
   pub holds_drawn : (k : ℕ) (h : Hold) → hold_in (session_at n k) ≡ Some h → (1 ≤ h.number) × (h.number ≤ n.drawn)
   pub queue_staged : Each (λ (e : Entry). e.number ≤ n.staged) n.state.queue
-  pub drawn_few : n.drawn ≤ GREATEST_NUMBER
+  pub drawn_few : n.drawn ≤ MAX_NUMBER
 
 abbrev pub places_in : Option Session → ℕ
 places_in None = 0

@@ -4,7 +4,8 @@ use Rattle.ftn_addr.specs.Address.{Address}
 use Rattle.ftn_addr.specs.Counts.{Increased, next_count}
 use Rattle.ftn_addr.specs.Files.{is_same}
 use Rattle.ftn_addr.specs.Key.{Key}
-use Rattle.node_whole.specs.declared.words.TheConstants.{MOST_RECORDS, GREATEST_NUMBER}
+use Rattle.node_whole.specs.declared.words.TheConstants.{MOST_RECORDS}
+use Rattle.ftn_addr.specs.declared.limits.TheConstants.{MAX_NUMBER}
 use Rattle.node_whole.specs.declared.store.PartAt.{PartAt}
 use Rattle.node_whole.specs.declared.store.StoreFault.{StoreFault}
 use Rattle.node_whole.specs.declared.store.StoreFault.TheVariants.{Disk, Read, Full, NoMemory}
@@ -235,7 +236,7 @@ pub record PartFile (number : ℕ) (bytes : List ℕ) (s : Stored) : Type 0 wher
 
 -- what a call does that isn't refused
 abbrev pub StoreDoes : StoreState → StoreCall → StoreAnswer → StoreState → Type 0
-StoreDoes old (Stage bytes) (Staged_as number) new = (number ≡ old.staged + 1) × (number ≤ GREATEST_NUMBER) × (new ≡ with_staged bytes old)
+StoreDoes old (Stage bytes) (Staged_as number) new = (number ≡ old.staged + 1) × (number ≤ MAX_NUMBER) × (new ≡ with_staged bytes old)
 StoreDoes old (Queue_all taken answered files) (Slots slots) new =
     (slots ≡ slots_of files old.stock.staged old.stock.state.queue)
     × (old.records + old.reserved + length (queueing_records taken answered files old) ≤ MOST_RECORDS)
@@ -244,7 +245,7 @@ StoreDoes old (Settle number session) Well new = new ≡ settled number session 
 StoreDoes old (Refuse_file from key session reason) Well new = new ≡ refused (record { from = from; key = key }) session reason old
 StoreDoes old (Part_open from key) (Part_opened part len) new =
     (part ≡ part_number from key old.drawn old.stock) × (len ≡ begins_with 0 (mark_of from key old.stock.state))
-    × (part ≤ GREATEST_NUMBER) × (new ≡ opened from key old)
+    × (part ≤ MAX_NUMBER) × (new ≡ opened from key old)
 StoreDoes old (Part_put part bytes) Well new = new ≡ with_bytes part bytes old
 StoreDoes old (Part_mark part) Well new = (p : MarkOf ℕ) × (part_in part old.stock.parts ≡ Some p) × (new ≡ marked_part p old)
 StoreDoes old (Commit part session secure) Well new =
@@ -263,10 +264,10 @@ StoreDoes _ _ _ _ = ⊥
 
 -- No place for the records that are wanted, or no number. A record that uses a reserved place wants none.
 abbrev pub IsFull : StoreCall → StoreState → Type 0
-IsFull (Stage bytes) s = s.staged ≡ GREATEST_NUMBER
+IsFull (Stage bytes) s = s.staged ≡ MAX_NUMBER
 IsFull (Queue_all taken answered files) s = MOST_RECORDS < s.records + s.reserved + length (queueing_records taken answered files s)
 IsFull (Part_open from key) s =
-    (draws_number (mark_of from key s.stock.state) (part_of from key s.stock.parts) ≡ true) × (s.drawn ≡ GREATEST_NUMBER)
+    (draws_number (mark_of from key s.stock.state) (part_of from key s.stock.parts) ≡ true) × (s.drawn ≡ MAX_NUMBER)
 IsFull (Reserve places) s = MOST_RECORDS < s.records + s.reserved + places
 IsFull _ s = ⊥
 

@@ -29,6 +29,8 @@ pub enum DeskFault {
 #[derive(Clone, Copy, Debug, PartialEq, Eq)]
 pub enum Knock {
     Come,
+    /// As many answering sessions are open as the settings allow.
+    Busy,
 }
 
 /// What becomes of a file that the peer offers.
@@ -40,6 +42,10 @@ pub enum FileIn {
     Whole,
     /// It was received or refused before.
     Have,
+    /// The settings refuse it, and that was recorded.
+    Refuse,
+    /// Another session holds it.
+    Elsewhere,
     /// It is to be offered from that place, behind what came of it before; this session holds it, and no data is taken.
     From(u64),
     /// A second time it wasn't offered from the place that was asked for.

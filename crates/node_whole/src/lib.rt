@@ -45,4 +45,4 @@ pub use laws::{
     sound_in_every_life, worked_answers_happen, worked_receiving_happens, worked_sending_happens,
 };
 pub use store::{LivePlace, NewFile, PartAt, Slot, Store, StoreFault};
-pub use words::{Flavour, GREATEST_NUMBER, Known, LEAST_STRIDE, MOST_RECORDS, Role, STRIDES};
+pub use words::{Flavour, Known, LEAST_STRIDE, MOST_RECORDS, Role, STRIDES};

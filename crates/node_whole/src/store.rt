@@ -79,7 +79,7 @@ pub type LivePlace = (Flavour, u32);
 /// Contracts see its state, and what a stop at each moment may have left. Every call that can answer
 /// [`StoreFault::Disk`] wants a store that isn't broken. Each address and key keeps its limits.
 ///
-/// Left out: staging and queueing files, outside files, giving and acting.
+/// Left out: outside files, giving and acting.
 pub trait Store {
     ghost stand: { Self → StoreStand };
 
@@ -121,6 +121,24 @@ pub trait Store {
     /// The records appended from now on are this seat's. It takes no memory.
     fn by(&mut self, seat: u32)
         ensures { StoreKept (stand self.old) (By_seat seat) Well (stand self.new) };
+
+    /// Puts a file under the next queue number, which it answers. It isn't queued yet, and a stop loses it.
+    fn stage(&mut self, alloc: Global, bytes: &[u8]) -> Result<u32, StoreFault>
+        requires { (stand self.old).state.counts.broken ≡ None }
+        ensures { StoreKept (stand self.old) (Stage bytes.now) (staged_answer result) (stand self.new) };
+
+    /// Queues staged files, notes the take that brought them, and that they answer a received request, in one
+    /// durable change. Numbers rise. A file whose address has its key already is [`Slot::Again`], and isn't kept.
+    fn queue_all(
+        &mut self,
+        alloc: Global,
+        take: Option<u32>,
+        answered: Option<u32>,
+        files: &[NewFile],
+    ) -> Result<Vec<Slot>, StoreFault>
+        requires whole { (stand self.old).state.counts.broken ≡ None }
+        requires batch { IsNewBatch take answered (map entry_of files.now) (stand self.old).state }
+        ensures { MatchResult result (λ slots. StoreKept (stand self.old) (Queue_all take answered (map entry_of files.now)) (Slots (map slot_of slots.items)) (stand self.new)) (λ fault. StoreKept (stand self.old) (Queue_all take answered (map entry_of files.now)) (Refuses fault) (stand self.new)) };
 
     /// Settles a live entry, which loses its bytes. It uses a reserved place and takes no memory.
     fn done(&mut self, number: u32, session: u32) -> Result<(), StoreFault>

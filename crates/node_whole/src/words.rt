@@ -3,9 +3,6 @@
 /// The most records that a ledger has, held and reserved.
 pub const MOST_RECORDS: u32 = 262_144;
 
-/// The greatest number of a session, a queued file or a part.
-pub const GREATEST_NUMBER: u32 = 4_294_967_295;
-
 /// The least stride of marks: a file is marked anew after that many unmarked bytes, or after a part of its size where
 /// that is more.
 pub const LEAST_STRIDE: u64 = 16_777_216;

@@ -28,7 +28,6 @@ module _ {T X E P : Type 0} {g : Ghosts T X E P} where
   abbrev pub view : Pass T X E P g → View X
   view p = p.token.me.0
 
-  -- the state of the value that the gate was made with
   -- a pass of this gate that has no turn
   pub record IsFree (gate : Gate T X E P) (p : Pass T X E P g) : Type 0 where
     pub of : p.token.table_id ≡ gate.table.shared.table_id
