@@ -173,7 +173,7 @@ IsSkip call = ⊥
 
 -- the seat's count of reads that were refused
 abbrev pub one_read_more : ℕ → Node → Node
-one_read_more seat n = record n { seats = put_seat seat (record (seat_in n.seats seat) { reads = (seat_in n.seats seat).reads + 1 }) n.seats }
+one_read_more seat n = record n { seats = put_seat seat (record (seat_in n.seats seat) { reads = next_count (seat_in n.seats seat).reads }) n.seats }
 
 -- A call that is refused. Only reading answers Read; a skip is never refused.
 abbrev pub NotMade : ℕ → Node → Call → Fault → Node → Type 0
@@ -263,8 +263,8 @@ pub record CountsRise (old new : Counts) : Type 0 where
 
 -- a seat counts what its own calls answered
 abbrev pub SeatCounted : SeatCounts → Answer → SeatCounts → Type 0
-SeatCounted old Busy new = (new.busy ≡ old.busy + 1) × (new.reads ≡ old.reads)
-SeatCounted old (Refused (Read count)) new = (new.busy ≡ old.busy) × (new.reads ≡ old.reads + 1)
+SeatCounted old Busy new = (new.busy ≡ next_count old.busy) × (new.reads ≡ old.reads)
+SeatCounted old (Refused (Read count)) new = (new.busy ≡ old.busy) × (new.reads ≡ next_count old.reads)
 SeatCounted old answer new = (new.busy ≡ old.busy) × (new.reads ≡ old.reads)
 
 -- other seats change the counts of the store alone

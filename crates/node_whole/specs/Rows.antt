@@ -3,6 +3,7 @@ use Rattle.std.specs.Prelude.{◌≡◌, ◌≢◌, ◌⊎◌, ℕ, Bool, true, 
 use Rattle.std.specs.Char.{to_ascii_lowercase}
 use Rattle.std.specs.Cmp.Lexicographic.{pointwise}
 use Rattle.ftn_addr.specs.Address.{Address}
+use Rattle.ftn_addr.specs.Counts.{next_count}
 use Rattle.ftn_addr.specs.Files.{is_same}
 use Rattle.ftn_addr.specs.Key.{Key}
 use Rattle.node_whole.specs.declared.words.TheConstants.{MOST_RECORDS, LEAST_STRIDE, STRIDES}
@@ -54,7 +55,7 @@ pub record KnockCome (seat : ℕ) (role : Role) (old new : Node) : Type 0 where
 
 -- the seat's count of knocks that were turned away
 abbrev pub one_busy_more : ℕ → Node → Node
-one_busy_more seat n = record n { seats = put_seat seat (record (seat_in n.seats seat) { busy = (seat_in n.seats seat).busy + 1 }) n.seats }
+one_busy_more seat n = record n { seats = put_seat seat (record (seat_in n.seats seat) { busy = next_count (seat_in n.seats seat).busy }) n.seats }
 
 pub record KnockBusy (seat : ℕ) (role : Role) (old new : Node) : Type 0 where
   pub answers_calls : is_answering role ≡ true
