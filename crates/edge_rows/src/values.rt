@@ -1,0 +1,13 @@
+//! Names and paths that the tests are made with.
+use disk_model::Name;
+use ftn_addr::{Bytes, Failed};
+use std::alloc::Global;
+use std::test::Fail;
+
+pub fn name(text: &[u8]) -> Result<Name, Failed> {
+    Name::new(text).ok_or(Failed)
+}
+
+pub fn bytes(alloc: Global, text: &[u8]) -> Result<Bytes, Fail> {
+    Ok(Bytes::from_slice(alloc, text)?)
+}
