@@ -5,6 +5,7 @@ use disk_model::{Copied, Disk, Giving, Hit, Marking, Moved, OutStat, Yard};
 use ftn_addr::Failed;
 use real_edge::RealFolder;
 use std::fs;
+use std::os::unix::fs::MetadataExt;
 use std::test::Fail;
 
 #[test]
@@ -164,5 +165,26 @@ fn a_file_is_cut_and_removed_only_as_it_was(rt: HostRuntime) -> Result<(), Fail>
         "stat d5/x,unlink d5/x,open d5,sync d5,"
     );
     assert_eq!(rt; yard.look(&x), Ok(None));
+    Ok(())
+}
+
+// A look and a copy tell the system's size and time.
+#[test]
+fn a_file_has_the_time_that_the_system_gives_it(rt: HostRuntime) -> Result<(), Fail> {
+    fs::create_dir(&rt, "c6")?;
+    fs::write(&rt, "x6", b"abc".as_slice())?;
+    let time = u64::try_from(fs::metadata(&rt, "x6")?.mtime())?;
+    let x = bytes(rt.alloc(), b"x6")?;
+    let was = OutStat { size: 3, time };
+    let mut yard = RealFolder::new(rt, "c6")?;
+    assert!(rt; 1_500_000_000 < time);
+    assert_eq!(rt; yard.look(&x), Ok(Some(was)));
+    assert_eq!(rt; yard.copy(&x, &name(b"a")?, 3), Ok(Copied::Copied(was)));
+    let earlier = OutStat {
+        time: time.saturating_sub(1),
+        ..was
+    };
+    assert_eq!(rt; yard.remove_if(&x, &earlier), Ok(Hit::Other));
+    assert_eq!(rt; yard.cut_if(&x, &earlier), Ok(Hit::Other));
     Ok(())
 }
