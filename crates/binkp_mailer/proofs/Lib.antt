@@ -1,1 +1,3 @@
+pub mod NewStore
+pub mod ReservedStore
 pub mod TopCalls

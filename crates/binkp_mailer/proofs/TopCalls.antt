@@ -1,33 +1,35 @@
 -- What a held session tells of the call's status, and of receipts.
-use Rattle.std.proofs.Common.{◌≡◌, ◌⊎◌, ◌∙◌, ℕ, ◌+◌, ◌-◌, ◌≤◌, ◌<◌, arith, true, List, ◌++◌, length, Option, Some, None, refl, sym, ap, subst, inl, inr}
+use Rattle.std.proofs.Common.{◌≡◌, ◌⊎◌, ◌∙◌, ℕ, ◌+◌, ◌-◌, ◌≤◌, ◌<◌, arith, Bool, true, List, [], ◌∷◌, ◌++◌, length, Option, Some, None, option_map, refl, sym, ap, subst, inl, inr}
 use Rattle.ftn_addr.specs.Address.{Address}
-use Rattle.node_model.specs.Calls.{Counts, counts_of, DeskState, Turned, Knows, Tells}
-use Rattle.node_model.specs.Node.{Node}
-use Rattle.node_model.specs.Receipts.{HasOnce, TellsOnce, KnownStays, StaysReceived}
-use Rattle.node_model.specs.Stores.{Stored, StoreState}
+use Rattle.node_model.specs.Calls.{Counts, counts_of, DeskState, Turns, Turned, Knows, Tells, Counts_alone}
 use Rattle.node_model.specs.Durable.{Durable}
-use Rattle.node_model.specs.Images.{RanAt}
-use Rattle.node_model.specs.Stores.{StoreStand}
-use Rattle.node_model.proofs.Alone.{exact}
-use Rattle.node_model.proofs.KeptReceipts.{turns_stay, along_stays, kept_receipts}
-use Rattle.node_model.proofs.OneReceipt.{turns_once}
-use Rattle.node_model.proofs.Rans.{opens_weaker}
-use Rattle.node_model.proofs.ReceiptsAlong.{along_once}
-use Rattle.session_run.proofs.Chains.{whole_leads}
+use Rattle.node_model.specs.Images.{Stand, OpensTo, RanAt}
+use Rattle.node_model.specs.Lives.{Happening, Lives, LivesPast, KnownPast, KnownLives}
+use Rattle.node_model.specs.Node.{Node, plain_settings}
+use Rattle.node_model.specs.Receipts.{HasOnce, KnownStays, SettledStays}
+use Rattle.node_model.specs.Sound.{Sound}
+use Rattle.node_model.specs.Stores.{Shelf, Stored, StoreState, StoreStand, IfTold, OpensShelf}
+use Rattle.node_model.proofs.KeptReceipts.{kept_receipts}
+use Rattle.node_model.proofs.Lives.{life_once, life_past_once, life_stays, life_past_stays}
+use Rattle.node_model.proofs.ReceiptsStay.{stays_same, stays_on}
 use Rattle.session_core.specs.Ends.{End}
 use Rattle.session_core.specs.Ends as E
 use Rattle.binkp_mailer.specs.declared.status.Status.{Status}
 use Rattle.std.proofs.lemmas.List.{length-append}
 use Rattle.ftn_addr.specs.Frames.{FrameText}
 use Rattle.binkp_link.specs.Lines.{LineBytes, LineState, Moves}
+use Rattle.session_run.proofs.Chains.{whole_leads}
+use Rattle.session_run.proofs.RanPast.{ran_past, whole_lives}
 use Rattle.session_run.proofs.Settings.{reach_setting}
 use Rattle.session_run.specs.Machine.{Phase, opening}
 use Rattle.session_core.specs.Sessions.{Setting, Stage}
 use Rattle.session_run.specs.Laws.{WholeRun, IsSession, Facts, OwnCause, OwnCauseAt, EndCount, EndCountAt, LineCause, LineCauseAt, DeskCause, DeskCauseAt}
-use Rattle.hub_core.specs.Seats.{Sitting, node_of, seat_stand, told}
+use Rattle.hub_core.specs.Hubs.{HubState, Fitted, HubFits, knows_over, node_with, hub_stand, seen, state_of}
+use Rattle.hub_core.specs.Opening.{no_seats, with_seat, IsWhole}
+use Rattle.hub_core.proofs.Seating.{fitted_more}
 use Rattle.binkp_mailer.specs.Statuses.{status_after}
 use Rattle.binkp_mailer.specs.declared.status.Status.TheVariants as S
-use Rattle.binkp_mailer.specs.TopCall.{Calls_in_turn, none_yet, one_more, ReachesLimit, HeldSession, HasOnceTold, StaysTold, StatusCause, Answers_line, Turned_away, Held_one, StopsOf, IsCall, EachStop, one_seat, lent}
+use Rattle.binkp_mailer.specs.TopCall.{Calls_in_turn, none_yet, one_more, MayServe, ReachesLimit, HeldSession, HasOnceTold, OnceAfter, StaysTold, StatusCause, Answers_line, Turned_away, Held_one, StopsOf, IsCall, EachStop, IfTells, new_hub, first_seat, lent}
 use Rattle.binkp_mailer.specs.Words.{AreWords}
 
 -- Endless comes only where the limit was reached
@@ -52,6 +54,7 @@ own_limit E.LineFault s stage frames met made taken sent old new is m c = tt
 own_limit (E.DiskFault count) s stage frames met made taken sent old new is m c = tt
 own_limit E.LedgerFull s stage frames met made taken sent old new is m c = tt
 own_limit E.Quiet s stage frames met made taken sent old new is m c = tt
+own_limit E.TurnedAway s stage frames met made taken sent old new is m c = tt
 own_limit E.NoMemory s stage frames met made taken sent old new is m c = tt
 
 from_causes : (end : End) (line line' : LineState) (counts counts' : Counts) → counts.broken ≡ None → EndCount end line.ends line'.ends → LineCause end line.faults line'.faults line'.calm → DeskCause end counts counts' → LimitCause end line.bytes line'.bytes → StatusCause (status_after end) line line' counts counts'
@@ -64,65 +67,131 @@ from_causes (E.DiskFault count) line line' counts counts' whole e l (inr rose) m
 from_causes E.LedgerFull line line' counts counts' whole e l d m = (d, e)
 from_causes E.Quiet line line' counts counts' whole e l d m = (l, e)
 from_causes E.Endless line line' counts counts' whole e l d m = (m, e)
+from_causes E.TurnedAway line line' counts counts' whole e l d m = e
 from_causes E.NoMemory line line' counts counts' whole e l d m = e
+
+-- a seat tells the counts of its store
+told_counts : (s : StoreState) (h : HubState) → counts_of (first_seat s h).knows ≡ s.counts
+told_counts s h = go s.content
+  where
+    go : (c : Option Stored) → counts_of (knows_over c s h 0) ≡ s.counts
+    go None = refl
+    go (Some a) = refl
 
 pub held_causes : (home : Address) (moment : ℕ) (line : LineState) (store : StoreState) (status : Status) (line' : LineState) (store' : StoreState) → HeldSession home moment line store status line' store' → store.counts.broken ≡ None → StatusCause status line line' store.counts store'.counts
 held_causes home moment line store status line' store' h whole =
     let s = h.session in
-    let f : Facts true line (one_seat store 0 None) s.last = s.facts in
+    let f : Facts true line (first_seat store new_hub) s.last = s.facts in
     let ends : EndCount h.end line.ends line'.ends = subst (λ (x : LineState). EndCount h.end line.ends x.ends) s.line_is (subst (λ (p : Phase). EndCountAt p line.ends s.last.line.ends) s.closed f.ends) in
     let lines : LineCause h.end line.faults line'.faults line'.calm = subst (λ (x : LineState). LineCause h.end line.faults x.faults x.calm) s.line_is (subst (λ (p : Phase). LineCauseAt p line.faults s.last.line.faults s.last.line.calm) s.closed f.line_cause) in
-    let desks : DeskCause h.end store.counts store'.counts = subst (λ (x : Knows). DeskCause h.end store.counts (counts_of x)) (sym s.desk_is.drift) (subst (λ (p : Phase). DeskCauseAt p store.counts (counts_of s.last.desk.knows)) s.closed (f.desk_cause refl)) in
+    let from : Counts = counts_of (first_seat store new_hub).knows in
+    let left : DeskCause h.end from (counts_of (first_seat store' h.hub).knows) = subst (λ (x : Knows). DeskCause h.end from (counts_of x)) (sym s.desk_is.drift) (subst (λ (p : Phase). DeskCauseAt p from (counts_of s.last.desk.knows)) s.closed f.desk_cause) in
+    let desks : DeskCause h.end store.counts store'.counts = subst (λ (c : Counts). DeskCause h.end c store'.counts) (told_counts store new_hub) (subst (λ (c : Counts). DeskCause h.end from c) (told_counts store' h.hub) left) in
     let own : OwnCause h.end s.last.setting s.last.stage s.last.frames s.last.last_stage s.last.last_calls s.last.taken s.last.sent = subst (λ (p : Phase). OwnCauseAt p s.last.setting s.last.stage s.last.frames s.last.last_stage s.last.last_calls s.last.taken s.last.sent) s.closed f.own_cause in
-    let setting : s.last.setting.limit ≡ 17592186044416 = ap (λ (x : Setting). x.limit) (reach_setting true (opening (lent home moment) line (one_seat store 0 None)) s.last s.run) in
+    let setting : s.last.setting.limit ≡ 17592186044416 = ap (λ (x : Setting). x.limit) (reach_setting true (opening (lent home moment) line (first_seat store new_hub)) s.last s.run) in
     let limit : LimitCause h.end line.bytes line'.bytes = subst (λ (x : LineState). LimitCause h.end line.bytes x.bytes) s.line_is (own_limit h.end s.last.setting s.last.stage s.last.frames s.last.last_stage s.last.last_calls s.last.taken s.last.sent line.bytes s.last.line.bytes setting f.moves own) in
     subst (λ (x : Status). StatusCause x line line' store.counts store'.counts) (sym h.status_is) (from_causes h.end line line' store.counts store'.counts whole ends lines desks limit)
 
-once_told : (content : Option Stored) → HasOnceTold content → HasOnce (told content).state
-once_told None once = tt
-once_told (Some kept) once = once
+-- What a store tells that a call is lent is sound, at the seat of a new hub.
+sound_node : (s : StoreState) (a : Stored) → Fitted s (no_seats plain_settings) → s.content ≡ Some a → Sound (node_with a s new_hub)
+sound_node s a f is =
+    let more = fitted_more s (no_seats plain_settings) f in
+    let same : a ≡ more.keeps = subst (λ (c : Option Stored). IfTold c (λ b. b ≡ more.keeps)) is more.tells in
+    subst (λ (b : Stored). Sound (node_with b s new_hub)) (sym same) more.fits.sound
 
-told_once : (content : Option Stored) → HasOnce (told content).state → HasOnceTold content
-told_once None once = tt
-told_once (Some kept) once = once
+-- the same of a seat
+sound_seat : (s : StoreState) (n : Node) → Fitted s (no_seats plain_settings) → (first_seat s new_hub).knows ≡ Tells n → Sound n
+sound_seat s n f tells = go s.content refl
+  where
+    go : (c : Option Stored) → s.content ≡ c → Sound n
+    go None is = absurd (let w : Knows = knows_over s.content s new_hub 0 in let e : knows_over None s new_hub 0 ≡ Tells n = subst (λ (x : Option Stored). knows_over x s new_hub 0 ≡ Tells n) is tells in cc)
+    go (Some a) is =
+        let e : Tells (node_with a s new_hub) ≡ Tells n = subst (λ (x : Option Stored). knows_over x s new_hub 0 ≡ Tells n) is tells in
+        let same : node_with a s new_hub ≡ n = cc in
+        subst Sound same (sound_node s a f is)
 
-known_node : (knows : Knows) (n : Node) → TellsOnce knows → knows ≡ Tells n → HasOnce n.state
-known_node knows n t is =
-    let same : Tells t.node ≡ Tells n = sym t.tells ∙ is in
-    let node : t.node ≡ n = cc in
-    subst (λ (x : Node). HasOnce x.state) node t.once
+-- Receipts.
 
-pub held_once : (home : Address) (moment : ℕ) (line : LineState) (store : StoreState) (status : Status) (line' : LineState) (store' : StoreState) → HeldSession home moment line store status line' store' → HasOnceTold store.content → HasOnceTold store'.content
-held_once home moment line store status line' store' h once =
-    let s = h.session in
-    let kept : TellsOnce s.last.desk.knows = turns_once (one_seat store 0 None) s.last.events s.last.desk (node_of store 0 None) (whole_leads _ _ _ _ _ _ _ _ s) refl refl (once_told store.content once) in
-    told_once store'.content (known_node s.last.desk.knows (node_of store' h.begun h.sitting) kept (sym s.desk_is.drift))
+once_now : (s : StoreState) → Fitted s (no_seats plain_settings) → HasOnceTold s.content
+once_now s f = go s.content refl
+  where
+    go : (c : Option Stored) → s.content ≡ c → HasOnceTold c
+    go None is = tt
+    go (Some a) is = life_once (node_with a s new_hub) [] (node_with a s new_hub) refl (sound_node s a f is)
 
-pub answers_once : (words : List (List ℕ)) (moment : ℕ) (line : LineState) (store : StoreState) (status : Status) (line' : LineState) (store' : StoreState) → Answers_line words moment line store status line' store' → HasOnceTold store.content → HasOnceTold store'.content
-answers_once words moment line store status line' store' (Turned_away why line_is store_is) once = subst (λ (x : StoreState). HasOnceTold x.content) (sym store_is) once
-answers_once words moment line store status line' store' (Held_one home are h) once = held_once home moment line store status line' store' h once
+lives_once : (s t : StoreState) (h : HubState) → Fitted s (no_seats plain_settings) → KnownLives (first_seat s new_hub).knows (first_seat t h).knows → OnceAfter s.content t.content
+lives_once s t h f = go s.content t.content refl
+  where
+    go : (c e : Option Stored) → s.content ≡ c → KnownLives (knows_over c s new_hub 0) (knows_over e t h 0) → OnceAfter c e
+    go None e is l = tt
+    go (Some a) None is l = absurd l
+    go (Some a) (Some b) is l = life_once (node_with a s new_hub) l.0 (node_with b t h) l.1 (sound_node s a f is)
 
--- what was received stays received
-pub held_stays : (home : Address) (moment : ℕ) (line : LineState) (store : StoreState) (status : Status) (line' : LineState) (store' : StoreState) → HeldSession home moment line store status line' store' → StaysTold store.content store'.content
-held_stays home moment line store status line' store' h =
-    let s = h.session in
-    let stays : KnownStays (Tells (node_of store 0 None)) s.last.desk.knows = turns_stay true (one_seat store 0 None) s.last.events s.last.desk (whole_leads _ _ _ _ _ _ _ _ s) in
-    subst (λ (x : Knows). KnownStays (Tells (node_of store 0 None)) x) (sym s.desk_is.drift) stays
+lives_stay : (s t : StoreState) (h : HubState) → KnownLives (first_seat s new_hub).knows (first_seat t h).knows → StaysTold s.content t.content
+lives_stay s t h = go s.content t.content
+  where
+    go : (c e : Option Stored) → KnownLives (knows_over c s new_hub 0) (knows_over e t h 0) → StaysTold c e
+    go None e l = tt
+    go (Some a) None l = absurd l
+    go (Some a) (Some b) l = life_stays (node_with a s new_hub) l.0 (node_with b t h) l.1
+
+self_stays : (c : Option Stored) → StaysTold c c
+self_stays None = tt
+self_stays (Some a) = stays_same a.stock.state a.stock.state refl
+
+stays_then : (a b c : Option Stored) → StaysTold a b → StaysTold b c → StaysTold a c
+stays_then None b c first second = tt
+stays_then (Some a) None c first second = absurd first
+stays_then (Some a) (Some b) None first second = absurd second
+stays_then (Some a) (Some b) (Some c) first second = stays_on a.stock.state b.stock.state c.stock.state first second
+
+held_lives : (home : Address) (moment : ℕ) (line : LineState) (store : StoreState) (status : Status) (line' : LineState) (store' : StoreState) (h : HeldSession home moment line store status line' store') → KnownLives (first_seat store new_hub).knows (first_seat store' h.hub).knows
+held_lives home moment line store status line' store' h =
+    whole_lives true (lent home moment) line (first_seat store new_hub) h.end h.taken line' (first_seat store' h.hub) h.session
+
+pub answers_once : (words : List (List ℕ)) (moment : ℕ) (line : LineState) (store : StoreState) (status : Status) (line' : LineState) (store' : StoreState) → Answers_line words moment line store status line' store' → Fitted store (no_seats plain_settings) → OnceAfter store.content store'.content
+answers_once words moment line store status line' store' (Turned_away why line_is store_is) f =
+    subst (λ (x : StoreState). OnceAfter store.content x.content) (sym store_is) (go store.content (once_now store f))
+  where
+    go : (c : Option Stored) → HasOnceTold c → OnceAfter c c
+    go None once = tt
+    go (Some a) once = once
+answers_once words moment line store status line' store' (Held_one home are h) f = lives_once store store' h.hub f (held_lives home moment line store status line' store' h)
+
+-- a call that does nothing
+pub none_once : (s : StoreState) → Fitted s (no_seats plain_settings) → OnceAfter s.content s.content
+none_once s f = go s.content (once_now s f)
+  where
+    go : (c : Option Stored) → HasOnceTold c → OnceAfter c c
+    go None once = tt
+    go (Some a) once = once
+
+pub none_stays : (c : Option Stored) → StaysTold c c
+none_stays c = self_stays c
 
 pub answers_stay : (words : List (List ℕ)) (moment : ℕ) (line : LineState) (store : StoreState) (status : Status) (line' : LineState) (store' : StoreState) → Answers_line words moment line store status line' store' → StaysTold store.content store'.content
-answers_stay words moment line store status line' store' (Turned_away why line_is store_is) = subst (λ (x : StoreState). StaysTold store.content x.content) (sym store_is) (λ from key has. has)
-answers_stay words moment line store status line' store' (Held_one home are h) = held_stays home moment line store status line' store' h
+answers_stay words moment line store status line' store' (Turned_away why line_is store_is) = subst (λ (x : StoreState). StaysTold store.content x.content) (sym store_is) (self_stays store.content)
+answers_stay words moment line store status line' store' (Held_one home are h) = lives_stay store store' h.hub (held_lives home moment line store status line' store' h)
 
 pub calls_stay : (store new : StoreState) → Calls_in_turn store new → StaysTold store.content new.content
-calls_stay store new none_yet = λ from key has. has
-calls_stay store new (one_more {old} before words moment status line line' answers) =
-    λ from key has. answers_stay words moment line old status line' new answers from key (calls_stay store old before from key has)
+calls_stay store new none_yet = self_stays store.content
+calls_stay store new (one_more {old} before may words moment status line line' answers) =
+    stays_then store.content old.content new.content (calls_stay store old before) (answers_stay words moment line old status line' new answers)
 
 -- whatever the statuses, and however many calls
-pub calls_once : (store new : StoreState) → Calls_in_turn store new → HasOnceTold store.content → HasOnceTold new.content
-calls_once store new none_yet once = once
-calls_once store new (one_more {old} before words moment status line line' answers) once =
-    answers_once words moment line old status line' new answers (calls_once store old before once)
+pub calls_once : (store new : StoreState) → Calls_in_turn store new → IfTold store.content (λ a. HasOnceTold store.content → HasOnceTold new.content)
+calls_once store new none_yet = go store.content
+  where
+    go : (c : Option Stored) → IfTold c (λ a. HasOnceTold c → HasOnceTold c)
+    go None = tt
+    go (Some a) = λ once. once
+calls_once store new (one_more {old} before may words moment status line line' answers) =
+    go store.content old.content (calls_stay store old before) (answers_once words moment line old status line' new answers may.fits)
+  where
+    go : (c e : Option Stored) → StaysTold c e → OnceAfter e new.content → IfTold c (λ a. HasOnceTold c → HasOnceTold new.content)
+    go None e stays once = tt
+    go (Some a) None stays once = absurd stays
+    go (Some a) (Some b) stays once = λ before. once
 
 turned_causes : (status : Status) (line : LineState) (counts : Counts) → (status ≡ S.Usage) ⊎ (status ≡ S.NoMemory) → StatusCause status line line counts counts
 turned_causes status line counts (inl e) = subst (λ (x : Status). StatusCause x line line counts counts) (sym e) refl
@@ -133,36 +202,78 @@ answers_causes words moment line store status line' store' (Turned_away why line
     subst (λ (x : LineState). StatusCause status line x store.counts store'.counts) (sym line_is) (subst (λ (x : StoreState). StatusCause status line line store.counts x.counts) (sym store_is) (turned_causes status line store.counts why))
 answers_causes words moment line store status line' store' (Held_one home are h) whole = held_causes home moment line store status line' store' h whole
 
+-- The seat of a session is the same at its end.
+
+turns_seat : (alone : Bool) (a : DeskState) (es : List Turned) (b : DeskState) → Turns alone a es b → b.seat ≡ a.seat
+turns_seat alone a [] b same = ap (λ (d : DeskState). d.seat) same
+turns_seat alone a (e ∷ es) b (mid, made, rest) = turns_seat alone mid es b rest ∙ made.seat
+
+pub session_seat : (alone : Bool) (s : Setting) (line : LineState) (desk : Stand) (end : End) (taken : ℕ) (line' : LineState) (desk' : Stand) → IsSession alone s line desk end taken line' desk' → desk'.state.seat ≡ desk.state.seat
+session_seat alone s line desk end taken line' desk' x =
+    x.whole.desk_is.seat ∙ turns_seat alone desk.state x.whole.last.events x.whole.last.desk (whole_leads alone s line desk.state end taken line' desk'.state x.whole)
+
 -- What a stop may leave.
 
+shelf_opens : (P : Durable → Type 0) (e : Option Shelf) → OpensTo P (option_map state_of e) → OpensShelf (λ s. P s.state) e
+shelf_opens P None o = absurd o
+shelf_opens P (Some s) o = o
+
 -- the call, from the session that its seat held
-pub held_call : (words : List (List ℕ)) (home : Address) (moment : ℕ) (line : LineState) (store : StoreStand) (status : Status) (line' : LineState) (store' : StoreStand) (end : End) (taken begun : ℕ) (sitting : Option Sitting) → AreWords words home → status ≡ status_after end → IsSession true (lent home moment) line (seat_stand store 0 None) end taken line' (seat_stand store' begun sitting) → IsCall words moment line store status line' store'
-held_call words home moment line store status line' store' end taken begun sitting are is x = record {
-  answers = Held_one home are (record { end = end; status_is = is; taken = taken; begun = begun; sitting = sitting; session = x.whole });
-  stops = record { ran = x.ran; kept = λ k d after until i. kept_receipts true (seat_stand store 0 None) x.whole.last.events (seat_stand store' begun sitting) x.ran k d after until i };
+pub held_call : (words : List (List ℕ)) (home : Address) (moment : ℕ) (line : LineState) (store : StoreStand) (status : Status) (line' : LineState) (store' : StoreStand) (end : End) (taken : ℕ) (hub : HubState) → AreWords words home → status ≡ status_after end → IsSession true (lent home moment) line (hub_stand store new_hub 0) end taken line' (hub_stand store' hub 0) → IsCall words moment line store status line' store'
+held_call words home moment line store status line' store' end taken hub are is x = record {
+  answers = Held_one home are (record { end = end; status_is = is; taken = taken; hub = hub; session = x.whole });
+  stops = record { ran = x.ran; kept = λ k e after until i. kept_receipts true (hub_stand store new_hub 0) x.whole.last.events (hub_stand store' hub 0) x.ran k e.state after until (Some e, i, refl) };
 }
 
 -- nothing was done
 pub turned_call : (words : List (List ℕ)) (moment : ℕ) (line : LineState) (store : StoreStand) (status : Status) → (status ≡ S.Usage) ⊎ (status ≡ S.NoMemory) → IsCall words moment line store status line store
-turned_call words moment line store status why = record { answers = Turned_away why refl refl; stops = record { moment = refl; images = λ k d i. i } }
+turned_call words moment line store status why = record { answers = Turned_away why refl refl; stops = record { moment = refl; images = λ k e i. i } }
 
 no_moment : {A : Type 0} (m k : ℕ) → m < k → k ≤ m → A
 no_moment m k a b = absurd (omega (arith, a, b))
 
-pub stops_once : (words : List (List ℕ)) (moment : ℕ) (line : LineState) (store : StoreStand) (status : Status) (line' : LineState) (store' : StoreStand) → IsCall words moment line store status line' store' → HasOnceTold store.state.content → EachStop store store' HasOnce
-stops_once words moment line store status line' store' call once = go call.answers call.stops
+-- each image since is of a state that the store passes in its life
+stops_past : (words : List (List ℕ)) (moment : ℕ) (line : LineState) (store : StoreStand) (status : Status) (line' : LineState) (store' : StoreStand) → IsCall words moment line store status line' store' → EachStop store store' (KnownPast (first_seat store.state new_hub).knows)
+stops_past words moment line store status line' store' call = go call.answers call.stops
   where
-    go : (a : Answers_line words moment line store.state status line' store'.state) → StopsOf words moment line store status line' store' a → EachStop store store' HasOnce
-    go (Turned_away why line_is store_is) same = λ k d after until i. no_moment store.moment k after (subst (λ (m : ℕ). k ≤ m) same.moment until)
-    go (Held_one home are h) s = λ k d after until i.
-        opens_weaker _ _ (λ e p. along_once (one_seat store.state 0 None) h.session.last.events s.ran.last (node_of store.state 0 None) s.ran.chain store.moment s.ran.times k e p refl refl (once_told store.state.content once)) d
-        ((exact (seat_stand store 0 None) h.session.last.events (seat_stand store' h.begun h.sitting) s.ran).since k d after until i)
+    go : (a : Answers_line words moment line store.state status line' store'.state) → StopsOf words moment line store status line' store' a → EachStop store store' (KnownPast (first_seat store.state new_hub).knows)
+    go (Turned_away why line_is store_is) same = λ k e after until i. no_moment store.moment k after (subst (λ (m : ℕ). k ≤ m) same.moment until)
+    go (Held_one home are h) s = λ k e after until i.
+        shelf_opens (KnownPast (first_seat store.state new_hub).knows) e (ran_past true (hub_stand store new_hub 0) h.session.last.events (hub_stand store' h.hub 0) s.ran k (option_map state_of e) after until (e, i, refl))
 
-pub stops_stay : (words : List (List ℕ)) (moment : ℕ) (line : LineState) (store : StoreStand) (status : Status) (line' : LineState) (store' : StoreStand) → IsCall words moment line store status line' store' → EachStop store store' (StaysReceived (told store.state.content).state)
-stops_stay words moment line store status line' store' call = go call.answers call.stops
+opens_so : (P Q : Durable → Type 0) → ((d : Durable) → P d → Q d) → (e : Option Shelf) → OpensShelf (λ s. P s.state) e → OpensShelf (λ s. Q s.state) e
+opens_so P Q f None o = absurd o
+opens_so P Q f (Some s) o = f s.state o
+
+past_in : (s : StoreState) (a : Stored) (d : Durable) → s.content ≡ Some a → KnownPast (first_seat s new_hub).knows d → KnownPast (Tells (node_with a s new_hub)) d
+past_in s a d is p = subst (λ (c : Option Stored). KnownPast (knows_over c s new_hub 0) d) is p
+
+pub stops_once : (words : List (List ℕ)) (moment : ℕ) (line : LineState) (store : StoreStand) (status : Status) (line' : LineState) (store' : StoreStand) → IsCall words moment line store status line' store' → Fitted store.state (no_seats plain_settings) → IfTells store store' (λ old. HasOnce)
+stops_once words moment line store status line' store' call f = go store.state.content refl
   where
-    go : (a : Answers_line words moment line store.state status line' store'.state) → StopsOf words moment line store status line' store' a → EachStop store store' (StaysReceived (told store.state.content).state)
-    go (Turned_away why line_is store_is) same = λ k d after until i. no_moment store.moment k after (subst (λ (m : ℕ). k ≤ m) same.moment until)
-    go (Held_one home are h) s = λ k d after until i.
-        opens_weaker _ _ (λ e p. along_stays true (one_seat store.state 0 None) h.session.last.events s.ran.last (node_of store.state 0 None) s.ran.chain store.moment s.ran.times k e p refl) d
-        ((exact (seat_stand store 0 None) h.session.last.events (seat_stand store' h.begun h.sitting) s.ran).since k d after until i)
+    go : (c : Option Stored) → store.state.content ≡ c → IfTold c (λ kept. EachStop store store' HasOnce)
+    go None is = tt
+    go (Some a) is = λ k e after until i.
+        opens_so (KnownPast (first_seat store.state new_hub).knows) HasOnce
+        (λ d p. let q = past_in store.state a d is p in life_past_once (node_with a store.state new_hub) q.0 q.1 q.2 d q.3 (sound_node store.state a f is)) e
+        (stops_past words moment line store status line' store' call k e after until i)
+
+pub stops_stay : (words : List (List ℕ)) (moment : ℕ) (line : LineState) (store : StoreStand) (status : Status) (line' : LineState) (store' : StoreStand) → IsCall words moment line store status line' store' → IfTells store store' SettledStays
+stops_stay words moment line store status line' store' call = go store.state.content refl
+  where
+    go : (c : Option Stored) → store.state.content ≡ c → IfTold c (λ kept. EachStop store store' (SettledStays kept.stock.state))
+    go None is = tt
+    go (Some a) is = λ k e after until i.
+        opens_so (KnownPast (first_seat store.state new_hub).knows) (SettledStays a.stock.state)
+        (λ d p. let q = past_in store.state a d is p in life_past_stays (node_with a store.state new_hub) q.0 q.1 q.2 d q.3) e
+        (stops_past words moment line store status line' store' call k e after until i)
+
+-- the call, from the session of the first seat of a new hub
+pub seated_call : (words : List (List ℕ)) (home : Address) (moment : ℕ) (line : LineState) (store : StoreStand) (status : Status) (line' : LineState) (store' : StoreStand) (end : End) (taken : ℕ) (hub hub' : HubState) (seat seat' : ℕ) → AreWords words home → status ≡ status_after end → hub ≡ new_hub → seat ≡ 0 → IsSession true (lent home moment) line (hub_stand store hub seat) end taken line' (hub_stand store' hub' seat') → IsCall words moment line store status line' store'
+seated_call words home moment line store status line' store' end taken hub hub' seat seat' are is hub_is seat_is x =
+    let s = lent home moment in
+    let still : seat' ≡ 0 = session_seat true s line (hub_stand store hub seat) end taken line' (hub_stand store' hub' seat') x ∙ seat_is in
+    held_call words home moment line store status line' store' end taken hub' are is
+    (subst (λ (k : ℕ). IsSession true s line (hub_stand store new_hub 0) end taken line' (hub_stand store' hub' k)) still
+    (subst (λ (k : ℕ). IsSession true s line (hub_stand store new_hub k) end taken line' (hub_stand store' hub' seat')) seat_is
+    (subst (λ (h : HubState). IsSession true s line (hub_stand store h seat) end taken line' (hub_stand store' hub' seat')) hub_is x)))

@@ -17,6 +17,7 @@ number_of_status S.Quiet = 8
 number_of_status (S.Broke cause frame) = 12
 number_of_status S.Endless = 13
 number_of_status S.NoMemory = 17
+number_of_status S.TurnedAway = 21
 
 -- the status of a command whose session ended so
 abbrev pub status_after : End → Status
@@ -28,4 +29,5 @@ status_after (E.DiskFault faults) = S.DiskFault faults
 status_after E.LedgerFull = S.LedgerFull
 status_after E.Quiet = S.Quiet
 status_after E.Endless = S.Endless
+status_after E.TurnedAway = S.TurnedAway
 status_after E.NoMemory = S.NoMemory

@@ -2,18 +2,20 @@
 use Rattle.std.specs.Prelude.{◌≡◌, ◌⊎◌, ℕ, ◌+◌, ◌-◌, ◌≤◌, ◌<◌, true, List, length, Option, Some, None}
 use Rattle.ftn_addr.specs.Address.{Address}
 use Rattle.ftn_addr.specs.Counts.{Increased, CountGrew, next_count}
-use Rattle.node_model.specs.Calls.{Counts, DeskState, Tells}
+use Rattle.node_model.specs.Calls.{Counts, DeskState}
 use Rattle.node_model.specs.Durable.{Durable}
-use Rattle.node_model.specs.Images.{OpensTo, RanAt}
-use Rattle.node_model.specs.Receipts.{HasOnce, StaysReceived, HasAt}
-use Rattle.node_model.specs.Stores.{Stored, StoreState, StoreStand, IfTold}
+use Rattle.node_model.specs.Images.{RanAt}
+use Rattle.node_model.specs.Node.{plain_settings}
+use Rattle.node_model.specs.Receipts.{HasOnce, SettledStays, HasAt}
+use Rattle.node_model.specs.Stores.{Shelf, Stored, StoreState, StoreStand, IfTold, OpensShelf}
 use Rattle.session_core.specs.Ends.{End}
 use Rattle.binkp_mailer.specs.declared.status.Status.{Status}
 use Rattle.binkp_mailer.specs.declared.status.Status.TheVariants as S
 use Rattle.binkp_link.specs.Lines.{LineBytes, LineState}
 use Rattle.session_core.specs.Sessions.{Setting}
 use Rattle.session_run.specs.Laws.{WholeRun}
-use Rattle.hub_core.specs.Seats.{Sitting, node_of, seat_stand, told}
+use Rattle.hub_core.specs.Hubs.{HubState, Fitted, knows_over, hub_stand}
+use Rattle.hub_core.specs.Opening.{no_seats, with_seat}
 use Rattle.binkp_mailer.specs.Statuses.{status_after}
 use Rattle.binkp_mailer.specs.Words.{AreWords}
 
@@ -21,18 +23,21 @@ use Rattle.binkp_mailer.specs.Words.{AreWords}
 abbrev pub lent : Address → ℕ → Setting
 lent home moment = record { home = home; moment = moment; limit = 17592186044416 }
 
--- the one seat of a node over a store, with so many sessions begun
-abbrev pub one_seat : StoreState → ℕ → Option Sitting → DeskState
-one_seat store begun sitting = record { seat = 0; knows = Tells (node_of store begun sitting) }
+-- a hub that refuses nothing, with one seat
+abbrev pub new_hub : HubState
+new_hub = with_seat (no_seats plain_settings)
 
--- a whole session over the line, at a node over the store; with it the call ended so
+-- that seat, over a store
+abbrev pub first_seat : StoreState → HubState → DeskState
+first_seat store hub = record { seat = 0; knows = knows_over store.content store hub 0 }
+
+-- a whole session over the line, at the seat of a new hub over the store; with it the call ended so
 pub record HeldSession (home : Address) (moment : ℕ) (line : LineState) (store : StoreState) (status : Status) (line' : LineState) (store' : StoreState) : Type 0 where
   pub end : End
   pub status_is : status ≡ status_after end
   pub taken : ℕ
-  pub begun : ℕ
-  pub sitting : Option Sitting
-  pub session : WholeRun true (lent home moment) line (one_seat store 0 None) end taken line' (one_seat store' begun sitting)
+  pub hub : HubState
+  pub session : WholeRun true (lent home moment) line (first_seat store new_hub) end taken line' (first_seat store' hub)
 
 -- A session was held, where the words are those of a call; else nothing was done.
 pub data Answers_line (words : List (List ℕ)) (moment : ℕ) (line : LineState) (store : StoreState) (status : Status) (line' : LineState) (store' : StoreState) : Type 0 where
@@ -42,12 +47,12 @@ pub data Answers_line (words : List (List ℕ)) (moment : ℕ) (line : LineState
 -- What a stop may leave of a store that was only handed back: what it might have left before.
 pub record SameImages (store store' : StoreStand) : Type 0 where
   pub moment : store'.moment ≡ store.moment
-  pub images : (k : ℕ) (d : Option Durable) → store'.images k d → store.images k d
+  pub images : (k : ℕ) (e : Option Shelf) → store'.images k e → store.images k e
 
 -- What a stop may leave of a session's calls, and that each image has what was received when any call before it ended.
 pub record HeldImages (home : Address) (moment : ℕ) (line : LineState) (store : StoreStand) (status : Status) (line' : LineState) (store' : StoreStand) (held : HeldSession home moment line store.state status line' store'.state) : Type 0 where
-  pub ran : RanAt true (seat_stand store 0 None) held.session.last.events (seat_stand store' held.begun held.sitting)
-  pub kept : (k : ℕ) (d : Durable) → store.moment < k → k ≤ store'.moment → store'.images k (Some d) → HasAt true (one_seat store.state 0 None) held.session.last.events ran.last ran.chain ran.times k d
+  pub ran : RanAt true (hub_stand store new_hub 0) held.session.last.events (hub_stand store' held.hub 0)
+  pub kept : (k : ℕ) (e : Shelf) → store.moment < k → k ≤ store'.moment → store'.images k (Some e) → HasAt true (first_seat store.state new_hub) held.session.last.events ran.last ran.chain ran.times k e.state
 
 abbrev pub StopsOf : (words : List (List ℕ)) (moment : ℕ) (line : LineState) (store : StoreStand) (status : Status) (line' : LineState) (store' : StoreStand) → Answers_line words moment line store.state status line' store'.state → Type 0
 StopsOf words moment line store status line' store' (Turned_away why line_is store_is) = SameImages store store'
@@ -60,7 +65,12 @@ pub record IsCall (words : List (List ℕ)) (moment : ℕ) (line : LineState) (s
 
 -- a stop at any moment since leaves a durable state of which this holds
 abbrev pub EachStop : StoreStand → StoreStand → (Durable → Type 0) → Type 0
-EachStop store store' P = (k : ℕ) (d : Option Durable) → store.moment < k → k ≤ store'.moment → store'.images k d → OpensTo P d
+EachStop store store' P =
+    (k : ℕ) (e : Option Shelf) → store.moment < k → k ≤ store'.moment → store'.images k e → OpensShelf (λ s. P s.state) e
+
+-- the same of a store that tells what it keeps
+abbrev pub IfTells : StoreStand → StoreStand → (Durable → Durable → Type 0) → Type 0
+IfTells store store' P = IfTold store.state.content (λ kept. EachStop store store' (P kept.stock.state))
 
 -- the bytes taken from a line and sent on it reached 16 TiB, where it tells them
 abbrev pub ReachesLimit : Option LineBytes → Option LineBytes → Type 0
@@ -82,13 +92,25 @@ StatusCause status line line' counts counts' = line'.ends ≡ line.ends
 
 -- no sender and key has two receipts
 abbrev pub HasOnceTold : Option Stored → Type 0
-HasOnceTold content = IfTold content (λ kept. HasOnce kept.state)
+HasOnceTold content = IfTold content (λ kept. HasOnce kept.stock.state)
 
--- what is received in the store before is received in it after
+-- the same of a store that told what it keeps before
+abbrev pub OnceAfter : Option Stored → Option Stored → Type 0
+OnceAfter None new = Unit {0}
+OnceAfter (Some old) new = HasOnceTold new
+
+-- what is received or refused in the store before is so in it after, with its bytes
 abbrev pub StaysTold : Option Stored → Option Stored → Type 0
-StaysTold old new = StaysReceived (told old).state (told new).state
+StaysTold None new = Unit {0}
+StaysTold (Some old) None = ⊥
+StaysTold (Some old) (Some new) = SettledStays old.stock.state new.stock.state
+
+-- a store that isn't broken and fits a new hub: what a call asks of it
+pub record MayServe (store : StoreState) : Type 0 where
+  pub whole : store.counts.broken ≡ None
+  pub fits : Fitted store (no_seats plain_settings)
 
 -- calls of the program over one store, one after another: each begins with what the one before it left
 pub data Calls_in_turn (store : StoreState) : StoreState → Type 0 where
   none_yet : Calls_in_turn store store
-  one_more : {old new : StoreState} → Calls_in_turn store old → (words : List (List ℕ)) (moment : ℕ) (status : Status) (line line' : LineState) → Answers_line words moment line old status line' new → Calls_in_turn store new
+  one_more : {old new : StoreState} → Calls_in_turn store old → MayServe old → (words : List (List ℕ)) (moment : ℕ) (status : Status) (line line' : LineState) → Answers_line words moment line old status line' new → Calls_in_turn store new

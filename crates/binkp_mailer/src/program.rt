@@ -34,6 +34,7 @@ pub fn explanation(status: Status) -> Option<&'static str>
         | Status::Quiet
         | Status::Broke(_, _)
         | Status::Endless
+        | Status::TurnedAway
         | Status::NoMemory => None,
     }
 }
@@ -67,6 +68,7 @@ pub fn run_program<L: Line, O: Sink>(
 }
 
 // One call over a new store.
+#[tactic(auto, using(crate::proofs::NewStore::new_fits))]
 fn answer<L: Line, O: Sink>(
     alloc: Global,
     words: &[Bytes],

@@ -25,6 +25,8 @@ pub enum Status {
     Broke(Cause, u64),
     /// The bytes taken and written reached the limit.
     Endless,
+    /// As many sessions were open as the settings allow.
+    TurnedAway,
     NoMemory,
 }
 
@@ -44,6 +46,7 @@ impl Status {
             Status::Broke(_, _) => 12,
             Status::Endless => 13,
             Status::NoMemory => 17,
+            Status::TurnedAway => 21,
         }
     }
 }
@@ -61,6 +64,7 @@ pub fn status_of(end: End) -> Status
         End::LedgerFull => Status::LedgerFull,
         End::Quiet => Status::Quiet,
         End::Endless => Status::Endless,
+        End::TurnedAway => Status::TurnedAway,
         End::NoMemory => Status::NoMemory,
     }
 }
@@ -88,5 +92,6 @@ mod tests {
         assert_eq!(rt; status_of(End::Quiet).number(), 8);
         assert_eq!(rt; status_of(End::Endless).number(), 13);
         assert_eq!(rt; status_of(End::NoMemory).number(), 17);
+        assert_eq!(rt; status_of(End::TurnedAway).number(), 21);
     }
 }

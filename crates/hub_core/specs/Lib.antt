@@ -1,4 +1,6 @@
-pub use Rattle.node_model.specs.Desks
-pub mod SeatLaws
-pub mod SeatSteps
-pub mod Seats
+pub mod HubCalls
+pub mod HubLaws
+pub mod Hubs
+pub mod Sending
+pub mod Steps
+pub mod Opening

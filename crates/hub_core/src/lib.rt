@@ -1,25 +1,38 @@
-//! What a session asks of its node.
+//! The desk of any number of sessions over one store.
 //!
-//! [`Desk`] is the trait, given on from `node_model`: each of its calls is one step of the node, with what a stop
-//! may leave of it.
-//! [`Seat`] is the desk of one session that is alone at a store.
+//! A [`Hub`] is a node's store with its seats. [`HubDesk`] is the desk of one seat: each of its calls is one step of the
+//! node ([`Desk`], given on from `node_model`), and leaves the hub sound, with what a stop may leave of it, also over a
+//! store that tells nothing.
 //!
 //! ```
-//! let mut seat = Seat::new(store);
-//! seat.knock(Role::Answers)?;
-//! seat.begin(alloc, Role::Answers, &peers, false, now)?;
-//! if let FileIn::Go = seat.file_in(alloc, &key, 0)? {
-//!     seat.data_in(b"hello")?;                 // `DataIn::Whole`: its receipt is recorded
+//! let mut hub = Hub::new(alloc, store, conf);
+//! let seat = hub.seat()?;
+//! let mut desk = HubDesk { hub, seat };
+//! desk.knock(Role::Answers)?;
+//! desk.begin(alloc, Role::Answers, &peers, false, now)?;
+//! if let FileIn::Go = desk.file_in(alloc, &key, 0)? {
+//!     desk.data_in(b"hello")?;                  // `DataIn::Whole`: its receipt is recorded
 //! }
-//! seat.leave()?;
-//! let store = seat.into_store();
+//! desk.leave()?;
+//! let store = desk.hub.into_store();
 //! ```
 //!
-//! Left out: several sessions over one store, and files that a node offers.
+//! Left out: taking files in, acting on their sources, giving received files, and lending the store.
 #![tactic(auto)]
 
-mod seat;
-mod seat_open;
+mod files;
+mod hub;
+mod judging;
+mod offering;
+mod outgoing;
+mod parts;
+mod places;
+mod seats;
+mod sending;
+mod taking;
+#[cfg(test)]
+mod tests;
 
-pub use node_model::{DataIn, Desk, DeskFault, FileIn, Knock};
-pub use seat::Seat;
+pub use hub::{Hub, HubDesk};
+pub use node_model::{DataIn, Desk, DeskFault, FileIn, Knock, Offer};
+pub use places::HubConf;

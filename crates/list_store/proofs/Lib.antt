@@ -1,4 +1,13 @@
-pub mod ListCalls
+pub mod Answering
+pub mod Batches
+pub mod Kept
+pub mod Lookups
+pub mod Marking
+pub mod Offering
+pub mod Opening
 pub mod Orderly
-pub mod PartPlaces
-pub mod ReceivedFiles
+pub mod PartCalls
+pub mod Places
+pub mod QueueCall
+pub mod Queueing
+pub mod Reading

@@ -1,1 +1,6 @@
+pub mod Comings
 pub mod ListStates
+pub mod Offers
+pub mod Orders
+pub mod Told
+pub mod Views

@@ -1,24 +1,44 @@
-//! A store in memory.
+//! A store in memory, over the node in its whole width.
 //!
-//! [`ListStore`] keeps a node's durable state in lists, and nothing outlives it, so a stop leaves no image of it.
-//! It tells all that it keeps (`specs/ListStates.antt`), and it fails the calls that it was told to fail, as a disk
+//! [`ListStore`] keeps a node's durable state in lists. It tells all that it keeps, and a stop leaves exactly that
+//! (`specs/ListStates.antt`); nothing of it outlives the program. It fails the calls that it was told to fail, as a disk
 //! may: it is the store of tests, and of a program that keeps nothing.
 //!
 //! ```
 //! let mut store = ListStore::new(alloc);
-//! store.reserve(1)?;                           // a place for the receipt
+//! store.reserve(2)?;                           // places for a mark and the receipt
 //! let at = store.part_open(alloc, &sender, &key)?;
-//! store.part_put(at.part, b"hello")?;
+//! store.part_put(at.part, b"hel")?;
+//! store.part_mark(at.part)?;                   // a stop keeps that much
+//! store.part_put(at.part, b"lo")?;
 //! store.commit(at.part, 1, false)?;            // in session 1, without a password
 //! let files = store.receipts();                // one file, `hello`
 //! ```
 //!
-//! Left out: what is queued, refused or marked.
+//! Its files, from the bottom: `lists` puts items behind lists; `log_record` and `place` are a record, and the room for
+//! one; `queued`, `staged`, `received`, `refused` and `open_part` are the items of its lists, with their look-ups;
+//! `plan` says how files are queued together; `list_store` is the store, and `store_calls` its calls.
+//!
+//! Left out: files of other programs, giving received files away, and acting on sources.
 #![tactic(auto)]
 
 mod list_store;
+mod lists;
+mod log_record;
 mod open_part;
+mod place;
+mod plan;
+mod queued;
 mod received;
+mod refused;
+mod staged;
+mod store_calls;
+#[cfg(test)]
+mod tests;
 
 pub use list_store::ListStore;
+pub use log_record::{LogEntry, LogRecord};
+pub use queued::QueuedFile;
 pub use received::Received;
+pub use refused::RefusedFile;
+pub use staged::StagedFile;

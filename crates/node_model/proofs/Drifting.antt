@@ -1,8 +1,9 @@
 -- Steps of other seats, one after another, and before a call.
-use Rattle.std.proofs.Common.{◌≡◌, ◌⊎◌, ℕ, zero, suc, Bool, true, false, ◌≤◌, refl, sym, ◌∙◌, subst, inl, inr, le_refl, arith}
+use Rattle.std.proofs.Common.{◌≡◌, ◌⊎◌, ℕ, zero, suc, Bool, true, false, ◌≤◌, Some, None, refl, sym, ◌∙◌, subst, inl, inr, le_refl, arith}
+use Rattle.ftn_addr.specs.Counts.{Increased}
 use Rattle.node_model.specs.Durable.{Durable}
 use Rattle.node_model.specs.Node.{Node}
-use Rattle.node_model.specs.Calls.{OtherSteps, Knows, Tells, Counts_alone, Drifts, DeskState, Turned, Rowed, CallsBeside}
+use Rattle.node_model.specs.Calls.{OtherSteps, Counts, MayBreak, Knows, Tells, Counts_alone, Drifts, DeskState, Turned, Rowed, CallsBeside}
 use Rattle.node_model.specs.Images.{OthersPass, DriftPasses, RowsPass, TurnPasses, Drifted}
 
 pub record Farther (n seat : ℕ) (a b : Node) (x : OtherSteps n seat a b) (c : Node) : Type 0 where
@@ -36,6 +37,15 @@ pub record DriftJoined (alone : Bool) (seat : ℕ) (a b c : Knows) (x : Drifts a
 le_trans : (a b c : ℕ) → a ≤ b → b ≤ c → a ≤ c
 le_trans a b c x y = omega (arith, x, y)
 
+rose_later : (a b count : ℕ) → a ≤ b → Increased b count → Increased a count
+rose_later a b count le rose = omega (arith, le, rose)
+
+break_once : (a b c : Counts) → a.faults ≤ b.faults → b.faults ≤ c.faults → MayBreak a b → MayBreak b c → MayBreak a c
+break_once a b c first second (inl x) (inl y) = inl (y ∙ x)
+break_once a b c first second (inl x) (inr y) = inr (sym x ∙ y.0, (y.1.0, rose_later a.faults b.faults y.1.0 first y.1.1, y.1.2, y.1.3))
+break_once a b c first second (inr x) (inl y) = inr (x.0, (x.1.0, x.1.1, le_trans x.1.0 b.faults c.faults x.1.2 second, y ∙ x.1.3))
+break_once a b c first second (inr x) (inr y) = absurd (let clash : Some x.1.0 ≡ None = sym x.1.3 ∙ y.0 in cc)
+
 pub drift_join : (alone : Bool) (seat : ℕ) (a b c : Knows) (x : Drifts alone seat a b) (y : Drifts alone seat b c) → DriftJoined alone seat a b c x y
 drift_join true seat a b c x y = record { drift = y ∙ x; left = λ d p. absurd p; right = λ d p. absurd p }
 drift_join false seat (Tells a) (Tells b) (Tells c) (n, xs) (m, ys) =
@@ -43,7 +53,12 @@ drift_join false seat (Tells a) (Tells b) (Tells c) (n, xs) (m, ys) =
     record { drift = (j.far.many, j.far.steps); left = j.far.left; right = j.right }
 drift_join false seat (Counts_alone a) (Counts_alone b) (Counts_alone c) x y =
     record {
-      drift = record { faults = le_trans a.faults b.faults c.faults x.faults y.faults; fulls = le_trans a.fulls b.fulls c.fulls x.fulls y.fulls };
+      drift = record {
+        store = record { faults = le_trans a.store.faults b.store.faults c.store.faults x.store.faults y.store.faults; fulls = le_trans a.store.fulls b.store.fulls c.store.fulls x.store.fulls y.store.fulls };
+        breaks = break_once a.store b.store c.store x.store.faults y.store.faults x.breaks y.breaks;
+        busy = y.busy ∙ x.busy;
+        reads = y.reads ∙ x.reads;
+      };
       left = λ d p. absurd p;
       right = λ d p. absurd p;
     }
@@ -55,7 +70,8 @@ drift_join false seat (Counts_alone a) (Counts_alone b) (Tells c) x y = absurd y
 pub drift_none : (alone : Bool) (seat : ℕ) (a : Knows) → Drifts alone seat a a
 drift_none true seat a = refl
 drift_none false seat (Tells a) = (zero, refl)
-drift_none false seat (Counts_alone a) = record { faults = le_refl a.faults; fulls = le_refl a.fulls }
+drift_none false seat (Counts_alone a) =
+    record { store = record { faults = le_refl a.store.faults; fulls = le_refl a.store.fulls }; breaks = inl refl; busy = refl; reads = refl }
 
 pub drifted_none : (alone : Bool) (a : DeskState) → Drifted alone a a
 drifted_none alone a = record { seat = refl; drift = drift_none alone a.seat a.knows }

@@ -1,11 +1,11 @@
 -- What was received when a call ended stays received in every image since.
-use Rattle.std.proofs.Common.{◌≡◌, ◌⊎◌, ℕ, ◌≤◌, ◌<◌, Bool, List, [], ◌∷◌, Some, sym, ap, subst, inl, inr, arith}
+use Rattle.std.proofs.Common.{◌≡◌, ◌⊎◌, ℕ, ◌≤◌, ◌<◌, Bool, List, [], ◌∷◌, Some, sym, subst, inl, inr, arith}
 use Rattle.node_model.specs.Durable.{Durable}
 use Rattle.node_model.specs.Node.{Node}
 use Rattle.node_model.specs.Calls.{Event, Knows, Tells, Counts_alone, DeskState, Turned, Beside, OwnRow, Made_row, Missing, CallsBeside, Turns}
 use Rattle.node_model.specs.Images.{DriftPasses, BesidePass, OwnPasses, TurnPasses, IsState, Stand, Drifted, AlongAt, SettledAt, Rising, RanAt, last_of}
-use Rattle.node_model.specs.Receipts.{StaysReceived, KnownStays, StaysIn, HasAt}
-use Rattle.node_model.proofs.ReceiptsStay.{self_stays, known_on, known_step, drift_stays, in_on, drift_passes, known_passes, stays_inbox}
+use Rattle.node_model.specs.Receipts.{SettledStays, KnownStays, StaysIn, HasAt}
+use Rattle.node_model.proofs.ReceiptsStay.{self_stays, known_on, known_step, drift_stays, in_on, drift_passes, known_passes, stays_same}
 
 same_stays : (a b : Knows) → b ≡ a → KnownStays a b
 same_stays a b same = subst (KnownStays a) (sym same) (self_stays a)
@@ -56,7 +56,7 @@ along_pass alone a (e ∷ es) b (mid, made, rest) from (t ∷ ts) k d (inl p) = 
 along_pass alone a (e ∷ es) b (mid, made, rest) from (t ∷ ts) k d (inr p) = in_on a.knows mid.knows d (turn_stays alone a e mid made) (along_pass alone mid es b rest t ts k d p)
 
 is_state : (knows : Knows) (d : Durable) → IsState knows d → StaysIn knows d
-is_state (Tells n) d is = stays_inbox n.state d (ap (λ (x : Durable). x.inbox) is)
+is_state (Tells n) d is = stays_same n.state d is
 is_state (Counts_alone c) d is = tt
 
 same_moment : (t k : ℕ) → k ≤ t → t ≤ k → k ≡ t
@@ -71,20 +71,20 @@ later_has alone a [] b c from ts k d r le s = tt
 later_has alone a (e ∷ es) b (mid, made, rest) from [] k d r le s = tt
 later_has alone a (e ∷ es) b (mid, made, rest) from (t ∷ ts) k d r le s =
     let early = le_trans k from t le r.0 in
-    ((λ by settles after. is_state mid.knows d (s.0 (same_moment t k early by) settles after)), later_has alone mid es b rest t ts k d r.1 early s.1)
+    ((λ by settles after whole. is_state mid.knows d (s.0 (same_moment t k early by) settles after whole)), later_has alone mid es b rest t ts k d r.1 early s.1)
 
 has_at : (alone : Bool) (a : DeskState) (es : List Turned) (b : DeskState) (c : Turns alone a es b) (z : DeskState) (tail : Drifted alone b z) (from : ℕ) (ts : List ℕ) (k : ℕ) (d : Durable) → Rising from es ts → AlongAt alone a es b c from ts k d ⊎ ((last_of from ts < k) × DriftPasses alone b.seat b.knows z.knows tail.drift d) → SettledAt alone a es b c ts k (Some d) → HasAt alone a es b c ts k d
 has_at alone a [] b c z tail from ts k d r p s = tt
 has_at alone a (e ∷ es) b (mid, made, rest) z tail from [] k d r p s = tt
 has_at alone a (e ∷ es) b (mid, made, rest) z tail from (t ∷ ts) k d r (inl (inl p)) s =
-    ((λ by settles after. is_state mid.knows d (s.0 (same_moment t k p.1 by) settles after)), later_has alone mid es b rest t ts k d r.1 p.1 s.1)
+    ((λ by settles after whole. is_state mid.knows d (s.0 (same_moment t k p.1 by) settles after whole)), later_has alone mid es b rest t ts k d r.1 p.1 s.1)
 has_at alone a (e ∷ es) b (mid, made, rest) z tail from (t ∷ ts) k d r (inl (inr p)) s =
-    ((λ by settles after. along_pass alone mid es b rest t ts k d p), has_at alone mid es b rest z tail t ts k d r.1 (inl p) s.1)
+    ((λ by settles after whole. along_pass alone mid es b rest t ts k d p), has_at alone mid es b rest z tail t ts k d r.1 (inl p) s.1)
 has_at alone a (e ∷ es) b (mid, made, rest) z tail from (t ∷ ts) k d r (inr p) s =
-    ((λ by settles after. in_on mid.knows b.knows d (turns_stay alone mid es b rest) (drift_passes alone b.seat b.knows z.knows tail.drift d p.1)), has_at alone mid es b rest z tail t ts k d r.1 (inr p) s.1)
+    ((λ by settles after whole. in_on mid.knows b.knows d (turns_stay alone mid es b rest) (drift_passes alone b.seat b.knows z.knows tail.drift d p.1)), has_at alone mid es b rest z tail t ts k d r.1 (inr p) s.1)
 
 -- From a desk that tells its node.
-pub along_stays : (alone : Bool) (a : DeskState) (es : List Turned) (b : DeskState) (old : Node) (c : Turns alone a es b) (from : ℕ) (ts : List ℕ) (k : ℕ) (d : Durable) → AlongAt alone a es b c from ts k d → a.knows ≡ Tells old → StaysReceived old.state d
+pub along_stays : (alone : Bool) (a : DeskState) (es : List Turned) (b : DeskState) (old : Node) (c : Turns alone a es b) (from : ℕ) (ts : List ℕ) (k : ℕ) (d : Durable) → AlongAt alone a es b c from ts k d → a.knows ≡ Tells old → SettledStays old.state d
 along_stays alone a es b old c from ts k d p tells = subst (λ (knows : Knows). StaysIn knows d) tells (along_pass alone a es b c from ts k d p)
 
 -- At each moment since, each image has what was received when any call before it ended.

@@ -1,17 +1,19 @@
 -- No sender and key ever has two receipts, along the calls of a seat that is alone.
-use Rattle.std.proofs.Common.{◌≡◌, ◌∙◌, ℕ, Bool, true, false, List, [], ◌∷◌, ◌++◌, Option, Some, None, refl, sym, ap, subst, inl, inr}
+use Rattle.std.proofs.Common.{◌≡◌, ◌∙◌, ℕ, Bool, true, false, ◌||◌, List, [], ◌∷◌, ◌++◌, Option, Some, None, map, refl, sym, ap, subst, inl, inr}
 use Rattle.std.proofs.lemmas.Bool.{both_ways, or_parts}
 use Rattle.ftn_addr.specs.Address.{Address}
 use Rattle.ftn_addr.specs.Files.{is_same}
 use Rattle.ftn_addr.specs.Key.{Key}
 use Rattle.node_model.specs.Items.{Receipt}
-use Rattle.node_model.specs.Lists.{Each}
-use Rattle.node_model.specs.Durable.{Durable, is_received, is_refused, is_known, with_receipt}
-use Rattle.node_model.specs.Node.{Hold, Session, Node, session_at, with_session}
-use Rattle.node_model.specs.Rows.{FileAnswer, Have, Refuse, Elsewhere, Go, Whole, From, Late, Answered, unheld, released, DataWhole, LeaveRow}
-use Rattle.node_model.specs.Calls.{Call, Answer, Fault, Event, Knock_call, Open_call, File_call, Data_call, Leave_call, Let_in, Begun, Settled, Filed, More, Whole_now, Refused, Disk, Read, Full, No_memory, Made, Passes, Before_it, After_it, NotMade, NodeStep, KnownStep, Knows, Tells, Counts_alone, DeskState, Turned, Beside, OwnRow, Made_row, Missing, CallsBeside, Turns}
-use Rattle.node_model.specs.Receipts.{OnceEach, HasOnce, TellsOnce}
+use Rattle.node_model.specs.Lists.{Each, some_passes}
+use Rattle.node_model.specs.Durable.{Durable, is_received, is_refused, is_known, given_receipt, answered_receipt, all_answered}
+use Rattle.node_model.specs.Node.{Hold, Session, Seat, Node, session_at, hold_in, with_session}
+use Rattle.node_model.specs.Rows.{FileAnswer, Have, Refuse, Elsewhere, Go, Whole, From, Late, Applies, FileMade, unheld, released, grown, one_busy_more, LeaveRow}
+use Rattle.node_model.specs.Calls.{Call, Answer, Fault, Event, Queue_call, Knock_call, Open_call, Offer_call, Read_call, Got_call, Skip_call, File_call, Data_call, Leave_call, Act_call, Give_call, Queued, Let_in, Busy, Begun, Offered, Nothing, Came, Acted, Given, Held, Settled, Filed, More, Whole_now, Refused, Disk, Read, Full, No_memory, IsSkip, Works, Made, Passes, Before_it, Marked, After_it, one_read_more, Unmade, NotMade, NodeStep, KnownStep, Knows, Tells, Counts_alone, DeskState, Turned, Beside, OwnRow, Made_row, Missing, CallsBeside, Turns}
+use Rattle.node_model.specs.Receipts.{SameReceipt, OnceEach, HasOnce, TellsOnce}
 use Rattle.node_model.proofs.SameFiles.{is_same-refl, is_same_from, is_same_key}
+use Rattle.node_model.proofs.Moves.{put_at, inbox_of_mark_any, inbox_at_stride}
+use Rattle.node_model.proofs.Changes.{Change, Still, Flags, Receives, Refuses, given_flags, answered_flags, made_change, file_change, leave_change, unmade_unchanged}
 use Rattle.node_model.proofs.SeatSessions.{session_at-with_session}
 
 -- what differs one way differs the other way
@@ -77,76 +79,142 @@ unheld_new seat s n new is = put_new seat (Some (unheld s)) n new is (none_new (
 held_key : (x h : Hold) → Some x ≡ Some h → x.key ≡ h.key
 held_key x h is = let same : x ≡ h = cc in ap (λ (y : Hold). y.key) same
 
-answered_once : (seat : ℕ) (s : Session) (key : Key) (offset : ℕ) (answer : FileAnswer) (n new : Node) → Answered seat s key offset answer n new → HasOnce n.state → HasOnce new.state
-answered_once seat s key offset Have n new a once = subst (λ (x : Node). HasOnce x.state) (sym a.1) once
-answered_once seat s key offset Refuse n new a once = subst (λ (x : Node). HasOnce x.state) (sym a.2) once
-answered_once seat s key offset Elsewhere n new a once = subst (λ (x : Node). HasOnce x.state) (sym a.3) once
-answered_once seat s key offset Go n new a once = subst (λ (x : Node). HasOnce x.state) (sym a.3.2) once
-answered_once seat s key offset (From place) n new a once = subst (λ (x : Node). HasOnce x.state) (sym a.4.2) once
-answered_once seat s key offset Late n new a once = subst (λ (x : Node). HasOnce x.state) (sym a.3) once
-answered_once seat s key offset Whole n new a once =
-    subst (λ (x : Node). HasOnce x.state) (sym a.3.2) (once_push n.state.inbox _ n.state refl once (not_received s.first key n.state a.0.unknown))
-
 -- a session holds that key now
 holding_new : (seat : ℕ) (s : Session) (hold : Hold) (n new : Node) → new.seats ≡ (with_session seat (Some s) n).seats → s.hold ≡ Some hold → is_received s.first hold.key new.state ≡ false → HoldsNew seat new
 holding_new seat s hold n new is holds fresh =
     put_new seat (Some s) n new is (λ h also. subst (λ (k : Key). is_received s.first k new.state ≡ false) (held_key hold h (sym holds ∙ also)) fresh)
 
 -- what is held now was unknown
-answered_new : (seat : ℕ) (s : Session) (key : Key) (offset : ℕ) (answer : FileAnswer) (old new : Node) → Answered seat (unheld s) key offset answer (released seat s old) new → HoldsNew seat new
-answered_new seat s key offset Have old new a = unheld_new seat s old new (ap (λ (n : Node). n.seats) a.1)
-answered_new seat s key offset Refuse old new a = unheld_new seat s old new (ap (λ (n : Node). n.seats) a.2)
-answered_new seat s key offset Elsewhere old new a = unheld_new seat s old new (ap (λ (n : Node). n.seats) a.3)
-answered_new seat s key offset Late old new a = unheld_new seat s old new (ap (λ (n : Node). n.seats) a.3)
-answered_new seat s key offset Whole old new a = unheld_new seat s old new (ap (λ (n : Node). n.seats) a.3.2)
-answered_new seat s key offset Go old new a =
-    let fresh = not_received s.first key old.state a.0.unknown in
-    holding_new seat _ _ (released seat s old) new (ap (λ (n : Node). n.seats) a.3.2) refl (subst (λ (d : Durable). is_received s.first key d ≡ false) (sym (ap (λ (n : Node). n.state) a.3.2)) fresh)
-answered_new seat s key offset (From place) old new a =
-    let fresh = not_received s.first key old.state a.0.unknown in
-    holding_new seat _ _ (released seat s old) new (ap (λ (n : Node). n.seats) a.4.2) refl (subst (λ (d : Durable). is_received s.first key d ≡ false) (sym (ap (λ (n : Node). n.state) a.4.2)) fresh)
+file_new : (seat : ℕ) (s : Session) (key : Key) (offset : ℕ) (answer : FileAnswer) (old new : Node) → Applies seat (unheld s) key offset answer (released seat s old) → FileMade seat (unheld s) key answer (released seat s old) new → HoldsNew seat new
+file_new seat s key offset Have old new a m = unheld_new seat s old new (ap (λ (n : Node). n.seats) m)
+file_new seat s key offset Refuse old new a m = unheld_new seat s old new (ap (λ (n : Node). n.seats) m)
+file_new seat s key offset Elsewhere old new a m = unheld_new seat s old new (ap (λ (n : Node). n.seats) m)
+file_new seat s key offset Late old new a m = unheld_new seat s old new (ap (λ (n : Node). n.seats) m)
+file_new seat s key offset Whole old new a m = unheld_new seat s old new (ap (λ (n : Node). n.seats) m.2)
+file_new seat s key offset Go old new a m =
+    let fresh = not_received s.first key (released seat s old).state a.0.unknown in
+    holding_new seat _ _ (released seat s old) new (ap (λ (n : Node). n.seats) m.2) refl (subst (λ (d : Durable). is_received s.first key d ≡ false) (sym (ap (λ (n : Node). n.state) m.2)) fresh)
+file_new seat s key offset (From place) old new a m =
+    let fresh = not_received s.first key (released seat s old).state a.0.unknown in
+    holding_new seat _ _ (released seat s old) new (ap (λ (n : Node). n.seats) m.2) refl (subst (λ (d : Durable). is_received s.first key d ≡ false) (sym (ap (λ (n : Node). n.state) m.2)) fresh)
+
+-- the seat's hold and its sender stay, and so does what is received
+holds_on : (seat : ℕ) (old new : Node) → ((s : Session) (h : Hold) → session_at new seat ≡ Some s → s.hold ≡ Some h → (t : Session) × (session_at old seat ≡ Some t) × (t.hold ≡ Some h) × (s.first ≡ t.first)) → ((from : Address) (key : Key) → is_received from key new.state ≡ is_received from key old.state) → HoldsNew seat old → HoldsNew seat new
+holds_on seat old new was same fresh s h has holds =
+    let w = was s h has holds in
+    ap (λ a. is_received a h.key new.state) w.3 ∙ (same w.0.first h.key ∙ fresh w.0 h w.1 w.2)
+
+passes_flags : (f : Receipt → Receipt) → ((r : Receipt) → SameReceipt r (f r)) → (from : Address) (key : Key) (rs : List Receipt) → some_passes (λ (r : Receipt). is_same from key r.from r.key) (map f rs) ≡ some_passes (λ (r : Receipt). is_same from key r.from r.key) rs
+passes_flags f flags from key [] = refl
+passes_flags f flags from key (r ∷ rs) = let a = flags r in let h = passes_flags f flags from key rs in λ i. is_same from key (a.from_is i) (a.key_is i) || h i
+
+answered_passes : (o : Option ℕ) (from : Address) (key : Key) (rs : List Receipt) → some_passes (λ (r : Receipt). is_same from key r.from r.key) (all_answered o rs) ≡ some_passes (λ (r : Receipt). is_same from key r.from r.key) rs
+answered_passes None from key rs = refl
+answered_passes (Some number) from key rs = passes_flags (answered_receipt number) (answered_flags number) from key rs
+
+busy_same : (seat : ℕ) (n : Node) → session_at (one_busy_more seat n) seat ≡ session_at n seat
+busy_same seat n = ap (λ (x : Seat). x.session) (put_at seat _ n.seats)
+
+reads_same : (seat : ℕ) (n : Node) → session_at (one_read_more seat n) seat ≡ session_at n seat
+reads_same seat n = ap (λ (x : Seat). x.session) (put_at seat _ n.seats)
 
 -- A call that is made.
 
 same_once : (d e : Durable) → e ≡ d → HasOnce d → HasOnce e
 same_once d e is once = subst HasOnce (sym is) once
 
-more_once : (d e : Durable) (r : Receipt) → e ≡ with_receipt r d → HasOnce d → is_received r.from r.key d ≡ false → HasOnce e
-more_once d e r is once fresh = subst HasOnce (sym is) (once_push d.inbox r d refl once fresh)
+inbox_once : (d e : Durable) → e.inbox ≡ d.inbox → HasOnce d → HasOnce e
+inbox_once d e is once = subst OnceEach (sym is) once
 
-leave_once : (seat : ℕ) (old new : Node) → LeaveRow seat old new → HasOnce old.state → HasOnce new.state
-leave_once seat old new (inl m) once = same_once old.state new.state (ap (λ (n : Node). n.state) m.after) once
-leave_once seat old new (inr m) once = same_once old.state new.state (ap (λ (n : Node). n.state) m.1) once
+-- flags of receipts that change
+each_flags : (f : Receipt → Receipt) → ((r : Receipt) → SameReceipt r (f r)) → (from : Address) (key : Key) (rs : List Receipt) → Each (λ (later : Receipt). is_same from key later.from later.key ≡ false) rs → Each (λ (later : Receipt). is_same from key later.from later.key ≡ false) (map f rs)
+each_flags f flags from key [] all = tt
+each_flags f flags from key (r ∷ rs) all = let a = flags r in (subst (λ (q : Address × Key). is_same from key q.0 q.1 ≡ false) (λ i. (sym a.from_is i, sym a.key_is i)) all.0, each_flags f flags from key rs all.1)
+
+flags_once : (f : Receipt → Receipt) → ((r : Receipt) → SameReceipt r (f r)) → (rs : List Receipt) → OnceEach rs → OnceEach (map f rs)
+flags_once f flags [] once = tt
+flags_once f flags (r ∷ rs) once = let a = flags r in (subst (λ (q : Address × Key). Each (λ (later : Receipt). is_same q.0 q.1 later.from later.key ≡ false) (map f rs)) (λ i. (sym a.from_is i, sym a.key_is i)) (each_flags f flags r.from r.key rs once.0), flags_once f flags rs once.1)
+
+answered_flags_once : (o : Option ℕ) (rs : List Receipt) → OnceEach rs → OnceEach (all_answered o rs)
+answered_flags_once None rs once = once
+answered_flags_once (Some number) rs once = flags_once (answered_receipt number) (answered_flags number) rs once
+
+-- what a change receives had no receipt
+abbrev NewIn : (d e : Durable) → Change d e → Type 0
+NewIn d e (Receives r inbox refused) = is_received r.from r.key d ≡ false
+NewIn d e _ = Unit {0}
+
+change_once : (d e : Durable) (c : Change d e) → NewIn d e c → HasOnce d → HasOnce e
+change_once d e (Still inbox refused) new once = subst OnceEach (sym inbox) once
+change_once d e (Flags f flags inbox refused) new once = subst OnceEach (sym inbox) (flags_once f flags d.inbox once)
+change_once d e (Receives r inbox refused) new once = subst OnceEach (sym inbox) (once_push d.inbox r d refl once new)
+change_once d e (Refuses r inbox refused) new once = subst OnceEach (sym inbox) once
 
 leave_new : (seat : ℕ) (old new : Node) → LeaveRow seat old new → HoldsNew seat old → HoldsNew seat new
 leave_new seat old new (inl m) fresh = put_new seat None old new (ap (λ (n : Node). n.seats) m.after) tt
 leave_new seat old new (inr m) fresh = subst (HoldsNew seat) (sym m.1) fresh
 
-whole_once : (seat : ℕ) (bytes : List ℕ) (old new : Node) → DataWhole seat bytes old new → HasOnce old.state → HoldsNew seat old → HasOnce new.state
-whole_once seat bytes old new m once fresh =
-    more_once old.state new.state _ (ap (λ (n : Node). n.state) m.after) once (fresh m.session m.hold m.has m.holds)
-
 -- the receipts, where what is held is new
 pub made_once : (seat : ℕ) (old new : Node) (call : Call) (answer : Answer) → Made seat old call answer new → HasOnce old.state → HoldsNew seat old → HasOnce new.state
-made_once seat old new (Knock_call role) Let_in m once fresh = same_once old.state new.state (ap (λ (n : Node). n.state) m.after) once
-made_once seat old new (Open_call role peers secure moment) (Begun number) m once fresh =
-    same_once old.state new.state (ap (λ (n : Node). n.state) m.1.after) once
-made_once seat old new (File_call key offset) (Filed answer) m once fresh =
-    answered_once seat (unheld m.session) key offset answer (released seat m.session old) new m.answered once
-made_once seat old new (Data_call bytes) More m once fresh = same_once old.state new.state (ap (λ (n : Node). n.state) m.after) once
-made_once seat old new (Data_call bytes) Whole_now m once fresh = whole_once seat bytes old new m once fresh
-made_once seat old new Leave_call Settled m once fresh = leave_once seat old new m once
+made_once seat old new (File_call key offset) (Filed answer) m once fresh = filed answer m.applies m.made
+  where
+    r : Node
+    r = released seat m.session old
+
+    marked : (answer : FileAnswer) (made : FileMade seat (unheld m.session) key answer r new) → NewIn r.state new.state (file_change seat (unheld m.session) key answer r new made) → HasOnce new.state
+    marked answer made fresh = change_once r.state new.state (file_change seat (unheld m.session) key answer r new made) fresh (subst OnceEach (sym (inbox_of_mark_any m.session.hold old.state)) once)
+
+    filed : (answer : FileAnswer) → Applies seat (unheld m.session) key offset answer r → FileMade seat (unheld m.session) key answer r new → HasOnce new.state
+    filed Have a made = marked Have made tt
+    filed Refuse a made = marked Refuse made tt
+    filed Elsewhere a made = marked Elsewhere made tt
+    filed Go a made = marked Go made tt
+    filed Whole a made = marked Whole made (not_received m.session.first key r.state a.0.unknown)
+    filed (From place) a made = marked (From place) made tt
+    filed Late a made = marked Late made tt
+made_once seat old new (Data_call bytes) Whole_now m once fresh =
+    change_once old.state new.state (made_change seat old new (Data_call bytes) Whole_now m) (fresh m.session m.hold m.has m.holds) once
+made_once seat old new (Queue_call files taken None) (Queued slots) m once fresh = change_once old.state new.state (made_change seat old new (Queue_call files taken None) (Queued slots) m) tt once
+made_once seat old new (Queue_call files taken (Some number)) (Queued slots) m once fresh = change_once old.state new.state (made_change seat old new (Queue_call files taken (Some number)) (Queued slots) m) tt once
+made_once seat old new (Knock_call role) Let_in m once fresh = change_once old.state new.state (made_change seat old new (Knock_call role) Let_in m) tt once
+made_once seat old new (Knock_call role) Busy m once fresh = change_once old.state new.state (made_change seat old new (Knock_call role) Busy m) tt once
+made_once seat old new Offer_call (Offered number key) m once fresh = change_once old.state new.state (made_change seat old new Offer_call (Offered number key) m) tt once
+made_once seat old new Offer_call Nothing m once fresh = change_once old.state new.state (made_change seat old new Offer_call Nothing m) tt once
+made_once seat old new (Read_call place room) (Came bytes) m once fresh = change_once old.state new.state (made_change seat old new (Read_call place room) (Came bytes) m) tt once
+made_once seat old new (Got_call number) Settled m once fresh = change_once old.state new.state (made_change seat old new (Got_call number) Settled m) tt once
+made_once seat old new (Skip_call number) Settled m once fresh = change_once old.state new.state (made_change seat old new (Skip_call number) Settled m) tt once
+made_once seat old new (Act_call dest) (Acted number) m once fresh = change_once old.state new.state (made_change seat old new (Act_call dest) (Acted number) m) tt once
+made_once seat old new (Act_call dest) Nothing m once fresh = change_once old.state new.state (made_change seat old new (Act_call dest) Nothing m) tt once
+made_once seat old new Give_call (Given number) m once fresh = change_once old.state new.state (made_change seat old new Give_call (Given number) m) tt once
+made_once seat old new Give_call (Held number) m once fresh = change_once old.state new.state (made_change seat old new Give_call (Held number) m) tt once
+made_once seat old new Give_call Nothing m once fresh = change_once old.state new.state (made_change seat old new Give_call Nothing m) tt once
+made_once seat old new (Open_call role peers secure moment) (Begun number) m once fresh = change_once old.state new.state (made_change seat old new (Open_call role peers secure moment) (Begun number) m) tt once
+made_once seat old new (Data_call bytes) More m once fresh = change_once old.state new.state (made_change seat old new (Data_call bytes) More m) tt once
+made_once seat old new Leave_call Settled (inl m) once fresh = change_once old.state new.state (leave_change seat old new (inl m)) tt once
+made_once seat old new Leave_call Settled (inr m) once fresh = change_once old.state new.state (leave_change seat old new (inr m)) tt once
 made_once seat old new call answer m once fresh = absurd m
 
 -- what is held stays new
 pub made_new : (seat : ℕ) (old new : Node) (call : Call) (answer : Answer) → Made seat old call answer new → HoldsNew seat old → HoldsNew seat new
+made_new seat old new (Queue_call files taken answered) (Queued slots) m fresh = holds_on seat old new (λ s h a b. (s, ap (λ (n : Node). session_at n seat) (sym m.after) ∙ a, b, refl)) (λ from key. ap (λ (n : Node). is_received from key n.state) m.after ∙ answered_passes answered from key old.state.inbox) fresh
 made_new seat old new (Knock_call role) Let_in m fresh = subst (HoldsNew seat) (sym m.after) fresh
+made_new seat old new (Knock_call role) Busy m fresh = holds_on seat old new (λ s h a b. (s, sym (ap (λ (n : Node). session_at n seat) m.after ∙ busy_same seat old) ∙ a, b, refl)) (λ from key. ap (λ (n : Node). is_received from key n.state) m.after) fresh
+made_new seat old new Offer_call (Offered number key) m fresh = put_new seat _ old new (ap (λ (n : Node). n.seats) m.3.after) (λ h holds. subst (λ (d : Durable). is_received m.3.session.first h.key d ≡ false) (sym (ap (λ (n : Node). n.state) m.3.after)) (fresh m.3.session h m.3.has holds))
+made_new seat old new Offer_call Nothing m fresh = subst (HoldsNew seat) (sym m.after) fresh
+made_new seat old new (Read_call place room) (Came bytes) m fresh = subst (HoldsNew seat) (sym m.after) fresh
+made_new seat old new (Got_call number) Settled m fresh = put_new seat _ old new (ap (λ (n : Node). n.seats) m.after) (λ h holds. subst (λ (d : Durable). is_received m.session.first h.key d ≡ false) (sym (ap (λ (n : Node). n.state) m.after)) (fresh m.session h m.has holds))
+made_new seat old new (Skip_call number) Settled m fresh = put_new seat _ old new (ap (λ (n : Node). n.seats) m.after) (λ h holds. subst (λ (d : Durable). is_received m.session.first h.key d ≡ false) (sym (ap (λ (n : Node). n.state) m.after)) (fresh m.session h m.has holds))
+made_new seat old new (Act_call dest) (Acted number) m fresh = holds_on seat old new (λ s h a b. (s, ap (λ (n : Node). session_at n seat) (sym m.after) ∙ a, b, refl)) (λ from key. ap (λ (n : Node). is_received from key n.state) m.after) fresh
+made_new seat old new (Act_call dest) Nothing m fresh = subst (HoldsNew seat) (sym m.after) fresh
+made_new seat old new Give_call (Given number) m fresh = holds_on seat old new (λ s h a b. (s, ap (λ (n : Node). session_at n seat) (sym m.after) ∙ a, b, refl)) (λ from key. ap (λ (n : Node). is_received from key n.state) m.after ∙ passes_flags (given_receipt number) (given_flags number) from key old.state.inbox) fresh
+made_new seat old new Give_call (Held number) m fresh = holds_on seat old new (λ s h a b. (s, ap (λ (n : Node). session_at n seat) (sym m.after) ∙ a, b, refl)) (λ from key. ap (λ (n : Node). is_received from key n.state) m.after) fresh
+made_new seat old new Give_call Nothing m fresh = subst (HoldsNew seat) (sym m.after) fresh
 made_new seat old new (Open_call role peers secure moment) (Begun number) m fresh =
     put_new seat _ old new (ap (λ (n : Node). n.seats) m.1.after) (λ h holds. absurd (cc))
 made_new seat old new (File_call key offset) (Filed answer) m fresh =
-    answered_new seat m.session key offset answer old new m.answered
+    file_new seat m.session key offset answer old new m.applies m.made
 made_new seat old new (Data_call bytes) More m fresh =
-    holding_new seat _ _ old new (ap (λ (n : Node). n.seats) m.after) refl (subst (λ (d : Durable). is_received m.session.first m.hold.key d ≡ false) (sym (ap (λ (n : Node). n.state) m.after)) (fresh m.session m.hold m.has m.holds))
+    holding_new seat _ _ old new (ap (λ (n : Node). n.seats) m.after) refl (subst (λ (l : List Receipt). some_passes (λ (r : Receipt). is_same m.session.first m.hold.key r.from r.key) l ≡ false) (sym (ap (λ (n : Node). n.state.inbox) m.after ∙ inbox_at_stride (grown m.hold bytes) old.state)) (fresh m.session m.hold m.has m.holds))
 made_new seat old new (Data_call bytes) Whole_now m fresh =
     unheld_new seat m.session old new (ap (λ (n : Node). n.seats) m.after)
 made_new seat old new Leave_call Settled m fresh = leave_new seat old new m fresh
@@ -162,6 +230,7 @@ pub record Sound (seat : ℕ) (n : Node) : Type 0 where
 -- one of the durable states that a call passes
 pub passes_once : (seat : ℕ) (old : Node) (call : Call) (d : Durable) → Passes seat old call d → Sound seat old → HasOnce d
 passes_once seat old call d (Before_it is) s = same_once old.state d is s.once
+passes_once seat old call d (Marked unbroken first is) s = inbox_once old.state d (ap (λ (x : Durable). x.inbox) is ∙ inbox_of_mark_any (hold_in (session_at old seat)) old.state) s.once
 passes_once seat old call d (After_it unbroken answer new made is) s =
     same_once new.state d is (made_once seat old new call answer made s.once (s.fresh unbroken))
 
@@ -169,40 +238,42 @@ never_broken : {A : Type 0} (b : Option ℕ) (count : ℕ) → b ≡ Some count 
 never_broken b count some none = absurd (cc)
 
 refused_once : (seat : ℕ) (old : Node) (call : Call) (fault : Fault) (new : Node) → NotMade seat old call fault new → Sound seat old → HasOnce new.state
-refused_once seat old call (Disk count) new (inl same) s = subst (λ (n : Node). HasOnce n.state) (sym same.1) s.once
-refused_once seat old call (Disk count) new (inr b) s = passes_once seat old call new.state b.passes s
-refused_once seat old call (Read count) new r s = absurd r
-refused_once seat old (File_call key offset) Full new r s = same_once old.state new.state (ap (λ (n : Node). n.state) r.1.after) s.once
-refused_once seat old (Knock_call role) Full new r s = absurd r
-refused_once seat old (Data_call bytes) Full new r s = absurd r
-refused_once seat old Leave_call Full new r s = absurd r
-refused_once seat old (Open_call role peers secure moment) Full new r s = same_once old.state new.state (ap (λ (n : Node). n.state) r.2) s.once
-refused_once seat old call Full new r s = same_once old.state new.state (ap (λ (n : Node). n.state) r.1) s.once
-refused_once seat old (File_call key offset) No_memory new r s = same_once old.state new.state (ap (λ (n : Node). n.state) r.1.after) s.once
-refused_once seat old (Knock_call role) No_memory new r s = absurd r
-refused_once seat old (Data_call bytes) No_memory new r s = absurd r
-refused_once seat old Leave_call No_memory new r s = absurd r
-refused_once seat old call No_memory new r s = same_once old.state new.state (ap (λ (n : Node). n.state) r.1) s.once
+refused_once seat old call (Disk count) new (may, inl same) s = subst (λ (n : Node). HasOnce n.state) (sym same.1) s.once
+refused_once seat old call (Disk count) new (may, inr b) s = passes_once seat old call new.state b.passes s
+refused_once seat old call (Read count) new r s = same_once old.state new.state (ap (λ (n : Node). n.state) r.3) s.once
+refused_once seat old call Full new r s = inbox_once old.state new.state (unmade_unchanged seat _ old call new r.2).inbox s.once
+refused_once seat old call No_memory new r s = inbox_once old.state new.state (unmade_unchanged seat _ old call new r.2).inbox s.once
+
+unmade_new : (seat fulls : ℕ) (old : Node) (call : Call) (new : Node) → Unmade seat fulls old call new → HoldsNew seat old → HoldsNew seat new
+unmade_new seat fulls old (File_call key offset) new u fresh = unheld_new seat u.session old new (ap (λ (n : Node). n.seats) u.after)
+unmade_new seat fulls old (Queue_call files taken answered) new u fresh = subst (HoldsNew seat) (sym u.after) fresh
+unmade_new seat fulls old call new u fresh = subst (HoldsNew seat) (sym u) fresh
 
 refused_sound : (seat : ℕ) (old : Node) (call : Call) (fault : Fault) (new : Node) → NotMade seat old call fault new → Sound seat old → new.broken ≡ None → HoldsNew seat new
-refused_sound seat old call (Disk count) new (inl same) s none = never_broken new.broken count (ap (λ (n : Node). n.broken) same.1 ∙ same.0) none
-refused_sound seat old call (Disk count) new (inr b) s none = never_broken new.broken count b.broken none
-refused_sound seat old call (Read count) new r s none = absurd r
-refused_sound seat old (File_call key offset) Full new r s none = unheld_new seat r.1.session old new (ap (λ (n : Node). n.seats) r.1.after)
-refused_sound seat old (Knock_call role) Full new r s none = absurd r
-refused_sound seat old (Data_call bytes) Full new r s none = absurd r
-refused_sound seat old Leave_call Full new r s none = absurd r
-refused_sound seat old (Open_call role peers secure moment) Full new r s none = subst (HoldsNew seat) (sym r.2) (s.fresh r.0)
-refused_sound seat old call Full new r s none = subst (HoldsNew seat) (sym r.1) (s.fresh r.0)
-refused_sound seat old (File_call key offset) No_memory new r s none = unheld_new seat r.1.session old new (ap (λ (n : Node). n.seats) r.1.after)
-refused_sound seat old (Knock_call role) No_memory new r s none = absurd r
-refused_sound seat old (Data_call bytes) No_memory new r s none = absurd r
-refused_sound seat old Leave_call No_memory new r s none = absurd r
-refused_sound seat old call No_memory new r s none = subst (HoldsNew seat) (sym r.1) (s.fresh r.0)
+refused_sound seat old call (Disk count) new (may, inl same) s none = never_broken new.broken count (ap (λ (n : Node). n.broken) same.1 ∙ same.0) none
+refused_sound seat old call (Disk count) new (may, inr b) s none = never_broken new.broken count b.broken none
+refused_sound seat old call (Read count) new r s none = holds_on seat old new (λ t h a b. (t, sym (ap (λ (n : Node). session_at n seat) r.3 ∙ reads_same seat old) ∙ a, b, refl)) (λ from key. ap (λ (n : Node). is_received from key n.state) r.3) (s.fresh r.1)
+refused_sound seat old call Full new r s none = unmade_new seat _ old call new r.2 (s.fresh r.0)
+refused_sound seat old call No_memory new r s none = unmade_new seat _ old call new r.2 (s.fresh r.0)
+
+-- a skip leaves what is settled and what is held, also at a broken store
+skip_sound : (seat : ℕ) (old : Node) (call : Call) (answer : Answer) (new : Node) → IsSkip call → Made seat old call answer new → Sound seat old → Sound seat new
+skip_sound seat old (Skip_call number) Settled new skips m s =
+    record {
+      once = change_once old.state new.state (made_change seat old new (Skip_call number) Settled m) tt s.once;
+      fresh = λ none. made_new seat old new (Skip_call number) Settled m (s.fresh (sym (ap (λ (n : Node). n.broken) m.after) ∙ none));
+    }
+skip_sound seat old (Skip_call number) answer new skips m s = absurd m
+skip_sound seat old call answer new skips m s = absurd skips
+
+made_sound : (seat : ℕ) (old : Node) (call : Call) (answer : Answer) (new : Node) → Works old call → Made seat old call answer new → Sound seat old → Sound seat new
+made_sound seat old call answer new (inl unbroken) m s =
+    record { once = made_once seat old new call answer m s.once (s.fresh unbroken); fresh = λ none. made_new seat old new call answer m (s.fresh unbroken) }
+made_sound seat old call answer new (inr skips) m s = skip_sound seat old call answer new skips m s
 
 pub step_sound : (seat : ℕ) (old : Node) (call : Call) (answer : Answer) (new : Node) → NodeStep seat old call answer new → Sound seat old → Sound seat new
 step_sound seat old call (Refused fault) new r s = record { once = refused_once seat old call fault new r s; fresh = refused_sound seat old call fault new r s }
-step_sound seat old call answer new m s = record { once = made_once seat old new call answer m.1 s.once (s.fresh m.0); fresh = λ none. made_new seat old new call answer m.1 (s.fresh m.0) }
+step_sound seat old call answer new m s = made_sound seat old call answer new m.0 m.1 s
 
 -- What a desk tells.
 

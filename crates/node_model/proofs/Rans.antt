@@ -36,7 +36,7 @@ ran_one alone old call answer new c =
       ends = le_refl new.moment;
       before = c.before;
       since = λ k d a b i. opens_weaker _ _ (λ x p. inl (inl (a, b, p))) d (c.since k d a b i);
-      settled = λ k d b i. ((λ at settles after. c.now settles after d (subst (λ (m : ℕ). new.images m d) at i)), tt);
+      settled = λ k d b i. ((λ at settles after whole. c.now settles after whole d (subst (λ (m : ℕ). new.images m d) at i)), tt);
     }
 
 -- Chain behind chain.
@@ -187,7 +187,7 @@ settled_late : (alone : Bool) (a : DeskState) (es : List Turned) (b : DeskState)
 settled_late alone a [] b x from ts k d r lt = tt
 settled_late alone a (e ∷ es) b (mid, made, rest) from [] k d r lt = tt
 settled_late alone a (e ∷ es) b (mid, made, rest) from (t ∷ ts) k d r lt =
-    ((λ same settles after. absurd (not_last t (last_of t ts) k (last-rises t es ts r.1) lt same)), settled_late alone mid es b rest t ts k d r.1 lt)
+    ((λ same settles after whole. absurd (not_last t (last_of t ts) k (last-rises t es ts r.1) lt same)), settled_late alone mid es b rest t ts k d r.1 lt)
   where
     not_last : (t m k : ℕ) → t ≤ m → m < k → k ≡ t → ⊥
     not_last t m k le lt same = omega (arith, le, lt, same)

@@ -1,95 +1,84 @@
--- What is received stays received, whatever is called, and in every state that a stop may leave.
-use Rattle.std.proofs.Common.{◌≡◌, ℕ, zero, suc, Bool, true, false, ◌||◌, List, [], ◌∷◌, ◌++◌, refl, sym, ap, subst, inl, inr}
-use Rattle.ftn_addr.specs.Files.{is_same}
-use Rattle.ftn_addr.specs.Key.{Key}
-use Rattle.node_model.specs.Items.{Receipt}
-use Rattle.node_model.specs.Lists.{some_passes}
+-- What is received or refused stays so, whatever is called, and in every state that a stop may leave.
+use Rattle.std.proofs.Common.{◌≡◌, ℕ, zero, suc, Bool, true, false, List, [], ◌∷◌, ◌++◌, map, ◌∙◌, refl, sym, ap, subst, inl, inr}
+use Rattle.std.proofs.lemmas.List.{append-nil, append_assoc}
+use Rattle.node_model.specs.Items.{Receipt, Refusal}
 use Rattle.node_model.specs.Durable.{Durable}
-use Rattle.node_model.specs.Node.{Session, Node}
-use Rattle.node_model.specs.Rows.{FileAnswer, Have, Refuse, Elsewhere, Go, Whole, From, Late, Answered, unheld, released, LeaveRow}
-use Rattle.node_model.specs.Calls.{Call, Answer, Fault, Knock_call, Open_call, File_call, Data_call, Leave_call, Let_in, Begun, Settled, Filed, More, Whole_now, Refused, Disk, Read, Full, No_memory, Made, Passes, Before_it, After_it, NotMade, NodeStep, OtherSteps, KnownStep, Drifts, Knows, Tells, Counts_alone}
+use Rattle.node_model.specs.Node.{Node}
+use Rattle.node_model.specs.Calls.{Call, Answer, Refused, Passes, NodeStep, OtherSteps, KnownStep, Drifts, Knows, Tells, Counts_alone}
 use Rattle.node_model.specs.Images.{OthersPass, DriftPasses, KnownPasses}
-use Rattle.node_model.specs.Receipts.{StaysReceived, KnownStays, StaysIn}
+use Rattle.node_model.specs.Receipts.{SameReceipt, InboxStays, RefusedStays, SettledStays, KnownStays, StaysIn}
+use Rattle.node_model.proofs.Changes.{Change, Still, Flags, Receives, Refuses, made_change, passes_change, refused_change}
 
-either : (a b c : Bool) → (b ≡ true → c ≡ true) → (a || b) ≡ true → (a || c) ≡ true
-either true b c more e = refl
-either false b c more e = more e
+-- Inboxes.
 
-push_passes : (p : Receipt → Bool) (xs : List Receipt) (r : Receipt) → some_passes p xs ≡ true → some_passes p (xs ++ r ∷ []) ≡ true
-push_passes p [] r passes = absurd (cc)
-push_passes p (x ∷ xs) r passes = either (p x) (some_passes p xs) (some_passes p (xs ++ r ∷ [])) (push_passes p xs r) passes
+same_receipt : (r : Receipt) → SameReceipt r r
+same_receipt r = record { number = refl; from_is = refl; key_is = refl; bytes = refl; secure = refl }
 
-pub stays_inbox : (d e : Durable) → e.inbox ≡ d.inbox → StaysReceived d e
-stays_inbox d e is = λ from key has. subst (λ (xs : List Receipt). some_passes (λ (r : Receipt). is_same from key r.from r.key) xs ≡ true) (sym is) has
+same_then : (r q p : Receipt) → SameReceipt r q → SameReceipt q p → SameReceipt r p
+same_then r q p a b =
+    record { number = b.number ∙ a.number; from_is = b.from_is ∙ a.from_is; key_is = b.key_is ∙ a.key_is; bytes = b.bytes ∙ a.bytes; secure = b.secure ∙ a.secure }
 
-stays_push : (d e : Durable) (r : Receipt) → e.inbox ≡ d.inbox ++ r ∷ [] → StaysReceived d e
-stays_push d e r is = λ from key has. subst (λ (xs : List Receipt). some_passes (λ (x : Receipt). is_same from key x.from x.key) xs ≡ true) (sym is) (push_passes (λ (x : Receipt). is_same from key x.from x.key) d.inbox r has)
+inbox_self : (rs : List Receipt) → InboxStays rs rs
+inbox_self [] = tt
+inbox_self (r ∷ rs) = (same_receipt r, inbox_self rs)
 
-stays_on : (a b c : Durable) → StaysReceived a b → StaysReceived b c → StaysReceived a c
-stays_on a b c first second = λ from key has. second from key (first from key has)
+inbox_flags : (f : Receipt → Receipt) → ((r : Receipt) → SameReceipt r (f r)) → (rs : List Receipt) → InboxStays rs (map f rs)
+inbox_flags f flags [] = tt
+inbox_flags f flags (r ∷ rs) = (flags r, inbox_flags f flags rs)
 
--- A call that is made.
+inbox_push : (rs : List Receipt) (last : Receipt) → InboxStays rs (rs ++ last ∷ [])
+inbox_push [] last = tt
+inbox_push (r ∷ rs) last = (same_receipt r, inbox_push rs last)
 
-answered_stays : (seat : ℕ) (s : Session) (key : Key) (offset : ℕ) (answer : FileAnswer) (n new : Node) → Answered seat s key offset answer n new → StaysReceived n.state new.state
-answered_stays seat s key offset Have n new a = stays_inbox n.state new.state (ap (λ (x : Node). x.state.inbox) a.1)
-answered_stays seat s key offset Refuse n new a = stays_inbox n.state new.state (ap (λ (x : Node). x.state.inbox) a.2)
-answered_stays seat s key offset Elsewhere n new a = stays_inbox n.state new.state (ap (λ (x : Node). x.state.inbox) a.3)
-answered_stays seat s key offset Go n new a = stays_inbox n.state new.state (ap (λ (x : Node). x.state.inbox) a.3.2)
-answered_stays seat s key offset (From place) n new a = stays_inbox n.state new.state (ap (λ (x : Node). x.state.inbox) a.4.2)
-answered_stays seat s key offset Late n new a = stays_inbox n.state new.state (ap (λ (x : Node). x.state.inbox) a.3)
-answered_stays seat s key offset Whole n new a = stays_push n.state new.state _ (ap (λ (x : Node). x.state.inbox) a.3.2)
+inbox_then : (rs qs ps : List Receipt) → InboxStays rs qs → InboxStays qs ps → InboxStays rs ps
+inbox_then [] qs ps a b = tt
+inbox_then (r ∷ rs) [] ps a b = absurd a
+inbox_then (r ∷ rs) (q ∷ qs) [] a b = absurd b
+inbox_then (r ∷ rs) (q ∷ qs) (p ∷ ps) a b = (same_then r q p a.0 b.0, inbox_then rs qs ps a.1 b.1)
 
-leave_stays : (seat : ℕ) (old new : Node) → LeaveRow seat old new → StaysReceived old.state new.state
-leave_stays seat old new (inl m) = stays_inbox old.state new.state (ap (λ (n : Node). n.state.inbox) m.after)
-leave_stays seat old new (inr m) = stays_inbox old.state new.state (ap (λ (n : Node). n.state.inbox) m.1)
+refused_then : (rs qs ps : List Refusal) → RefusedStays rs qs → RefusedStays qs ps → RefusedStays rs ps
+refused_then rs qs ps (more, a) (further, b) = (more ++ further, b ∙ (ap (λ xs. xs ++ further) a ∙ append_assoc rs more further))
 
-made_stays : (seat : ℕ) (old new : Node) (call : Call) (answer : Answer) → Made seat old call answer new → StaysReceived old.state new.state
-made_stays seat old new (Knock_call role) Let_in m = stays_inbox old.state new.state (ap (λ (n : Node). n.state.inbox) m.after)
-made_stays seat old new (Open_call role peers secure moment) (Begun number) m = stays_inbox old.state new.state (ap (λ (n : Node). n.state.inbox) m.1.after)
-made_stays seat old new (File_call key offset) (Filed answer) m =
-    answered_stays seat (unheld m.session) key offset answer (released seat m.session old) new m.answered
-made_stays seat old new (Data_call bytes) More m = stays_inbox old.state new.state (ap (λ (n : Node). n.state.inbox) m.after)
-made_stays seat old new (Data_call bytes) Whole_now m = stays_push old.state new.state _ (ap (λ (n : Node). n.state.inbox) m.after)
-made_stays seat old new Leave_call Settled m = leave_stays seat old new m
-made_stays seat old new call answer m = absurd m
+-- One change.
 
--- one of the durable states that a call passes
-passes_stays : (seat : ℕ) (old : Node) (call : Call) (d : Durable) → Passes seat old call d → StaysReceived old.state d
-passes_stays seat old call d (Before_it is) = stays_inbox old.state d (ap (λ (x : Durable). x.inbox) is)
-passes_stays seat old call d (After_it unbroken answer new made is) =
-    stays_on old.state new.state d (made_stays seat old new call answer made) (stays_inbox new.state d (ap (λ (x : Durable). x.inbox) is))
+stays_still : (d e : Durable) → e.inbox ≡ d.inbox → e.refused ≡ d.refused → SettledStays d e
+stays_still d e inbox refused =
+    record { received = subst (InboxStays d.inbox) (sym inbox) (inbox_self d.inbox); refused = ([], refused ∙ sym (append-nil d.refused)) }
+
+pub stays_same : (d e : Durable) → e ≡ d → SettledStays d e
+stays_same d e is = stays_still d e (ap (λ (x : Durable). x.inbox) is) (ap (λ (x : Durable). x.refused) is)
+
+stays_change : (d e : Durable) → Change d e → SettledStays d e
+stays_change d e (Still inbox refused) = stays_still d e inbox refused
+stays_change d e (Flags f flags inbox refused) =
+    record { received = subst (InboxStays d.inbox) (sym inbox) (inbox_flags f flags d.inbox); refused = ([], refused ∙ sym (append-nil d.refused)) }
+stays_change d e (Receives r inbox refused) =
+    record { received = subst (InboxStays d.inbox) (sym inbox) (inbox_push d.inbox r); refused = ([], refused ∙ sym (append-nil d.refused)) }
+stays_change d e (Refuses r inbox refused) =
+    record { received = subst (InboxStays d.inbox) (sym inbox) (inbox_self d.inbox); refused = (r ∷ [], refused) }
+
+pub stays_on : (a b c : Durable) → SettledStays a b → SettledStays b c → SettledStays a c
+stays_on a b c x y =
+    record { received = inbox_then a.inbox b.inbox c.inbox x.received y.received; refused = refused_then a.refused b.refused c.refused x.refused y.refused }
 
 -- A step.
 
-refused_stays : (seat : ℕ) (old : Node) (call : Call) (fault : Fault) (new : Node) → NotMade seat old call fault new → StaysReceived old.state new.state
-refused_stays seat old call (Disk count) new (inl same) = stays_inbox old.state new.state (ap (λ (n : Node). n.state.inbox) same.1)
-refused_stays seat old call (Disk count) new (inr b) = passes_stays seat old call new.state b.passes
-refused_stays seat old call (Read count) new r = absurd r
-refused_stays seat old (File_call key offset) Full new r = stays_inbox old.state new.state (ap (λ (n : Node). n.state.inbox) r.1.after)
-refused_stays seat old (Knock_call role) Full new r = absurd r
-refused_stays seat old (Data_call bytes) Full new r = absurd r
-refused_stays seat old Leave_call Full new r = absurd r
-refused_stays seat old (Open_call role peers secure moment) Full new r = stays_inbox old.state new.state (ap (λ (n : Node). n.state.inbox) r.2)
-refused_stays seat old call Full new r = stays_inbox old.state new.state (ap (λ (n : Node). n.state.inbox) r.1)
-refused_stays seat old (File_call key offset) No_memory new r = stays_inbox old.state new.state (ap (λ (n : Node). n.state.inbox) r.1.after)
-refused_stays seat old (Knock_call role) No_memory new r = absurd r
-refused_stays seat old (Data_call bytes) No_memory new r = absurd r
-refused_stays seat old Leave_call No_memory new r = absurd r
-refused_stays seat old call No_memory new r = stays_inbox old.state new.state (ap (λ (n : Node). n.state.inbox) r.1)
+pub passes_stays : (seat : ℕ) (old : Node) (call : Call) (d : Durable) → Passes seat old call d → SettledStays old.state d
+passes_stays seat old call d passes = stays_change old.state d (passes_change seat old call d passes)
 
-step_stays : (seat : ℕ) (old : Node) (call : Call) (answer : Answer) (new : Node) → NodeStep seat old call answer new → StaysReceived old.state new.state
-step_stays seat old call (Refused fault) new r = refused_stays seat old call fault new r
-step_stays seat old call answer new m = made_stays seat old new call answer m.1
+pub step_stays : (seat : ℕ) (old : Node) (call : Call) (answer : Answer) (new : Node) → NodeStep seat old call answer new → SettledStays old.state new.state
+step_stays seat old call (Refused fault) new r = stays_change old.state new.state (refused_change seat old call fault new r)
+step_stays seat old call answer new m = stays_change old.state new.state (made_change seat old new call answer m.1)
 
-others_stay : (n seat : ℕ) (old new : Node) → OtherSteps n seat old new → StaysReceived old.state new.state
-others_stay zero seat old new same = stays_inbox old.state new.state (ap (λ (x : Node). x.state.inbox) same)
+others_stay : (n seat : ℕ) (old new : Node) → OtherSteps n seat old new → SettledStays old.state new.state
+others_stay zero seat old new same = stays_same old.state new.state (ap (λ (x : Node). x.state) same)
 others_stay (suc n) seat old new (mid, before, last) =
     stays_on old.state mid.state new.state (others_stay n seat old mid before) (step_stays last.other mid last.call last.answer new last.step)
 
 -- What a desk tells.
 
 pub self_stays : (knows : Knows) → KnownStays knows knows
-self_stays (Tells n) = λ from key has. has
+self_stays (Tells n) = stays_same n.state n.state refl
 self_stays (Counts_alone c) = tt
 
 pub known_on : (a b c : Knows) → KnownStays a b → KnownStays b c → KnownStays a c
@@ -116,7 +105,7 @@ in_on (Tells a) (Tells b) d first second = stays_on a.state b.state d first seco
 in_on (Tells a) (Counts_alone b) d first second = absurd first
 in_on (Counts_alone a) b d first second = tt
 
-others_pass : (n seat : ℕ) (old new : Node) (steps : OtherSteps n seat old new) (d : Durable) → OthersPass n seat old new steps d → StaysReceived old.state d
+others_pass : (n seat : ℕ) (old new : Node) (steps : OtherSteps n seat old new) (d : Durable) → OthersPass n seat old new steps d → SettledStays old.state d
 others_pass zero seat old new steps d passes = absurd passes
 others_pass (suc n) seat old new (mid, before, last) d (inl passes) = others_pass n seat old mid before d passes
 others_pass (suc n) seat old new (mid, before, last) d (inr passes) =

@@ -1,30 +1,19 @@
 -- The calls of a desk with their answers, and their chain.
-use Rattle.std.specs.Prelude.{zero, suc, ◌≡◌, ◌≢◌, ◌⊎◌, ℕ, Bool, true, false, ◌+◌, ◌≤◌, List, [], ◌∷◌, map, Option, Some, None}
+use Rattle.std.specs.Prelude.{zero, suc, ◌≡◌, ◌≢◌, ◌⊎◌, ℕ, Bool, true, false, ◌+◌, ◌≤◌, List, [], ◌∷◌, ◌++◌, map, Option, Some, None}
 use Rattle.ftn_addr.specs.Address.{Address}
 use Rattle.ftn_addr.specs.Counts.{Increased, next_count}
 use Rattle.ftn_addr.specs.Key.{Key}
-use Rattle.ftn_addr.specs.declared.source_file.Action.{Action}
-use Rattle.node_model.specs.declared.words.Flavour.{Flavour}
 use Rattle.node_model.specs.declared.words.Role.{Role}
 use Rattle.node_model.specs.Durable.{Durable}
-use Rattle.node_model.specs.Node.{Session, Node, session_at, seat_in}
-use Rattle.node_model.specs.Rows.{KnockCome, OpenRow, FileAnswer, FileRow, DataMore, DataWhole, LeaveRow, released, unheld}
-
--- a file that is to be queued, and how it was queued: under a new number, or it stands there already
-pub record NewFile : Type 0 where
-  pub dest : Address
-  pub key : Key
-  pub flavour : Flavour
-  pub source : List ℕ
-  pub action : Action
-  pub bytes : List ℕ
-
-pub data Slot : Type 0 where
-  New : (number : ℕ) → Slot
-  Again : (number : ℕ) → Slot
+use Rattle.node_model.specs.Items.{Entry}
+use Rattle.ftn_addr.specs.declared.limits.TheConstants.{MAX_NUMBER}
+use Rattle.node_model.specs.Lists.{Each}
+use Rattle.node_model.specs.Node.{Session, Node, Logged, session_at, hold_in, seat_in, put_seat}
+use Rattle.node_model.specs.Rows.{KnockCome, KnockBusy, OpenRow, FileAnswer, FileRow, FileFull, DataMore, DataWhole, LeaveRow, mark_any, released, unheld}
+use Rattle.node_model.specs.SendRows.{NewFile, Slot, QueueRow, QueueFull, OfferFile, OfferNothing, OfferFull, ReadRow, GotRow, SkipRow, ActRow, ActNothing, ActFull, GiveRow, GiveHeld, GiveNothing}
 
 pub data Call : Type 0 where
-  Queue_call : (files : List NewFile) → Call
+  Queue_call : (files : List NewFile) (taken answered : Option ℕ) → Call
   Knock_call : (role : Role) → Call
   Open_call : (role : Role) (peers : List Address) (secure : Bool) (moment : ℕ) → Call
   Offer_call : Call
@@ -68,20 +57,43 @@ pub record Event : Type 0 where
 abbrev pub one : Call → Answer → List Event
 one call answer = record { call = call; answer = answer } ∷ []
 
--- what a call does where it isn't refused; the rows of the other calls come with later work
+-- what a call does where it isn't refused
 abbrev pub Made : ℕ → Node → Call → Answer → Node → Type 0
+Made seat old (Queue_call files taken answered) (Queued slots) new = QueueRow seat files taken answered slots old new
 Made seat old (Knock_call role) Let_in new = KnockCome seat role old new
+Made seat old (Knock_call role) Busy new = KnockBusy seat role old new
 Made seat old (Open_call role peers secure moment) (Begun number) new =
     (number ≡ old.begun + 1) × OpenRow seat role peers secure moment old new
+Made seat old Offer_call (Offered number key) new = (e : Entry) × (e.number ≡ number) × (e.key ≡ key) × OfferFile seat e old new
+Made seat old Offer_call Nothing new = OfferNothing seat old new
+Made seat old (Read_call place room) (Came bytes) new = ReadRow seat place room bytes old new
+Made seat old (Got_call number) Settled new = GotRow seat number old new
+Made seat old (Skip_call number) Settled new = SkipRow seat number old new
 Made seat old (File_call key offset) (Filed answer) new = FileRow seat key offset answer old new
 Made seat old (Data_call bytes) More new = DataMore seat bytes old new
 Made seat old (Data_call bytes) Whole_now new = DataWhole seat bytes old new
 Made seat old Leave_call Settled new = LeaveRow seat old new
+Made seat old (Act_call dest) (Acted number) new = ActRow seat dest number old new
+Made seat old (Act_call dest) Nothing new = ActNothing dest old new
+Made seat old Give_call (Given number) new = GiveRow number old new
+Made seat old Give_call (Held number) new = GiveHeld number old new
+Made seat old Give_call Nothing new = GiveNothing old new
 Made _ _ _ _ _ = ⊥
 
--- the durable states that a call passes: the one before it, and, of an unbroken node, the one after all that it changes
+-- the durable state after the mark of what the seat holds
+abbrev pub marked_first : ℕ → Node → Durable
+marked_first seat n = mark_any (hold_in (session_at n seat)) n.state
+
+-- the calls that first mark what is held
+abbrev pub marks_first : Call → Bool
+marks_first (File_call key offset) = true
+marks_first _ = false
+
+-- the durable states that a call passes: the one before it, and, of an unbroken node, the one after its mark and the
+-- one after all that it changes
 pub data Passes (seat : ℕ) (old : Node) (call : Call) (d : Durable) : Type 0 where
   Before_it : d ≡ old.state → Passes seat old call d
+  Marked : old.broken ≡ None → marks_first call ≡ true → d ≡ marked_first seat old → Passes seat old call d
   After_it : old.broken ≡ None → (answer : Answer) (new : Node) → Made seat old call answer new → d ≡ new.state → Passes seat old call d
 
 -- a seat's session without its hold
@@ -89,8 +101,14 @@ abbrev pub unheld_in : Option Session → Option Session
 unheld_in None = None
 unheld_in (Some s) = Some (unheld s)
 
+-- the log went on with records of that seat alone
+pub record Logs (seat : ℕ) (old new : List Logged) : Type 0 where
+  pub rest : List Logged
+  pub grows : new ≡ old ++ rest
+  pub own : Each (λ (r : Logged). r.seat ≡ seat) rest
+
 -- The disk failed in the call: one of the states that it passes is left, and the store is broken. Nothing is said of
--- the part that was held.
+-- the part that was held, of the places, or of the numbers drawn.
 pub record Breaks (seat : ℕ) (old : Node) (call : Call) (count : ℕ) (new : Node) : Type 0 where
   pub unbroken : old.broken ≡ None
   pub rose : Increased old.faults count
@@ -98,8 +116,11 @@ pub record Breaks (seat : ℕ) (old : Node) (call : Call) (count : ℕ) (new : N
   pub broken : new.broken ≡ Some count
   pub faults : new.faults ≡ count
   pub fulls : new.fulls ≡ old.fulls
+  pub log : Logs seat old.log new.log
   pub others : (k : ℕ) → k ≢ seat → seat_in new.seats k ≡ seat_in old.seats k
   pub own : unheld_in (session_at new seat) ≡ unheld_in (session_at old seat)
+  pub busy : (seat_in new.seats seat).busy ≡ (seat_in old.seats seat).busy
+  pub reads : (seat_in new.seats seat).reads ≡ (seat_in old.seats seat).reads
   pub settings : new.settings ≡ old.settings
   pub begun : new.begun ≡ old.begun
 
@@ -109,27 +130,68 @@ pub record FileRefused (seat fulls : ℕ) (old new : Node) : Type 0 where
   pub has : session_at old seat ≡ Some session
   pub after : new ≡ record (released seat session old) { fulls = fulls }
 
--- A call that is refused. Only reading answers Read, and its row comes with later work. A knock, data and leaving want
--- no place and no memory: the disk alone refuses them. A session finds no room where the last number is used.
+-- files that aren't queued were staged all the same, and their numbers are drawn
+pub record QueueRefused (fulls : ℕ) (old new : Node) : Type 0 where
+  pub staged : ℕ
+  pub risen : old.staged ≤ staged
+  pub after : new ≡ record old { fulls = fulls; staged = staged }
+
+-- what a call leaves that finds no place or no memory
+abbrev pub Unmade : ℕ → ℕ → Node → Call → Node → Type 0
+Unmade seat fulls old (File_call key offset) new = FileRefused seat fulls old new
+Unmade seat fulls old (Queue_call files taken answered) new = QueueRefused fulls old new
+Unmade seat fulls old call new = new ≡ record old { fulls = fulls }
+
+-- The calls that may find no place, each with its cause: the records held, the places reserved and those that the call
+-- wants are more than a ledger has, or the last number is used. A knock, reading, what settles a file, data, leaving
+-- and giving want no place.
+abbrev pub FindsFull : ℕ → Node → Call → Type 0
+FindsFull seat old (Queue_call files taken answered) = QueueFull files taken answered old
+FindsFull seat old (Open_call role peers secure moment) = old.begun ≡ MAX_NUMBER
+FindsFull seat old Offer_call = OfferFull seat old
+FindsFull seat old (File_call key offset) = FileFull seat key offset old
+FindsFull seat old (Act_call dest) = ActFull dest old
+FindsFull seat old call = ⊥
+
+-- the calls that take memory
+abbrev pub TakesMemory : Call → Type 0
+TakesMemory (Queue_call files taken answered) = Unit {0}
+TakesMemory (Open_call role peers secure moment) = Unit {0}
+TakesMemory Offer_call = Unit {0}
+TakesMemory (File_call key offset) = Unit {0}
+TakesMemory (Act_call dest) = Unit {0}
+TakesMemory Give_call = Unit {0}
+TakesMemory call = ⊥
+
+abbrev pub IsReading : Call → Type 0
+IsReading (Read_call place room) = Unit {0}
+IsReading call = ⊥
+
+abbrev pub IsSkip : Call → Type 0
+IsSkip (Skip_call number) = Unit {0}
+IsSkip call = ⊥
+
+-- the seat's count of reads that were refused
+abbrev pub one_read_more : ℕ → Node → Node
+one_read_more seat n = record n { seats = put_seat seat (record (seat_in n.seats seat) { reads = next_count (seat_in n.seats seat).reads }) n.seats }
+
+-- A call that is refused. Only reading answers Read; a skip is never refused.
 abbrev pub NotMade : ℕ → Node → Call → Fault → Node → Type 0
-NotMade seat old call (Disk count) new = ((old.broken ≡ Some count) × (new ≡ old)) ⊎ Breaks seat old call count new
-NotMade seat old call (Read count) new = ⊥
-NotMade seat old (File_call key offset) Full new = (old.broken ≡ None) × FileRefused seat (next_count old.fulls) old new
-NotMade seat old (Knock_call role) Full new = ⊥
-NotMade seat old (Open_call role peers secure moment) Full new = (old.broken ≡ None) × (old.begun ≡ 4294967295) × (new ≡ record old { fulls = next_count old.fulls })
-NotMade seat old (Data_call bytes) Full new = ⊥
-NotMade seat old Leave_call Full new = ⊥
-NotMade seat old call Full new = (old.broken ≡ None) × (new ≡ record old { fulls = next_count old.fulls })
-NotMade seat old (File_call key offset) No_memory new = (old.broken ≡ None) × FileRefused seat old.fulls old new
-NotMade seat old (Knock_call role) No_memory new = ⊥
-NotMade seat old (Data_call bytes) No_memory new = ⊥
-NotMade seat old Leave_call No_memory new = ⊥
-NotMade seat old call No_memory new = (old.broken ≡ None) × (new ≡ old)
+NotMade seat old call (Disk count) new =
+    (IsSkip call → ⊥) × (((old.broken ≡ Some count) × (new ≡ old)) ⊎ Breaks seat old call count new)
+NotMade seat old call (Read count) new =
+    IsReading call × (old.broken ≡ None) × Increased old.faults count × (new ≡ record (one_read_more seat old) { faults = count })
+NotMade seat old call Full new = (old.broken ≡ None) × FindsFull seat old call × Unmade seat (next_count old.fulls) old call new
+NotMade seat old call No_memory new = (old.broken ≡ None) × TakesMemory call × Unmade seat old.fulls old call new
+
+-- a call wants a store that isn't broken; a skip alone does its work at a broken one too
+abbrev pub Works : Node → Call → Type 0
+Works old call = (old.broken ≡ None) ⊎ IsSkip call
 
 -- one step of a seat: this call with this answer leads from old to new
 abbrev pub NodeStep : ℕ → Node → Call → Answer → Node → Type 0
 NodeStep seat old call (Refused fault) new = NotMade seat old call fault new
-NodeStep seat old call answer new = (old.broken ≡ None) × Made seat old call answer new
+NodeStep seat old call answer new = Works old call × Made seat old call answer new
 
 -- steps of other seats
 pub record OtherStep (seat : ℕ) (old new : Node) : Type 0 where
@@ -149,40 +211,81 @@ pub record Counts : Type 0 where
   pub fulls : ℕ
   pub broken : Option ℕ
 
+-- what a seat counts that doesn't tell its node: its store's counts, and how often its calls answered Busy and Read
+pub record SeatCounts : Type 0 where
+  pub store : Counts
+  pub busy : ℕ
+  pub reads : ℕ
+
 -- what a desk tells: its node's state, or the counts alone
 pub data Knows : Type 0 where
   Tells : (node : Node) → Knows
-  Counts_alone : (counts : Counts) → Knows
+  Counts_alone : (counts : SeatCounts) → Knows
 
+-- the counts of the store, which every desk tells
 abbrev pub counts_of : Knows → Counts
 counts_of (Tells n) = record { faults = n.faults; fulls = n.fulls; broken = n.broken }
-counts_of (Counts_alone c) = c
+counts_of (Counts_alone c) = c.store
 
--- the causes of a refusal, by the counts before and after
-abbrev pub Caused : Counts → Answer → Counts → Type 0
-Caused old (Refused (Disk count)) new =
-    ((old.broken ≡ Some count) × (new ≡ old))
-    ⊎ ((old.broken ≡ None) × Increased old.faults count × (new ≡ record old { faults = count; broken = Some count }))
-Caused old (Refused (Read count)) new = Increased old.faults count × (new ≡ record old { faults = count })
-Caused old (Refused Full) new = Increased old.fulls new.fulls × (new ≡ record old { fulls = new.fulls })
-Caused old answer new = new ≡ old
+-- the calls that may find no place
+abbrev pub MayFindFull : Call → Type 0
+MayFindFull (Queue_call files taken answered) = Unit {0}
+MayFindFull (Open_call role peers secure moment) = Unit {0}
+MayFindFull Offer_call = Unit {0}
+MayFindFull (File_call key offset) = Unit {0}
+MayFindFull (Act_call dest) = Unit {0}
+MayFindFull call = ⊥
 
+-- The causes of an answer in the counts before and after, for every desk: what is refused is counted, and but for a
+-- skip a broken store answers Disk alone.
+abbrev pub Caused : Counts → Call → Answer → Counts → Type 0
+Caused old call (Refused (Disk count)) new =
+    (IsSkip call → ⊥)
+    × (((old.broken ≡ Some count) × (new ≡ old))
+    ⊎ ((old.broken ≡ None) × Increased old.faults count × (new ≡ record old { faults = count; broken = Some count })))
+Caused old call (Refused (Read count)) new =
+    IsReading call × (old.broken ≡ None) × Increased old.faults count × (new ≡ record old { faults = count })
+Caused old call (Refused Full) new =
+    MayFindFull call × (old.broken ≡ None) × Increased old.fulls new.fulls × (new ≡ record old { fulls = new.fulls })
+Caused old call (Refused No_memory) new = TakesMemory call × (old.broken ≡ None) × (new ≡ old)
+Caused old call answer new = ((old.broken ≡ None) ⊎ IsSkip call) × (new ≡ old)
+
+-- a store breaks once, at a count to which its faults rose
+abbrev pub MayBreak : Counts → Counts → Type 0
+MayBreak old new =
+    (new.broken ≡ old.broken)
+    ⊎ ((old.broken ≡ None) × ((count : ℕ) × Increased old.faults count × (count ≤ new.faults) × (new.broken ≡ Some count)))
+
+-- neither count fell
 pub record CountsRise (old new : Counts) : Type 0 where
   pub faults : old.faults ≤ new.faults
   pub fulls : old.fulls ≤ new.fulls
+
+-- a seat counts what its own calls answered
+abbrev pub SeatCounted : SeatCounts → Answer → SeatCounts → Type 0
+SeatCounted old Busy new = (new.busy ≡ next_count old.busy) × (new.reads ≡ old.reads)
+SeatCounted old (Refused (Read count)) new = (new.busy ≡ old.busy) × (new.reads ≡ next_count old.reads)
+SeatCounted old answer new = (new.busy ≡ old.busy) × (new.reads ≡ old.reads)
+
+-- other seats change the counts of the store alone
+pub record SeatDrifts (old new : SeatCounts) : Type 0 where
+  pub store : CountsRise old.store new.store
+  pub breaks : MayBreak old.store new.store
+  pub busy : new.busy ≡ old.busy
+  pub reads : new.reads ≡ old.reads
 
 -- what may happen between two calls of a seat: nothing where it is alone
 abbrev pub Drifts : Bool → ℕ → Knows → Knows → Type 0
 Drifts true seat old new = new ≡ old
 Drifts false seat (Tells old) (Tells new) = (n : ℕ) × OtherSteps n seat old new
-Drifts false seat (Counts_alone old) (Counts_alone new) = CountsRise old new
+Drifts false seat (Counts_alone old) (Counts_alone new) = SeatDrifts old new
 Drifts false seat (Tells old) (Counts_alone new) = ⊥
 Drifts false seat (Counts_alone old) (Tells new) = ⊥
 
--- the step, where the desk tells its node's state; whether it tells is changed by no call
+-- the step, where the desk tells its node's state, else what the seat counts; whether it tells is changed by no call
 abbrev pub KnownStep : ℕ → Knows → Call → Answer → Knows → Type 0
 KnownStep seat (Tells old) call answer (Tells new) = NodeStep seat old call answer new
-KnownStep seat (Counts_alone old) call answer (Counts_alone new) = Unit {0}
+KnownStep seat (Counts_alone old) call answer (Counts_alone new) = SeatCounted old answer new
 KnownStep seat (Tells old) call answer (Counts_alone new) = ⊥
 KnownStep seat (Counts_alone old) call answer (Tells new) = ⊥
 
@@ -190,19 +293,6 @@ KnownStep seat (Counts_alone old) call answer (Tells new) = ⊥
 pub record DeskState : Type 0 where
   pub seat : ℕ
   pub knows : Knows
-
--- one call of a desk: at a state that drift reaches, with its causes, and with its step where that is told
-pub record Calls (alone : Bool) (old : DeskState) (call : Call) (answer : Answer) (new : DeskState) : Type 0 where
-  pub seat : new.seat ≡ old.seat
-  pub mid : Knows
-  pub drift : Drifts alone old.seat old.knows mid
-  pub caused : Caused (counts_of mid) answer (counts_of new.knows)
-  pub step : KnownStep old.seat mid call answer new.knows
-
--- these calls with these answers lead from old to new
-abbrev pub Chain : Bool → DeskState → List Event → DeskState → Type 0
-Chain alone old [] new = new ≡ old
-Chain alone old (e ∷ es) new = (mid : DeskState) × Calls alone old e.call e.answer mid × Chain alone mid es new
 
 -- Rows beside a call.
 
@@ -223,7 +313,7 @@ asked_of es = map (λ e. e.asked) es
 abbrev pub Beside : ℕ → Knows → List Event → Knows → Type 0
 Beside seat old [] new = new ≡ old
 Beside seat old (e ∷ es) new =
-    (mid : Knows) × Caused (counts_of old) e.answer (counts_of mid) × KnownStep seat old e.call e.answer mid × Beside seat mid es new
+    (mid : Knows) × Caused (counts_of old) e.call e.answer (counts_of mid) × KnownStep seat old e.call e.answer mid × Beside seat mid es new
 
 abbrev pub IsMade : Answer → Type 0
 IsMade (Refused fault) = ⊥
@@ -241,16 +331,22 @@ EndsRefused (e ∷ f ∷ es) fault = EndsRefused (f ∷ es) fault
 
 -- The row that was asked for; it is missing where one before it was refused, and the answer is that refusal.
 pub data OwnRow (seat : ℕ) (before : List Event) (old : Knows) (asked : Event) (new : Knows) : Type 0 where
-  Made_row : AllMade before → Caused (counts_of old) asked.answer (counts_of new) → KnownStep seat old asked.call asked.answer new → OwnRow seat before old asked new
+  Made_row : AllMade before → Caused (counts_of old) asked.call asked.answer (counts_of new) → KnownStep seat old asked.call asked.answer new → OwnRow seat before old asked new
   Missing : (fault : Fault) → EndsRefused before fault → asked.answer ≡ Refused fault → new ≡ old → OwnRow seat before old asked new
 
 abbrev pub IsQueue : Call → Type 0
-IsQueue (Queue_call files) = Unit {0}
+IsQueue (Queue_call files taken answered) = Unit {0}
 IsQueue call = ⊥
 
-abbrev pub AllQueue : List Event → Type 0
-AllQueue [] = Unit {0}
-AllQueue (e ∷ es) = IsQueue e.call × AllQueue es
+-- what a take-in does: it queues files, and acts on their sources
+abbrev pub TakesIn : Call → Type 0
+TakesIn (Queue_call files taken answered) = Unit {0}
+TakesIn (Act_call dest) = Unit {0}
+TakesIn call = ⊥
+
+abbrev pub AllTakeIn : List Event → Type 0
+AllTakeIn [] = Unit {0}
+AllTakeIn (e ∷ es) = TakesIn e.call × AllTakeIn es
 
 abbrev pub OneQueue : List Event → Type 0
 OneQueue [] = Unit {0}
@@ -259,7 +355,7 @@ OneQueue (e ∷ f ∷ es) = ⊥
 
 -- files are taken in before a session opens, a request is answered behind its receipt, and nothing else stands beside
 abbrev pub StandBeside : Call → (before after : List Event) → Type 0
-StandBeside (Open_call role peers secure moment) before after = AllQueue before × (after ≡ [])
+StandBeside (Open_call role peers secure moment) before after = AllTakeIn before × (after ≡ [])
 StandBeside (File_call key offset) before after = (before ≡ []) × OneQueue after
 StandBeside (Data_call bytes) before after = (before ≡ []) × OneQueue after
 StandBeside call before after = (before ≡ []) × (after ≡ [])

@@ -4,9 +4,17 @@ pub mod Durable
 pub mod Images
 pub mod Items
 pub mod Lists
+pub mod Lives
 pub mod Node
 pub mod Receipts
 pub mod Rows
+pub mod SendRows
+pub mod Stocks
 pub mod Stores
+pub mod StoreWords
 pub mod Talk
 pub mod Turns
+pub mod WorkedAnswers
+pub mod WorkedReceiving
+pub mod WorkedSending
+pub mod Sound

@@ -1,7 +1,9 @@
 -- Node state: what a node keeps, and what is gone after a stop (own).
-use Rattle.std.specs.Prelude.{zero, suc, ℕ, Bool, List, [], ◌∷◌, Option, Some, None, slice_index_or}
+use Rattle.std.specs.Prelude.{zero, suc, ℕ, Bool, false, List, [], ◌∷◌, Option, Some, None, slice_index_or}
 use Rattle.ftn_addr.specs.Address.{Address}
 use Rattle.ftn_addr.specs.Key.{Key}
+use Rattle.ftn_addr.specs.declared.source_file.Action.{Action}
+use Rattle.node_model.specs.declared.words.Flavour.{Flavour}
 use Rattle.node_model.specs.declared.words.Role.{Role}
 use Rattle.node_model.specs.Durable.{Durable, nothing_kept}
 
@@ -42,7 +44,7 @@ empty_seat = record { busy = 0; reads = 0; session = None }
 
 -- a record of the ledger
 pub data Record : Type 0 where
-  Queue_record : (number : ℕ) (dest : Address) (key : Key) → Record
+  Queue_record : (number : ℕ) (dest : Address) (key : Key) (flavour : Flavour) (source : List ℕ) (action : Action) → Record
   Done_record : (number session : ℕ) → Record
   Received_record : (receipt : ℕ) (from : Address) (key : Key) (session : ℕ) (secure : Bool) → Record
   Refused_record : (from : Address) (key : Key) (session reason : ℕ) → Record
@@ -62,14 +64,18 @@ pub record Settings : Type 0 where
   pub refuse_over : ℕ
 
 -- the state; the records appended since the store was opened or made; the seats, empty beyond the list's end; the
--- sessions begun, the places reserved, the store's counts, and the receipt last given
+-- sessions begun; the records that the ledger holds and the places reserved; the greatest numbers of a queued file and
+-- of a part that were drawn; the store's counts, and the receipt last given
 pub record Node : Type 0 where
   pub state : Durable
   pub log : List Logged
   pub seats : List Seat
   pub settings : Settings
   pub begun : ℕ
+  pub records : ℕ
   pub reserved : ℕ
+  pub staged : ℕ
+  pub drawn : ℕ
   pub faults : ℕ
   pub fulls : ℕ
   pub broken : Option ℕ
@@ -82,7 +88,7 @@ plain_settings = record { max_servers = 100; refuse_names = []; refuse_over = 18
 -- a node with nothing in it
 abbrev pub blank : Node
 blank =
-    record { state = nothing_kept; log = []; seats = []; settings = plain_settings; begun = 0; reserved = 0; faults = 0; fulls = 0; broken = None; last_given = 0 }
+    record { state = nothing_kept; log = []; seats = []; settings = plain_settings; begun = 0; records = 0; reserved = 0; staged = 0; drawn = 0; faults = 0; fulls = 0; broken = None; last_given = 0 }
 
 abbrev pub peers : Session → List Address
 peers s = s.first ∷ s.others
@@ -105,11 +111,32 @@ abbrev pub hold_in : Option Session → Option Hold
 hold_in None = None
 hold_in (Some s) = s.hold
 
+abbrev pub claim_in : Option Session → Option ℕ
+claim_in None = None
+claim_in (Some s) = s.claim
+
+abbrev pub takes : Option Hold → Bool
+takes None = false
+takes (Some h) = h.taking
+
+-- a file is held and its data is taken
+abbrev pub taking_in : Option Session → Bool
+taking_in s = takes (hold_in s)
+
 -- the seat's session is another
 abbrev pub with_session : ℕ → Option Session → Node → Node
 with_session seat s n = record n { seats = put_seat seat (record (seat_in n.seats seat) { session = s }) n.seats }
 
--- Stop: what is kept stays, no seat has a session, and the store is opened again under settings that may be others.
--- Its counts are those of new objects.
-abbrev pub stopped : Settings → (faults fulls : ℕ) → Node → Node
-stopped settings faults fulls n = record blank { state = n.state; settings = settings; faults = faults; fulls = fulls }
+-- with what a node is opened again: settings that may be others, the counts of new objects, and what the ledger holds
+pub record Opening : Type 0 where
+  pub settings : Settings
+  pub faults : ℕ
+  pub fulls : ℕ
+  pub records : ℕ
+  pub staged : ℕ
+  pub drawn : ℕ
+
+-- Stop: what is kept stays, no seat has a session, and the store is opened again.
+abbrev pub stopped : Opening → Node → Node
+stopped o n =
+    record blank { state = n.state; settings = o.settings; records = o.records; staged = o.staged; drawn = o.drawn; faults = o.faults; fulls = o.fulls }

@@ -1,20 +1,34 @@
 -- Node step: for each call its answer and its change (own; the answers to a file are those of FTS-1026's receiver).
-use Rattle.std.specs.Prelude.{◌≡◌, ◌≢◌, ◌⊎◌, ℕ, Bool, true, false, ◌||◌, ◌&&◌, ◌+◌, ◌-◌, ◌/◌, max, ◌<◌, List, [], ◌∷◌, ◌++◌, Option, Some, None, length, map, drop, if◌then◌else◌, nat_lt, nat_le, count_by, nat_eq}
+use Rattle.std.specs.Prelude.{◌≡◌, ◌≢◌, ◌⊎◌, ℕ, Bool, true, false, ◌||◌, ◌&&◌, ◌+◌, ◌-◌, ◌/◌, max, ◌≤◌, ◌<◌, List, [], ◌∷◌, ◌++◌, Option, Some, None, length, map, drop, if◌then◌else◌, nat_lt, nat_le, count_by, nat_eq}
 use Rattle.std.specs.Char.{to_ascii_lowercase}
 use Rattle.std.specs.Cmp.Lexicographic.{pointwise}
 use Rattle.ftn_addr.specs.Address.{Address}
+use Rattle.ftn_addr.specs.Counts.{next_count}
 use Rattle.ftn_addr.specs.Files.{is_same}
 use Rattle.ftn_addr.specs.Key.{Key}
+use Rattle.node_model.specs.declared.words.TheConstants.{MOST_RECORDS, LEAST_STRIDE, STRIDES}
+use Rattle.ftn_addr.specs.declared.limits.TheConstants.{MAX_NUMBER}
 use Rattle.node_model.specs.declared.words.Role.{Role}
 use Rattle.node_model.specs.declared.words.Role.TheVariants.{Calls, Answers}
 use Rattle.node_model.specs.Items.{Receipt, Mark}
 use Rattle.node_model.specs.Lists.{Member, Each, some_passes}
-use Rattle.node_model.specs.Durable.{Durable, is_known, mark_of, marked, with_receipt, with_refusal}
-use Rattle.node_model.specs.Node.{Hold, Session, Seat, Settings, Node, session_at, hold_in, with_session, Logged, Record, Received_record, Refused_record}
+use Rattle.node_model.specs.Durable.{Durable, is_known, mark_of, marked, with_receipt, with_refusal, with_mark}
+use Rattle.node_model.specs.Node.{Hold, Session, Seat, Settings, Node, seat_in, put_seat, session_at, hold_in, with_session, Logged, Record, Received_record, Refused_record, Mark_record}
 
 -- one record of a seat
 abbrev pub by : ℕ → Record → List Logged
 by seat r = record { seat = seat; entry = r } ∷ []
+
+-- these records of a seat
+abbrev pub all_by : ℕ → List Record → List Logged
+all_by seat rs = map (λ r. record { seat = seat; entry = r }) rs
+
+-- so many places more can be reserved or used: with the records held and the places reserved they are at most those of a ledger
+abbrev pub HasRoom : Node → ℕ → Type 0
+HasRoom n wanted = n.records + n.reserved + wanted ≤ MOST_RECORDS
+
+abbrev pub LacksRoom : Node → ℕ → Type 0
+LacksRoom n wanted = MOST_RECORDS < n.records + n.reserved + wanted
 
 -- Knock.
 
@@ -39,6 +53,15 @@ pub record KnockCome (seat : ℕ) (role : Role) (old new : Node) : Type 0 where
   pub may : MayCome role old
   pub after : new ≡ old
 
+-- the seat's count of knocks that were turned away
+abbrev pub one_busy_more : ℕ → Node → Node
+one_busy_more seat n = record n { seats = put_seat seat (record (seat_in n.seats seat) { busy = next_count (seat_in n.seats seat).busy }) n.seats }
+
+pub record KnockBusy (seat : ℕ) (role : Role) (old new : Node) : Type 0 where
+  pub answers_calls : is_answering role ≡ true
+  pub full : old.settings.max_servers ≤ answering_sessions old
+  pub after : new ≡ one_busy_more seat old
+
 -- Open.
 
 abbrev pub new_session : ℕ → Role → Address → List Address → Bool → ℕ → Session
@@ -51,6 +74,7 @@ pub record OpenRow (seat : ℕ) (role : Role) (peers : List Address) (secure : B
   pub others : List Address
   pub has_first : peers ≡ first ∷ others
   pub none_yet : session_at old seat ≡ None
+  pub few : old.begun < MAX_NUMBER
   pub after : new ≡ record (with_session seat (Some (new_session (old.begun + 1) role first others secure moment)) old) { begun = old.begun + 1 }
 
 -- File.
@@ -59,9 +83,35 @@ pub record OpenRow (seat : ℕ) (role : Role) (peers : List Address) (secure : B
 abbrev pub unheld : Session → Session
 unheld s = record s { hold = None; hold_places = 0 }
 
--- The hold ends, and its places go back. No mark is made yet: a part that isn't whole is given up.
+abbrev pub mark_for : Hold → Mark
+mark_for h = record { number = h.number; from = h.from; key = h.key; bytes = h.bytes }
+
+-- the held bytes are more than the mark's
+abbrev pub is_ahead : Hold → Durable → Bool
+is_ahead h d = nat_lt (length (marked h.from h.key d)) (length h.bytes)
+
+-- the mark of what is held becomes its bytes, where these are more
+abbrev pub mark_held : Hold → Durable → Durable
+mark_held h d = if is_ahead h d then with_mark (mark_for h) d else d
+
+abbrev pub mark_any : Option Hold → Durable → Durable
+mark_any None d = d
+mark_any (Some h) d = mark_held h d
+
+abbrev pub mark_record : Hold → Record
+mark_record h = Mark_record h.number h.from h.key (length h.bytes)
+
+abbrev pub marks_held : ℕ → Hold → Durable → List Logged
+marks_held seat h d = if is_ahead h d then by seat (mark_record h) else []
+
+abbrev pub marks_any : ℕ → Option Hold → Durable → List Logged
+marks_any seat None d = []
+marks_any seat (Some h) d = marks_held seat h d
+
+-- what is held is marked, the hold ends, and its places go back
 abbrev pub released : ℕ → Session → Node → Node
-released seat s n = record (with_session seat (Some (unheld s)) n) { reserved = n.reserved - s.hold_places }
+released seat s n =
+    record (with_session seat (Some (unheld s)) n) { state = mark_any s.hold n.state; log = n.log ++ marks_any seat s.hold n.state; records = n.records + length (marks_any seat s.hold n.state); reserved = n.reserved - s.hold_places }
 
 -- a name ends with a text, ASCII case ignored
 abbrev pub ends_with : List ℕ → List ℕ → Bool
@@ -87,16 +137,19 @@ pub record HeldElsewhere (n : Node) (seat : ℕ) (from : Address) (key : Key) : 
   pub holds : hold_in (session_at n other) ≡ Some hold
   pub same : is_same from key hold.from hold.key ≡ true
 
--- a number for a part: that of its mark, or one that no mark, receipt or hold has
+-- a number for a part: that of its mark, or one that no mark, receipt or hold has, and that isn't above the next to be drawn
 pub record PartNumber (n : Node) (from : Address) (key : Key) (number : ℕ) : Type 0 where
   pub its_own : (m : Mark) → mark_of from key n.state ≡ Some m → m.number ≡ number
   pub unmarked : mark_of from key n.state ≡ None → Each (λ (m : Mark). m.number ≢ number) n.state.marks
   pub unreceived : Each (λ (r : Receipt). r.number ≢ number) n.state.inbox
   pub unheld : (seat : ℕ) (h : Hold) → hold_in (session_at n seat) ≡ Some h → h.number ≢ number
+  pub some : 1 ≤ number
+  pub next : number ≤ n.drawn + 1
+  pub few : number ≤ MAX_NUMBER
 
 -- the unmarked bytes after which a mark is made: 16 MiB, or a 128th of the file, rounded up, where that is more
 abbrev pub stride : ℕ → ℕ
-stride size = max 16777216 ((size + 127) / 128)
+stride size = max LEAST_STRIDE ((size + (STRIDES - 1)) / STRIDES)
 
 -- one place for the receipt, and one for each whole stride between the mark and the size
 abbrev pub places_for : ℕ → ℕ → ℕ
@@ -107,9 +160,10 @@ abbrev pub hold_from : ℕ → Address → Key → Bool → Durable → Hold
 hold_from number from key taking d =
     record { number = number; from = from; key = key; bytes = marked from key d; stored = true; taking = taking }
 
+-- a session holds a file, and has places for its records
 abbrev pub holding : ℕ → Hold → ℕ → Session → Node → Node
 holding seat hold places s n =
-    record (with_session seat (Some (record s { hold = Some hold; hold_places = places })) n) { reserved = n.reserved + places }
+    record (with_session seat (Some (record s { hold = Some hold; hold_places = places })) n) { reserved = n.reserved + places; drawn = max n.drawn hold.number }
 
 -- a receipt that was neither answered nor given
 abbrev pub receipt_of : ℕ → Session → Key → List ℕ → Receipt
@@ -134,40 +188,94 @@ pub record Acceptable (seat : ℕ) (session : Session) (key : Key) (n : Node) : 
   pub wanted : refuses n.settings key ≡ false
   pub free : HeldElsewhere n seat session.first key → ⊥
 
--- the answers to a file, each once the hold has ended; `s` is the session without it
-abbrev pub Answered : ℕ → Session → Key → ℕ → FileAnswer → Node → Node → Type 0
-Answered seat s key offset Have n new = (is_known s.first key n.state ≡ true) × (new ≡ n)
-Answered seat s key offset Refuse n new =
-    (is_known s.first key n.state ≡ false) × (refuses n.settings key ≡ true)
-    × (new ≡ record n { state = with_refusal (record { from = s.first; key = key }) n.state; log = n.log ++ by seat (Refused_record s.first key s.number (reason n.settings key)) })
-Answered seat s key offset Elsewhere n new =
-    (is_known s.first key n.state ≡ false) × (refuses n.settings key ≡ false) × HeldElsewhere n seat s.first key × (new ≡ n)
-Answered seat s key offset Go n new =
-    Acceptable seat s key n × (offset ≡ length (marked s.first key n.state)) × (offset < key.size)
-    × ((number : ℕ) × PartNumber n s.first key number
-    × (new ≡ holding seat (hold_from number s.first key true n.state) (places_for offset key.size) s n))
-Answered seat s key offset Whole n new =
-    Acceptable seat s key n × (offset ≡ length (marked s.first key n.state)) × (offset ≡ key.size)
-    × ((number : ℕ) × PartNumber n s.first key number
-    × (new ≡ record n { state = with_receipt (receipt_of number s key (marked s.first key n.state)) n.state; log = n.log ++ by seat (received_record number s key) }))
-Answered seat s key offset (From place) n new =
-    Acceptable seat s key n × (place ≡ length (marked s.first key n.state)) × (offset ≢ place) × (Member key s.missed → ⊥)
-    × ((number : ℕ) × PartNumber n s.first key number
-    × (new ≡ holding seat (hold_from number s.first key false n.state) (places_for place key.size) (record s { missed = key ∷ s.missed }) n))
-Answered seat s key offset Late n new =
-    Acceptable seat s key n × (offset ≢ length (marked s.first key n.state)) × Member key s.missed × (new ≡ n)
+-- the length of the mark of a session's file
+abbrev pub mark_length : Session → Key → Node → ℕ
+mark_length s key n = length (marked s.first key n.state)
 
+-- where each answer applies, once the hold has ended; `s` is the session without it
+abbrev pub Applies : ℕ → Session → Key → ℕ → FileAnswer → Node → Type 0
+Applies seat s key offset Have n = is_known s.first key n.state ≡ true
+Applies seat s key offset Refuse n = (is_known s.first key n.state ≡ false) × (refuses n.settings key ≡ true)
+Applies seat s key offset Elsewhere n =
+    (is_known s.first key n.state ≡ false) × (refuses n.settings key ≡ false) × HeldElsewhere n seat s.first key
+Applies seat s key offset Go n = Acceptable seat s key n × (offset ≡ mark_length s key n) × (offset < key.size)
+Applies seat s key offset Whole n = Acceptable seat s key n × (offset ≡ mark_length s key n) × (offset ≡ key.size)
+Applies seat s key offset (From place) n =
+    Acceptable seat s key n × (place ≡ mark_length s key n) × (offset ≢ place) × (Member key s.missed → ⊥)
+Applies seat s key offset Late n = Acceptable seat s key n × (offset ≢ mark_length s key n) × Member key s.missed
+
+-- the places that each answer wants, for a file of that size with a mark of that length
+abbrev pub wanted_places : FileAnswer → (have size : ℕ) → ℕ
+wanted_places Refuse have size = 1
+wanted_places Whole have size = 1
+wanted_places Go have size = places_for have size
+wanted_places (From place) have size = places_for have size
+wanted_places _ have size = 0
+
+-- the answers that draw a number for a part
+abbrev pub draws : FileAnswer → Bool
+draws Go = true
+draws Whole = true
+draws (From place) = true
+draws _ = false
+
+-- what each answer changes
+abbrev pub FileMade : ℕ → Session → Key → FileAnswer → Node → Node → Type 0
+FileMade seat s key Refuse n new =
+    new ≡ record n { state = with_refusal (record { from = s.first; key = key }) n.state; log = n.log ++ by seat (Refused_record s.first key s.number (reason n.settings key)); records = n.records + 1 }
+FileMade seat s key Go n new =
+    (number : ℕ) × PartNumber n s.first key number
+    × (new ≡ holding seat (hold_from number s.first key true n.state) (places_for (mark_length s key n) key.size) s n)
+FileMade seat s key Whole n new =
+    (number : ℕ) × PartNumber n s.first key number
+    × (new ≡ record n { state = with_receipt (receipt_of number s key (marked s.first key n.state)) n.state; log = n.log ++ by seat (received_record number s key); records = n.records + 1; drawn = max n.drawn number })
+FileMade seat s key (From place) n new =
+    (number : ℕ) × PartNumber n s.first key number
+    × (new ≡ holding seat (hold_from number s.first key false n.state) (places_for place key.size) (record s { missed = key ∷ s.missed }) n)
+FileMade seat s key _ n new = new ≡ n
+
+-- a file is offered: first what was held is released, then the answer that applies is made
 pub record FileRow (seat : ℕ) (key : Key) (offset : ℕ) (answer : FileAnswer) (old new : Node) : Type 0 where
   pub session : Session
   pub has : session_at old seat ≡ Some session
-  pub answered : Answered seat (unheld session) key offset answer (released seat session old) new
+  pub applies : Applies seat (unheld session) key offset answer (released seat session old)
+  pub room : HasRoom (released seat session old) (wanted_places answer (mark_length session key (released seat session old)) key.size)
+  pub made : FileMade seat (unheld session) key answer (released seat session old) new
+
+-- The answer that applies wants more places than there are, or a number where the last one is drawn.
+pub record FileFull (seat : ℕ) (key : Key) (offset : ℕ) (old : Node) : Type 0 where
+  pub session : Session
+  pub has : session_at old seat ≡ Some session
+  pub answer : FileAnswer
+  pub applies : Applies seat (unheld session) key offset answer (released seat session old)
+  pub cause : LacksRoom (released seat session old) (wanted_places answer (mark_length session key (released seat session old)) key.size)
+      ⊎ ((draws answer ≡ true) × (mark_of session.first key (released seat session old).state ≡ None) × (old.drawn ≡ MAX_NUMBER))
 
 -- Data.
 
 abbrev pub grown : Hold → List ℕ → Hold
 grown h bytes = record h { bytes = h.bytes ++ bytes }
 
--- the held bytes grow, and more are to come; no mark is made yet, also none at a stride
+-- the unmarked bytes reach the stride
+abbrev pub at_stride : Hold → Durable → Bool
+at_stride h d = nat_le (length (marked h.from h.key d) + stride h.key.size) (length h.bytes)
+
+abbrev pub marked_at_stride : Hold → Durable → Durable
+marked_at_stride h d = if at_stride h d then with_mark (mark_for h) d else d
+
+abbrev pub stride_records : ℕ → Hold → Durable → List Logged
+stride_records seat h d = if at_stride h d then by seat (mark_record h) else []
+
+-- the place that it uses
+abbrev pub stride_place : Hold → Durable → ℕ
+stride_place h d = if at_stride h d then 1 else 0
+
+-- a session that holds more, at a node where that is marked at a stride
+abbrev pub holding_more : ℕ → Session → Hold → Node → Node
+holding_more seat s h n =
+    record (with_session seat (Some (record s { hold = Some h; hold_places = s.hold_places - stride_place h n.state })) n) { state = marked_at_stride h n.state; log = n.log ++ stride_records seat h n.state; records = n.records + stride_place h n.state; reserved = n.reserved - stride_place h n.state }
+
+-- the held bytes grow, and more are to come; at a stride they are marked
 pub record DataMore (seat : ℕ) (bytes : List ℕ) (old new : Node) : Type 0 where
   pub session : Session
   pub has : session_at old seat ≡ Some session
@@ -175,7 +283,7 @@ pub record DataMore (seat : ℕ) (bytes : List ℕ) (old new : Node) : Type 0 wh
   pub holds : session.hold ≡ Some hold
   pub taking : hold.taking ≡ true
   pub short : length hold.bytes + length bytes < hold.key.size
-  pub after : new ≡ with_session seat (Some (record session { hold = Some (grown hold bytes) })) old
+  pub after : new ≡ holding_more seat session (grown hold bytes) old
 
 -- the held bytes reach the size: a receipt, and the hold ends
 pub record DataWhole (seat : ℕ) (bytes : List ℕ) (old new : Node) : Type 0 where
@@ -185,13 +293,14 @@ pub record DataWhole (seat : ℕ) (bytes : List ℕ) (old new : Node) : Type 0 w
   pub holds : session.hold ≡ Some hold
   pub taking : hold.taking ≡ true
   pub whole : length hold.bytes + length bytes ≡ hold.key.size
-  pub after : new ≡ record (released seat session old) { state = with_receipt (receipt_of hold.number session hold.key (hold.bytes ++ bytes)) old.state; log = old.log ++ by seat (received_record hold.number session hold.key) }
+  pub after : new ≡ record (released seat session old) { state = with_receipt (receipt_of hold.number session hold.key (hold.bytes ++ bytes)) old.state; log = old.log ++ by seat (received_record hold.number session hold.key); records = old.records + 1 }
 
 -- Leave.
 
--- claim, hold, places and session end
+-- what is held is marked; claim, hold, places and session end
 abbrev pub left_by : ℕ → Session → Node → Node
-left_by seat s n = record (with_session seat None n) { reserved = n.reserved - (s.claim_places + s.hold_places) }
+left_by seat s n =
+    record (with_session seat None n) { state = mark_any s.hold n.state; log = n.log ++ marks_any seat s.hold n.state; records = n.records + length (marks_any seat s.hold n.state); reserved = n.reserved - (s.claim_places + s.hold_places) }
 
 pub record LeaveOpen (seat : ℕ) (old new : Node) : Type 0 where
   pub session : Session

@@ -1,12 +1,11 @@
 -- Rows over messages that were made.
-use Rattle.std.proofs.Common.{◌≡◌, ◌⊎◌, ◌≤◌, ◌-◌, ◌∙◌, ℕ, Bool, true, List, [], ◌∷◌, ◌++◌, length, Option, Some, None, Result, refl, sym, ap, subst, inl, inr, arith, true, false, not}
-use Rattle.node_model.specs.Rows.{Go}
+use Rattle.std.proofs.Common.{◌≡◌, ◌⊎◌, ◌≤◌, ◌<◌, ◌∙◌, ℕ, Bool, true, List, [], ◌∷◌, ◌++◌, length, Option, Some, Result, refl, sym, ap, subst, inl, inr, arith, true, false, not}
 use Rattle.std.proofs.lemmas.List.{append-nil}
 use Rattle.std.proofs.lemmas.List.Elements.{All-filter}
 use Rattle.ftn_addr.specs.Key.{Key}
-use Rattle.node_model.specs.Calls.{Open_call, File_call, Data_call, Answer, Filed, Event, turned, asked_of}
+use Rattle.node_model.specs.Calls.{Open_call, File_call, Data_call, Answer, Event, turned, asked_of}
 use Rattle.node_model.specs.Images.{Stand, Kept}
-use Rattle.node_model.specs.Talk.{Message, Got, Talk, Part, Verdict, on, AfterFile, FileTaken, Asks, AfterData, DataTaken, Fits}
+use Rattle.node_model.specs.Talk.{Message, Get, Got, Skip, Talk, Part, Verdict, on, AfterFile, FileTaken, AfterData, DataTaken, Fits}
 use Rattle.node_model.specs.declared.desk.DeskFault.{DeskFault}
 use Rattle.session_core.specs.declared.receiver.RecvStep.{RecvStep}
 use Rattle.node_model.specs.Desks.{held_after}
@@ -18,13 +17,13 @@ use Rattle.node_model.specs.declared.words.Role.TheVariants.{Answers}
 use Rattle.session_core.specs.Takings.{Took}
 use Rattle.session_core.specs.Takings as T
 use Rattle.session_core.specs.Sessions.{on as on_reply, said_bytes, Setting, Reply, Stage, Plain, AfterBegin, LoginRow}
-use Rattle.session_core.specs.Replies.{Acknowledges, Did, DidPlain, MadeRow, NothingMore, IfMore, Writes, DidTake, WritesStep, step_outcome}
+use Rattle.session_core.specs.Replies.{SaysOnly, Did, DidPlain, MadeRow, NothingMore, IfMore, Writes, DidTake, WritesStep, step_outcome}
 use Rattle.node_model.proofs.Rans.{ran_none, ran_one}
 use Rattle.session_core.proofs.Writings.{wrote_all}
 
-pub did_file : (t : Talk) (key : Key) (offset : ℕ) (x : Answer) (v : Verdict) (alone : Bool) (old new : Stand) (held held' : Option Part) (out out' : List ℕ) (step : Result RecvStep DeskFault) → offset ≡ 0 → AfterFile t key x v → Kept alone old (File_call key offset) x new → held' ≡ held_after held (File_call key offset) x → WritesStep out out' v step → DidTake (FileTaken t key offset) alone old new held held' out out' step
-did_file t key offset x v alone old new held held' out out' step start after kept is writes =
-    record { events = turned (File_call key offset) x kept.rows_before kept.rows_after ∷ []; verdict = v; row = Asks start x refl after; ran = ran_one alone old _ x new kept; held_is = is; writes = writes }
+pub did_file : (t : Talk) (key : Key) (offset : ℕ) (x : Answer) (v : Verdict) (alone : Bool) (old new : Stand) (held held' : Option Part) (out out' : List ℕ) (step : Result RecvStep DeskFault) → AfterFile t key x v → Kept alone old (File_call key offset) x new → held' ≡ held_after held (File_call key offset) x → WritesStep out out' v step → DidTake (FileTaken t key offset) alone old new held held' out out' step
+did_file t key offset x v alone old new held held' out out' step after kept is writes =
+    record { events = turned (File_call key offset) x kept.rows_before kept.rows_after ∷ []; verdict = v; row = record { answer = x; asks = refl; then = after }; ran = ran_one alone old _ x new kept; held_is = is; writes = writes }
 
 pub did_data : (t : Talk) (p : Part) (bytes : List ℕ) (x : Answer) (v : Verdict) (alone : Bool) (old new : Stand) (held held' : Option Part) (out out' : List ℕ) (step : Result RecvStep DeskFault) → held ≡ Some p → p.taking ≡ true → length bytes ≤ p.left → AfterData t p.key x v → Kept alone old (Data_call bytes) x new → held' ≡ held_after held (Data_call bytes) x → WritesStep out out' v step → DidTake (DataTaken held t bytes) alone old new held held' out out' step
 did_data t p bytes x v alone old new held held' out out' step has taking fits after kept is writes =
@@ -39,19 +38,24 @@ pub did_plain : (P : List Event → Verdict → Type 0) (v : Verdict) (alone : B
 did_plain P v alone s held out step row is none =
     record { events = []; verdict = v; row = row; ran = ran_none alone s; held_is = refl; writes = quiet out v step is none }
 
--- the acknowledgement is all that is said
-pub acknowledged : (t : Talk) (key : Key) (out out' : List ℕ) (step : Result RecvStep DeskFault) → Acknowledges key out out' step → WritesStep out out' (on t (Got key ∷ [])) step
-acknowledged t key out out' step (inl did) = inl (ap step_outcome did.0, did.1)
-acknowledged t key out out' step (inr did) = inr (did.0, omega arith, did.1)
+-- that message is all that is said
+pub answered : (t : Talk) (message : Message) (out out' : List ℕ) (step : Result RecvStep DeskFault) → 0 < length (said_bytes (message ∷ [])) → SaysOnly message out out' step → WritesStep out out' (on t (message ∷ [])) step
+answered t message out out' step some (inl did) = inl (ap step_outcome did.0, did.1)
+answered t message out out' step some (inr did) = inr (did.0, some, did.1)
+
+pub acknowledged : (t : Talk) (key : Key) (out out' : List ℕ) (step : Result RecvStep DeskFault) → SaysOnly (Got key) out out' step → WritesStep out out' (on t (Got key ∷ [])) step
+acknowledged t key out out' step did = answered t (Got key) out out' step (omega arith) did
+
+pub passed_over : (t : Talk) (key : Key) (out out' : List ℕ) (step : Result RecvStep DeskFault) → SaysOnly (Skip key) out out' step → WritesStep out out' (on t (Skip key ∷ [])) step
+passed_over t key out out' step did = answered t (Skip key) out out' step (omega arith) did
+
+pub asked_again : (t : Talk) (key : Key) (place : ℕ) (out out' : List ℕ) (step : Result RecvStep DeskFault) → SaysOnly (Get key place) out out' step → WritesStep out out' (on t (Get key place ∷ [])) step
+asked_again t key place out out' step did = answered t (Get key place) out out' step (omega arith) did
 
 -- the same, with what is held seen otherwise
 pub held_as : (P : List Event → Verdict → Type 0) (alone : Bool) (old new : Stand) (out out' : List ℕ) (step : Result RecvStep DeskFault) {b c d : Option Part} → c ≡ d → DidTake P alone old new b c out out' step → DidTake P alone old new b d out out' step
 held_as P alone old new out out' step f did =
     record { events = did.events; verdict = did.verdict; row = did.row; ran = did.ran; held_is = sym f ∙ did.held_is; writes = did.writes }
-
--- what is to come of a file that is taken from its start
-pub from_start : (key : Key) (offset : ℕ) → offset ≡ 0 → Some (record { key = key; left = key.size; taking = true }) ≡ held_after None (File_call key offset) (Filed Go)
-from_start key offset start = let left : key.size ≡ key.size - offset = omega arith in ap (λ (n : ℕ). Some (record { key = key; left = n; taking = true })) left
 
 -- a row of a session that makes no call
 pub did_row : (reply : Reply) (alone : Bool) (s : Stand) (stage : Stage) (out out' : List ℕ) (took : Took) → DidPlain reply stage out out' took → Did (Plain reply) alone s s stage out out' took

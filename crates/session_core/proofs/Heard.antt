@@ -1,16 +1,16 @@
 -- Messages after login that were taken.
-use Rattle.std.proofs.Common.{◌≡◌, ◌⊎◌, ◌∙◌, ℕ, Bool, true, false, List, [], ◌∷◌, ◌++◌, Option, Result, Err, refl, sym, ap, subst, inl, inr, ◌<◌, length, arith}
+use Rattle.std.proofs.Common.{◌≡◌, ◌⊎◌, ◌∙◌, ℕ, Bool, true, false, List, [], ◌∷◌, ◌++◌, Option, Result, Err, refl, sym, ap, subst, inl, inr, ◌<◌, length}
 use Rattle.std.specs.Prelude.{MatchBool}
 use Rattle.std.proofs.lemmas.List.{append-nil}
 use Rattle.ftn_addr.specs.Key.{Key}
 use Rattle.binkp_args.specs.Command.{CommandText}
 use Rattle.ftn_addr.specs.Outcomes.{Fails}
 use Rattle.binkp_args.specs.declared.fault.ArgFault.{ArgFault}
-use Rattle.binkp_args.specs.declared.fault.ArgFault.TheVariants.{MissingWord, BadNumber, LongName, TooLarge, PastEnd, NoAddress, NoMemory as NoMemoryFault}
+use Rattle.binkp_args.specs.declared.fault.ArgFault.TheVariants.{NoMemory as NoMemoryFault}
 use Rattle.node_model.specs.Rows.{Have, Refuse, Elsewhere, Go, Whole, From, Late}
 use Rattle.node_model.specs.Calls.{Answer, Filed, More, Whole_now, Refused, Event, asked_of}
 use Rattle.node_model.specs.Images.{Stand}
-use Rattle.node_model.specs.Talk.{on, End as EndMessage, Talk, Part, Message, Verdict, TakeRow, AfterFile, FileTaken, Asks, Not_yet, AfterData, DataTaken, Nothing_held, Drops, Exceeds, Fits, Outcome}
+use Rattle.node_model.specs.Talk.{on, End as EndMessage, Talk, Part, Message, Verdict, TakeRow, AfterFile, FileTaken, AfterData, DataTaken, Nothing_held, Drops, Exceeds, Fits, Outcome}
 use Rattle.node_model.specs.declared.desk.DeskFault.{DeskFault}
 use Rattle.session_core.specs.declared.ending.Cause.TheVariants as C
 use Rattle.session_core.specs.Ends as E
@@ -36,8 +36,7 @@ file_after t key (Refused fault) v a = ap (λ (w : Verdict). w.after) a
 file_after t key _ v a = absurd a
 
 pub file_keeps : (t : Talk) (key : Key) (offset : ℕ) (es : List Event) (v : Verdict) → FileTaken t key offset es v → v.after ≡ t
-file_keeps t key offset es v (Asks start x asks after) = file_after t key x v after
-file_keeps t key offset es v (Not_yet other none is) = ap (λ (w : Verdict). w.after) is
+file_keeps t key offset es v row = file_after t key row.answer v row.then
 
 data_after : (t : Talk) (key : Key) (x : Answer) (v : Verdict) → AfterData t key x v → v.after ≡ t
 data_after t key More v a = ap (λ (w : Verdict). w.after) a

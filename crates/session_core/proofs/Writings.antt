@@ -4,10 +4,10 @@ use Rattle.std.proofs.lemmas.List.{append-nil}
 use Rattle.session_core.specs.Takings.{Took}
 use Rattle.session_core.specs.Takings as T
 use Rattle.session_core.specs.Ends as E
-use Rattle.binkp_args.specs.Command.{CommandText, Error, Accept}
+use Rattle.binkp_args.specs.Command.{CommandText, Error, Bsy, Accept}
 use Rattle.session_core.specs.declared.ending.Cause.{Cause}
 use Rattle.session_core.specs.declared.ending.Cause.TheVariants as C
-use Rattle.session_core.specs.Sessions.{Said, command_bytes, broken_frame, offset_again, disk_fault, ledger_full, welcome}
+use Rattle.session_core.specs.Sessions.{Said, command_bytes, broken_frame, offset_again, disk_fault, ledger_full, too_many, welcome}
 use Rattle.session_core.specs.Replies.{Writes, IfMore, cause_bytes}
 
 -- all of it
@@ -62,6 +62,10 @@ some_disk = some_command (Error (codes "disk fault"))
 pub some_full : 0 < length ledger_full
 unfolding ledger_full
 some_full = some_command (Error (codes "ledger full"))
+
+pub some_many : 0 < length too_many
+unfolding too_many
+some_many = some_command (Bsy (codes "too many servers"))
 
 pub some_welcome : 0 < length welcome
 unfolding welcome

@@ -13,6 +13,7 @@ pub data End : Type 0 where
   LedgerFull : End
   Quiet : End
   Endless : End
+  TurnedAway : End
   NoMemory : End
 
 abbrev pub end_text : EndCode → End
@@ -24,4 +25,5 @@ end_text (V.DiskFault count) = DiskFault count
 end_text V.LedgerFull = LedgerFull
 end_text V.Quiet = Quiet
 end_text V.Endless = Endless
+end_text V.TurnedAway = TurnedAway
 end_text V.NoMemory = NoMemory

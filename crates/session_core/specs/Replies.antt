@@ -1,14 +1,14 @@
 -- How the code's rows stand to the session's: what was asked of the desk, and what was written.
-use Rattle.std.specs.Prelude.{◌≡◌, ◌≢◌, ◌⊎◌, ◌<◌, ℕ, length, Bool, true, List, [], ◌∷◌, ◌++◌, map, Option, Some, None, Result, Ok, Err}
+use Rattle.std.specs.Prelude.{◌≡◌, ◌≢◌, ◌⊎◌, ◌<◌, ℕ, length, Bool, true, false, List, [], ◌∷◌, ◌++◌, map, Option, Some, None, Result, Ok, Err}
 use Rattle.ftn_addr.specs.Address.{address}
-use Rattle.ftn_addr.specs.Key.{Key, key_of}
+use Rattle.ftn_addr.specs.Key.{key_of}
 use Rattle.ftn_addr.specs.Limits.{IsKey}
 use Rattle.binkp_args.specs.Limits.{AreAddresses}
 use Rattle.binkp_args.specs.declared.fault.ArgFault.{ArgFault}
 use Rattle.binkp_args.specs.declared.fault.ArgFault.TheVariants.{NoMemory}
 use Rattle.node_model.specs.Calls.{Event, Turned, asked_of}
 use Rattle.node_model.specs.Images.{Stand, RanAt}
-use Rattle.node_model.specs.Talk.{Got, Talk, Part, Out_of_turn, Too_much, Refused_by, Outcome, Goes_on, Ends, Verdict}
+use Rattle.node_model.specs.Talk.{Message, Talk, Part, Too_late, Too_much, Refused_by, Outcome, Goes_on, Ends, Verdict}
 use Rattle.node_model.specs.declared.desk.DeskFault.{DeskFault}
 use Rattle.node_model.specs.declared.desk.DeskFault.TheVariants as D
 use Rattle.session_core.specs.declared.ending.Cause.{Cause}
@@ -38,6 +38,7 @@ setting_of s = record { home = address s.home; moment = s.moment; limit = s.limi
 
 abbrev pub held_of : Receiver → Option Part
 held_of R.Idle = None
+held_of (R.Dropping held) = Some (record { key = key_of held.key; left = held.left; taking = false })
 held_of (R.Taking held) = Some (record { key = key_of held.key; left = held.left; taking = true })
 
 abbrev pub talk_of : Talking → Talk
@@ -129,7 +130,7 @@ pub record SitsStill (ready : Type 0) (part : DeskPart) (stage : Stage) (took : 
 
 abbrev pub step_outcome : Result RecvStep DeskFault → Outcome
 step_outcome (Ok S.More) = Goes_on
-step_outcome (Ok S.OutOfTurn) = Ends Out_of_turn
+step_outcome (Ok S.Late) = Ends Too_late
 step_outcome (Ok S.TooMuch) = Ends Too_much
 step_outcome (Err fault) = Ends (Refused_by (fault_of fault))
 
@@ -151,7 +152,7 @@ pub record DidGive (old new : Stage) (out out' : List ℕ) (gave : Gave) : Type 
   pub row : GiveRow old turn
   pub is : ((gave ≡ turn.gave) × (new ≡ turn.stage) × (out' ≡ out ++ turn.output)) ⊎ ((gave ≡ G.Ended E.NoMemory) × (new ≡ old) × (0 < length turn.output) × (out' ≡ out))
 
--- an M_GOT was written, or nothing for want of memory
-abbrev pub Acknowledges : Key → List ℕ → List ℕ → Result RecvStep DeskFault → Type 0
-Acknowledges key out out' step =
-    ((step ≡ Ok S.More) × (out' ≡ out ++ said_bytes (Got key ∷ []))) ⊎ ((step ≡ Err D.NoMemory) × (out' ≡ out))
+-- that message was written, or nothing for want of memory
+abbrev pub SaysOnly : Message → List ℕ → List ℕ → Result RecvStep DeskFault → Type 0
+SaysOnly message out out' step =
+    ((step ≡ Ok S.More) × (out' ≡ out ++ said_bytes (message ∷ []))) ⊎ ((step ≡ Err D.NoMemory) × (out' ≡ out))

@@ -8,13 +8,13 @@ use Rattle.ftn_addr.specs.Key.{Key}
 use Rattle.ftn_addr.specs.Frames.{FrameText, Command as CommandFrame, Data as DataFrame, frame_bytes}
 use Rattle.binkp_args.specs.declared.fault.ArgFault.{ArgFault}
 use Rattle.binkp_args.specs.declared.fault.ArgFault.TheVariants.{NoAddress}
-use Rattle.binkp_args.specs.Command.{CommandText, Nul, Adr, Pwd, File as FileCommand, Accept, Eob, Got as GotCommand, Error, Get as GetCommand, Skip as SkipCommand, Other, command_of}
+use Rattle.binkp_args.specs.Command.{CommandText, Nul, Adr, Pwd, File as FileCommand, Accept, Eob, Got as GotCommand, Error, Bsy, Get as GetCommand, Skip as SkipCommand, Other, command_of}
 use Rattle.binkp_args.specs.Limits.{AreAddresses}
 use Rattle.binkp_args.specs.Writing.{frame_text_of}
 use Rattle.node_model.specs.declared.words.Role.TheVariants.{Answers}
 use Rattle.node_model.specs.Lists.{without}
-use Rattle.node_model.specs.Calls.{Open_call, Fault, Disk, Read, Full, No_memory, Answer, Let_in, Begun, Refused, Event, one}
-use Rattle.node_model.specs.Talk.{Message, File, Data, Got, Get, Skip, End as EndMessage, Talk, first_words, Part, RowEnd, Finished, Out_of_turn, Too_late, Too_much, Refused_by, Outcome, Goes_on, Waits, Ends, Verdict, TakeRow, TurnRow}
+use Rattle.node_model.specs.Calls.{Open_call, Fault, Disk, Read, Full, No_memory, Answer, Let_in, Busy, Begun, Refused, Event, one}
+use Rattle.node_model.specs.Talk.{Message, File, Data, Got, Get, Skip, End as EndMessage, Talk, first_words, Part, RowEnd, Finished, Out_of_turn, Too_late, Too_much, Refused_by, Outcome, Goes_on, Waits, Ends, Verdict, TakeRow, Empty, AfterSend, is_finished, waits as waits_on, ends as ends_by}
 use Rattle.session_core.specs.declared.ending.Cause.TheVariants as C
 use Rattle.session_core.specs.Ends.{End}
 use Rattle.session_core.specs.Ends as E
@@ -43,9 +43,9 @@ IsSound stage = Unit {0}
 
 -- what the desk has of a session at that stage
 abbrev pub desk_part : Stage → DeskPart
-desk_part Awaits_address = record { open_now = false; held = None }
-desk_part (Awaits_password peers) = record { open_now = false; held = None }
-desk_part (Talks talk held) = record { open_now = true; held = held }
+desk_part Awaits_address = record { open_now = false; claim = None; held = None }
+desk_part (Awaits_password peers) = record { open_now = false; claim = None; held = None }
+desk_part (Talks talk held) = record { open_now = true; claim = None; held = held }
 
 -- What is said.
 
@@ -84,6 +84,9 @@ disk_fault = command_bytes (Error (codes "disk fault"))
 
 unfoldable pub ledger_full : List ℕ
 ledger_full = command_bytes (Error (codes "ledger full"))
+
+unfoldable pub too_many : List ℕ
+too_many = command_bytes (Bsy (codes "too many servers"))
 
 -- the M_ERR that a refusal owes
 abbrev pub fault_bytes : Fault → List ℕ
@@ -255,9 +258,10 @@ Row s n stage (CommandFrame number args) es r =
     MatchBool (is_unbuilt number) (Plain (ends n stage Out_of_turn) es r) (ReadRow s n stage (command_of s.home number args) es r)
 Row s n stage (DataFrame bytes) es r = DataRow n stage bytes es r
 
--- the first turn: the caller knocks
+-- the first turn: the caller knocks, and is greeted or turned away
 abbrev pub AfterKnock : Setting → Answer → Reply → Type 0
 AfterKnock s Let_in r = r ≡ on Awaits_address (greeting s.home)
+AfterKnock s Busy r = r ≡ record { output = too_many; took = T.Ended E.TurnedAway; stage = Awaits_address }
 AfterKnock s (Refused fault) r = r ≡ record { output = fault_bytes fault; took = T.Ended (fault_end fault); stage = Awaits_address }
 AfterKnock s _ r = ⊥
 
@@ -273,9 +277,16 @@ outcome_gave Goes_on = G.Sent
 outcome_gave Waits = G.Waits
 outcome_gave (Ends end) = G.Ended (end_of 0 end)
 
+-- the own turn of a session that offers nothing: it is over, it has said its end and rests, or it goes on as where no
+-- file waits
+pub data EmptyTurn (held : Option Part) (talk : Talk) (v : Verdict) : Type 0 where
+  Finishes : is_finished talk held ≡ true → v ≡ ends_by talk Finished → EmptyTurn held talk v
+  Rests : is_finished talk held ≡ false → talk.own_end ≡ true → v ≡ waits_on talk → EmptyTurn held talk v
+  Gives_nothing : talk.own_end ≡ false → AfterSend talk v Empty → EmptyTurn held talk v
+
 pub record TalkTurn (talk : Talk) (held : Option Part) (t : Turn) : Type 0 where
   pub verdict : Verdict
-  pub row : TurnRow held talk [] verdict
+  pub row : EmptyTurn held talk verdict
   pub is : t ≡ record { output = said_bytes verdict.said; gave = outcome_gave verdict.outcome; stage = Talks verdict.after held }
 
 -- before login it waits; it asks the desk for nothing yet

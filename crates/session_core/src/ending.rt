@@ -32,6 +32,8 @@ pub enum End {
     Quiet,
     /// The bytes taken and written reached the limit.
     Endless,
+    /// As many sessions were open as the settings allow.
+    TurnedAway,
     NoMemory,
 }
 

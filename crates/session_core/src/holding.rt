@@ -16,5 +16,7 @@ pub struct Held {
 #[derive(Debug, Drop)]
 pub enum Receiver {
     Idle,
+    /// It was asked for from another place, and what comes before it is offered again is dropped.
+    Dropping(Held),
     Taking(Held),
 }

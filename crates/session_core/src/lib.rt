@@ -32,6 +32,6 @@ mod stage;
 mod terms;
 
 pub use ending::{Cause, End, Gave, Took};
-pub use saying::{refuse, say_greeting};
+pub use saying::{refuse, say_greeting, turn_away};
 pub use session::Session;
 pub use terms::Setting;

@@ -25,7 +25,7 @@ fn conclude(alloc: Global, number: u64, step: Result<RecvStep, DeskFault>, out: 
 {
     match step {
         Ok(RecvStep::More) => Took::More,
-        Ok(RecvStep::OutOfTurn) => break_off(alloc, Cause::OutOfTurn, number, out),
+        Ok(RecvStep::Late) => break_off(alloc, Cause::Late, number, out),
         Ok(RecvStep::TooMuch) => break_off(alloc, Cause::TooMuch, number, out),
         Err(fault) => refuse(alloc, fault, out),
     }
@@ -118,6 +118,7 @@ fn is_idle(receiver: &Receiver) -> bool
 {
     match receiver {
         Receiver::Idle => true,
+        Receiver::Dropping(_) => false,
         Receiver::Taking(_) => false,
     }
 }

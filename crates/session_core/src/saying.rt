@@ -1,13 +1,13 @@
 //! What a session says: one command, one frame.
 ghost use Rattle.std.specs.Prelude.{◌≡◌, ◌<◌, ◌≤◌, ◌++◌, ◌∷◌, [], length, OnOk, OnErr};
 ghost use Rattle.ftn_addr.specs.Key.{key_of};
-ghost use Rattle.binkp_args.specs.Command.{Accept, Eob, Error, Got, Adr};
+ghost use Rattle.binkp_args.specs.Command.{Accept, Eob, Error, Get, Got, Skip, Adr};
 ghost use Rattle.ftn_addr.specs.Address.{address};
 ghost use Rattle.ftn_addr.specs.Limits.{IsAddress, IsKey};
 ghost use Rattle.session_core.specs.Takings.{took_text};
 ghost use Rattle.session_core.specs.Replies.{Writes, cause_bytes};
 ghost use Rattle.node_model.specs.Desks.{fault_of};
-ghost use Rattle.session_core.specs.Sessions.{command_bytes, disk_fault, fault_bytes, fault_end, ledger_full, greeting, version, welcome};
+ghost use Rattle.session_core.specs.Sessions.{command_bytes, disk_fault, fault_bytes, fault_end, ledger_full, greeting, too_many, version, welcome};
 ghost use Rattle.session_core.specs.Takings as T;
 ghost use Rattle.session_core.specs.Ends as E;
 
@@ -45,6 +45,27 @@ pub fn say_got(alloc: Global, key: FileKey, out: &mut Bytes) -> Result<(), NoMem
     write_command(alloc, &Command::Got(key), out)
 }
 
+/// M_SKIP.
+pub fn say_skip(alloc: Global, key: FileKey, out: &mut Bytes) -> Result<(), NoMemory>
+    requires { IsKey (key_of key) }
+    ensures ok { OnOk result (out.new.list ≡ out.old.list ++ command_bytes (Skip (key_of key))) }
+    ensures err { OnErr result (out.new.list ≡ out.old.list) }
+{
+    fits_a_frame();
+    write_command(alloc, &Command::Skip(key), out)
+}
+
+/// M_GET, from that place.
+pub fn say_get(alloc: Global, key: &FileKey, place: u64, out: &mut Bytes) -> Result<(), NoMemory>
+    requires { IsKey (key_of key.now) }
+    ensures ok { OnOk result (out.new.list ≡ out.old.list ++ command_bytes (Get (key_of key.now) place)) }
+    ensures err { OnErr result (out.new.list ≡ out.old.list) }
+{
+    let key = key.copy(alloc)?;
+    fits_a_frame();
+    write_command(alloc, &Command::Get(key, place), out)
+}
+
 fn say_error(alloc: Global, text: &[u8], out: &mut Bytes) -> Result<(), NoMemory>
     requires { length text.now < 32767 }
     ensures ok { OnOk result (out.new.list ≡ out.old.list ++ command_bytes (Error text.now)) }
@@ -52,6 +73,15 @@ fn say_error(alloc: Global, text: &[u8], out: &mut Bytes) -> Result<(), NoMemory
 {
     let text = Bytes::from_slice(alloc, text)?;
     write_command(alloc, &Command::Err(text), out)
+}
+
+#[tactic(auto, unfolding(crate::specs::Sessions::too_many))]
+fn say_busy(alloc: Global, out: &mut Bytes) -> Result<(), NoMemory>
+    ensures ok { OnOk result (out.new.list ≡ out.old.list ++ too_many) }
+    ensures err { OnErr result (out.new.list ≡ out.old.list) }
+{
+    let text = Bytes::from_slice(alloc, b"too many servers")?;
+    write_command(alloc, &Command::Bsy(text), out)
 }
 
 #[tactic(auto, unfolding(crate::specs::Sessions::disk_fault))]
@@ -119,12 +149,26 @@ pub fn say_greeting(alloc: Global, home: &Addr, out: &mut Bytes) -> Took
     }
 }
 
+/// Turns a caller away, with M_BSY alone.
+pub fn turn_away(alloc: Global, out: &mut Bytes) -> Took
+    ensures { Writes out.old.list out.new.list too_many (T.Ended E.TurnedAway) (took_text result) }
+{
+    match say_busy(alloc, out) {
+        Ok(()) => Took::Ended(End::TurnedAway),
+        Err(_) => Took::Ended(End::NoMemory),
+    }
+}
+
 /// Ends a session that a desk refused, with the M_ERR that this owes.
 pub fn refuse(alloc: Global, fault: DeskFault, out: &mut Bytes) -> Took
     ensures { Writes out.old.list out.new.list (fault_bytes (fault_of fault)) (T.Ended (fault_end (fault_of fault))) (took_text result) }
 {
     match fault {
         DeskFault::Disk(count) => match say_disk_fault(alloc, out) {
+            Ok(()) => Took::Ended(End::DiskFault(count)),
+            Err(_) => Took::Ended(End::NoMemory),
+        },
+        DeskFault::Read(count) => match say_disk_fault(alloc, out) {
             Ok(()) => Took::Ended(End::DiskFault(count)),
             Err(_) => Took::Ended(End::NoMemory),
         },

@@ -1,14 +1,15 @@
 -- A run of a session that is alone is also one of a session that isn't.
 use Rattle.std.proofs.Common.{true, false, List, refl, sym, ap, subst}
-use Rattle.ftn_addr.specs.Frames.{FrameText}
+use Rattle.ftn_addr.specs.Frames.{FrameText, Command, Data}
+use Rattle.ftn_addr.specs.Key.{Key}
 use Rattle.node_model.specs.Images.{Stand, Drifted}
-use Rattle.node_model.proofs.Drifting.{drifted_none, drifted_on, earlier}
+use Rattle.node_model.proofs.Drifting.{drift_none, drifted_none, drifted_on, earlier}
 use Rattle.node_model.proofs.Rans.{absorbed}
 use Rattle.session_run.specs.declared.run.Run.{Run}
 use Rattle.session_run.specs.Runs.{Spot, Follows, At, GoesBy, Went}
 use Rattle.session_run.proofs.Runs.{stream_same}
 use Rattle.node_model.proofs.Alone.{call_shared, chain_shared, drifted_shared, ran_shared_too}
-use Rattle.node_model.specs.Calls.{DeskState, Turned, turned, Knock_call, Leave_call}
+use Rattle.node_model.specs.Calls.{Drifts, DeskState, Turned, turned, Knock_call, Leave_call}
 use Rattle.node_model.specs.declared.words.Role.TheVariants.{Answers}
 use Rattle.session_core.specs.Sessions.{Setting}
 use Rattle.session_core.specs.Ends.{End}
@@ -16,6 +17,8 @@ use Rattle.binkp_link.specs.Lines.{LineState}
 use Rattle.session_run.specs.Machine.{World, Phase, Starting, Taking, Writing, Reading, Over, Draining, Closed, Step, greets, takes_frame, makes_turn, writes, passes_write, reads, gives_up, leaves, drains, closes, Reach, here, next}
 use Rattle.std.proofs.Common.{ℕ, ◌≡◌}
 use Rattle.session_run.specs.Laws.{Facts, IsSession}
+use Rattle.session_run.specs.Acknowledged.{Acknowledged, MayStand, Written}
+use Rattle.session_run.proofs.Acknowledging.{each_weaker}
 
 step_shared : (w v : World) → Step true w v → Step false w v
 step_shared w v (greets s) = greets (record { phase = s.phase; answer = s.answer; desk = s.desk; rows_before = s.rows_before; rows_after = s.rows_after; call = call_shared w.desk (turned (Knock_call Answers) s.answer s.rows_before s.rows_after) s.desk s.call; reply = s.reply; follows = s.follows; output = s.output; took = s.took; said = s.said; is = s.is })
@@ -34,7 +37,29 @@ reach_shared w v here = here
 reach_shared w v (next {u} r s) = next (reach_shared w u r) (step_shared u v s)
 
 facts_shared : (line : LineState) (desk : DeskState) (w : World) → Facts true line desk w → Facts false line desk w
-facts_shared line desk w f = record { pieces = f.pieces; moves = f.moves; left = f.left; front = f.front; whole = f.whole; faults = f.faults; ends = f.ends; line_cause = f.line_cause; counts = λ is. absurd (let clash : false ≡ true = is in cc); desk_cause = λ is. absurd (let clash : false ≡ true = is in cc); own_cause = f.own_cause }
+facts_shared line desk w f = record { pieces = f.pieces; moves = f.moves; left = f.left; front = f.front; whole = f.whole; faults = f.faults; ends = f.ends; line_cause = f.line_cause; counts = f.counts; desk_cause = f.desk_cause; answer_cause = f.answer_cause; own_cause = f.own_cause }
+
+-- an acknowledgement among calls with nothing between them
+acknowledged_shared : (desk : DeskState) (es : List Turned) (key : Key) → Acknowledged true desk es key → Acknowledged false desk es key
+acknowledged_shared desk es key a = record {
+  earlier = a.earlier;
+  turn = a.turn;
+  later = a.later;
+  is = a.is;
+  asks = a.asks;
+  chain = chain_shared desk a.earlier a.asks a.chain;
+  answers = a.answers;
+  call = record { seat = a.call.seat; mid = a.call.mid; drift = subst (Drifts false a.asks.seat a.asks.knows) (sym a.call.drift) (drift_none false a.asks.seat a.asks.knows); rows = a.call.rows };
+  has = a.has;
+}
+
+stands_shared : (desk : DeskState) (es : List Turned) (f : FrameText) → MayStand true desk es f → MayStand false desk es f
+stands_shared desk es (Data bytes) m = m
+stands_shared desk es (Command number args) m = λ six. let x = m six in (x.0, x.1, acknowledged_shared desk es x.0 x.2)
+
+written_shared : (desk : DeskState) (es : List Turned) (output cut : List ℕ) → Written true desk es output cut → Written false desk es output cut
+written_shared desk es output cut w =
+    record { frames = w.frames; spelled = w.spelled; stand = each_weaker (MayStand true desk es) (MayStand false desk es) w.frames (stands_shared desk es) w.stand }
 
 pub session_shared : (s : Setting) (line : LineState) (desk : Stand) (end : End) (taken : ℕ) (line' : LineState) (desk' : Stand) → IsSession true s line desk end taken line' desk' → IsSession false s line desk end taken line' desk'
 session_shared s line desk end taken line' desk' x = record {
@@ -46,6 +71,8 @@ session_shared s line desk end taken line' desk' x = record {
     desk_is = drifted_shared x.whole.last.desk desk'.state x.whole.desk_is;
     taken_is = x.whole.taken_is;
     facts = facts_shared line desk.state x.whole.last x.whole.facts;
+    cut = x.whole.cut;
+    written = written_shared desk.state x.whole.last.events x.whole.last.output x.whole.cut x.whole.written;
   };
   ran = ran_shared_too desk x.whole.last.events desk' x.ran;
 }

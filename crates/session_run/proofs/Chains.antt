@@ -1,5 +1,5 @@
 -- The calls of the desk, with the rows beside them, lead along a run from its first state to its last.
-use Rattle.std.proofs.Common.{ℕ, Bool, List, [], ◌∷◌, refl, sym, subst}
+use Rattle.std.proofs.Common.{ℕ, Bool, [], ◌∷◌, refl, sym, subst}
 use Rattle.node_model.specs.Calls.{DeskState, turned, Turns, Knock_call, Leave_call}
 use Rattle.node_model.specs.declared.words.Role.TheVariants.{Answers}
 use Rattle.node_model.proofs.Rans.{joined}

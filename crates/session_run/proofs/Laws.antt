@@ -1,7 +1,7 @@
 -- What holds of every session, step by step.
 use Rattle.std.proofs.Common.{◌≡◌, ◌∙◌, ℕ, Bool, true, false, List, [], ◌∷◌, ◌++◌, refl, sym, ap, subst, arith, append_assoc}
 use Rattle.std.proofs.lemmas.List.{append-nil}
-use Rattle.node_model.specs.Calls.{Event, one, Counts, counts_of, DeskState, Turned, turned, asked_of, CallsBeside, Turns, Knock_call, Leave_call}
+use Rattle.node_model.specs.Calls.{one, Counts, counts_of, DeskState, Turned, turned, asked_of, Turns, Knock_call, Leave_call}
 use Rattle.node_model.specs.declared.words.Role.TheVariants.{Answers}
 use Rattle.session_core.specs.Ends.{End}
 use Rattle.session_core.specs.Ends as E
@@ -17,14 +17,15 @@ use Rattle.std.specs.Prelude.{nat_le, if◌then◌else◌}
 use Rattle.binkp_link.specs.Lines.{LineState, Moves, came, went}
 use Rattle.session_core.specs.Sessions.{Setting, frame_number}
 use Rattle.session_run.specs.Machine.{World, Phase, Starting, Taking, Writing, Reading, Over, Draining, Closed, MayGiveUp, Step, greets, takes_frame, makes_turn, writes, passes_write, reads, gives_up, leaves, drains, closes, Reach, here, next, opening, after_took, after_gave, after_read, after_write, after_drain}
-use Rattle.session_run.specs.Laws.{Facts, OwnCauseAt, EndCount, EndCountAt, LineCause, LineCauseAt, WholeAt, DeskCause, DeskCauseAt, Since}
+use Rattle.session_run.specs.Laws.{Facts, OwnCauseAt, EndCount, EndCountAt, LineCause, LineCauseAt, WholeAt, AnswerCauseAt, DeskCause, DeskCauseAt, Since}
 use Rattle.session_run.proofs.Causes.{RowCause, row_cause, said_cause, knock_cause, Finished_alone, turn_finishes, since_same, since_chain, row_desk}
+use Rattle.session_run.proofs.AnswerCauses.{took_answer, gave_answer, drain_answer}
 use Rattle.session_run.proofs.OwnCauses.{no_broke, took_own, said_broke, gave_own, read_own, write_own, drain_own, leave_own}
 use Rattle.session_run.proofs.LineLaws.{joined-last, moves_on, moves_not, took_ends, took_line, read_ends, read_faults, read_line, write_ends, write_faults, write_line, leave_ends, leave_drain, leave_desk, drain_ends, drain_line, drain_whole, close_line, close_whole, rest_of, sent_on}
 
-took_desk : (m : ℕ) (alone : Bool) (before : Counts) (a b : DeskState) (es : List Turned) (took : Took) → (alone ≡ true → Since before (counts_of a.knows)) → Turns alone a es b → RowCause m took (asked_of es) → alone ≡ true → DeskCauseAt (after_took took) before (counts_of b.knows)
-took_desk m alone before a b es T.More s chain cause is = tt
-took_desk m alone before a b es (T.Ended end) s chain cause is = row_desk m before a b es end (s is) (subst (λ x. Turns x a es b) is chain) cause
+took_desk : (m : ℕ) (alone : Bool) (before : Counts) (a b : DeskState) (es : List Turned) (took : Took) → Since before (counts_of a.knows) → Turns alone a es b → RowCause m took (asked_of es) → DeskCauseAt (after_took took) before (counts_of b.knows)
+took_desk m alone before a b es T.More s chain cause = tt
+took_desk m alone before a b es (T.Ended end) s chain cause = row_desk alone m before a b es end s chain cause
 
 turn_ends : (gave : Gave) (before now : ℕ) → Finished_alone gave → now ≡ before → EndCountAt (after_gave gave) before now
 turn_ends G.Sent before now f e = e
@@ -65,6 +66,7 @@ Is_on (Closed end) = ⊥
 Is_on (Draining mute end) = ⊥
 Is_on (Over E.LedgerFull) = ⊥
 Is_on (Over (E.DiskFault count)) = ⊥
+Is_on (Over E.TurnedAway) = ⊥
 Is_on phase = Unit {0}
 
 cond_on : (b : Bool) (p q : Phase) → Is_on p → Is_on q → Is_on (if b then p else q)
@@ -105,9 +107,28 @@ on_desk (Over (E.DiskFault count)) before now i = absurd i
 on_desk (Over E.LedgerFull) before now i = absurd i
 on_desk (Over E.Quiet) before now i = tt
 on_desk (Over E.Endless) before now i = tt
+on_desk (Over E.TurnedAway) before now i = absurd i
 on_desk (Over E.NoMemory) before now i = tt
 on_desk (Draining mute end) before now i = absurd i
 on_desk (Closed end) before now i = absurd i
+
+on_answer : (p : Phase) (es : List Turned) → Is_on p → AnswerCauseAt p es
+on_answer Starting es i = tt
+on_answer Taking es i = tt
+on_answer (Writing waits) es i = tt
+on_answer (Reading waits) es i = tt
+on_answer (Over E.Finished) es i = tt
+on_answer (Over (E.Broke cause n)) es i = tt
+on_answer (Over E.Dropped) es i = tt
+on_answer (Over E.LineFault) es i = tt
+on_answer (Over (E.DiskFault count)) es i = absurd i
+on_answer (Over E.LedgerFull) es i = absurd i
+on_answer (Over E.Quiet) es i = tt
+on_answer (Over E.Endless) es i = tt
+on_answer (Over E.TurnedAway) es i = absurd i
+on_answer (Over E.NoMemory) es i = tt
+on_answer (Draining mute end) es i = absurd i
+on_answer (Closed end) es i = absurd i
 
 drain_desk : (answer : WriteAnswer) (end : End) (calm : ℕ) (before now : Counts) → DeskCause end before now → DeskCauseAt (after_drain answer calm end) before now
 drain_desk (W.Wrote n) end calm before now d = d
@@ -117,12 +138,6 @@ drain_desk W.Quiet end calm before now d = go (nat_le 60 calm)
     go true = d
     go false = d
 drain_desk W.Failed end calm before now d = d
-
-chain_is : (alone : Bool) (a b : DeskState) (es : List Turned) → alone ≡ true → Turns alone a es b → Turns true a es b
-chain_is alone a b es is c = subst (λ x. Turns x a es b) is c
-
-since_after : (alone : Bool) (before : Counts) (a b : DeskState) (es : List Turned) → (alone ≡ true → Since before (counts_of a.knows)) → Turns alone a es b → alone ≡ true → Since before (counts_of b.knows)
-since_after alone before a b es s chain is = since_chain before a b es (s is) (chain_is alone a b es is chain)
 
 pub keeps : (alone : Bool) (line : LineState) (desk : DeskState) (w v : World) → Facts alone line desk w → Step alone w v → Facts alone line desk v
 keeps alone line desk w v f (greets s) =
@@ -139,8 +154,9 @@ keeps alone line desk w v f (greets s) =
       faults = f.faults;
       ends = took_ends 0 s.took _ line.ends w.line.ends cause (subst (λ p. EndCountAt p line.ends w.line.ends) s.phase f.ends);
       line_cause = took_line 0 s.took _ _ _ _ cause;
-      counts = since_after alone _ w.desk s.desk (e ∷ []) f.counts chain;
+      counts = since_chain alone _ w.desk s.desk (e ∷ []) f.counts chain;
       desk_cause = took_desk 0 alone _ w.desk s.desk (e ∷ []) s.took f.counts chain cause;
+      answer_cause = took_answer 0 s.took w.events (e ∷ []) cause;
       own_cause = took_own 0 s.took (one (Knock_call Answers) s.answer) w.setting s.reply.stage w.frames w.last_stage w.last_calls w.taken w.sent cause (λ c e. absurd (no_broke c 0 (one (Knock_call Answers) s.answer) (subst (λ (t : Took). RowCause 1 t (one (Knock_call Answers) s.answer)) e later)));
     })
 keeps alone line desk w v f (takes_frame s) =
@@ -155,8 +171,9 @@ keeps alone line desk w v f (takes_frame s) =
       faults = f.faults;
       ends = took_ends n s.took (asked_of s.events) line.ends w.line.ends cause (subst (λ p. EndCountAt p line.ends w.line.ends) s.phase f.ends);
       line_cause = took_line n s.took (asked_of s.events) _ _ _ cause;
-      counts = since_after alone _ w.desk s.desk s.events f.counts s.chain;
+      counts = since_chain alone _ w.desk s.desk s.events f.counts s.chain;
       desk_cause = took_desk n alone _ w.desk s.desk s.events s.took f.counts s.chain cause;
+      answer_cause = took_answer n s.took w.events s.events cause;
       own_cause = took_own n s.took (asked_of s.events) w.setting s.reply.stage (w.frames ++ s.frame ∷ []) w.stage s.events w.taken w.sent cause (λ c e. record { rest = s.rest; begins = s.next; earlier = w.frames; frame = s.frame; last = refl; number = refl; reply = s.reply; row = s.row; took = said_broke s.reply.output s.reply.took s.output s.took c n s.said e });
     })
 keeps alone line desk w v f (makes_turn s) =
@@ -171,7 +188,8 @@ keeps alone line desk w v f (makes_turn s) =
       ends = turn_ends s.turn.gave line.ends w.line.ends alone_is (subst (λ p. EndCountAt p line.ends w.line.ends) s.phase f.ends);
       line_cause = turn_line s.turn.gave _ _ _ alone_is;
       counts = f.counts;
-      desk_cause = λ is. turn_desk s.turn.gave _ _ alone_is;
+      desk_cause = turn_desk s.turn.gave _ _ alone_is;
+      answer_cause = gave_answer s.turn.gave w.events alone_is;
       own_cause = gave_own w.stage s.turn w.setting w.frames w.last_stage w.last_calls w.taken w.sent s.row;
     })
 keeps alone line desk w v f (writes s) = subst (Facts alone line desk) (sym s.is) (record {
@@ -184,7 +202,8 @@ keeps alone line desk w v f (writes s) = subst (Facts alone line desk) (sym s.is
   ends = write_ends w.line s.line s.answer s.left w.setting.limit _ line.ends s.waits s.step (subst (λ p. EndCountAt p line.ends w.line.ends) s.phase f.ends);
   line_cause = write_line w.line s.line s.answer s.left w.setting.limit _ line.faults s.waits s.step f.faults;
   counts = f.counts;
-  desk_cause = λ is. on_desk _ _ _ (write_on s.answer w.setting.limit _ s.line.calm s.waits);
+  desk_cause = on_desk _ _ _ (write_on s.answer w.setting.limit _ s.line.calm s.waits);
+  answer_cause = on_answer _ _ (write_on s.answer w.setting.limit _ s.line.calm s.waits);
   own_cause = write_own s.answer s.line.calm s.waits w.setting w.stage w.frames w.last_stage w.last_calls w.taken (w.sent ++ went s.answer s.left);
 })
 keeps alone line desk w v f (passes_write s) = subst (Facts alone line desk) (sym s.is) (record {
@@ -197,7 +216,8 @@ keeps alone line desk w v f (passes_write s) = subst (Facts alone line desk) (sy
   ends = subst (λ p. EndCountAt p line.ends w.line.ends) s.phase f.ends;
   line_cause = tt;
   counts = f.counts;
-  desk_cause = λ is. tt;
+  desk_cause = tt;
+  answer_cause = tt;
   own_cause = tt;
 })
 keeps alone line desk w v f (reads s) = subst (Facts alone line desk) (sym s.is) (record {
@@ -210,7 +230,8 @@ keeps alone line desk w v f (reads s) = subst (Facts alone line desk) (sym s.is)
   ends = read_ends _ w.line s.line s.answer s.buffer w.setting.limit _ line.ends s.step (subst (λ p. EndCountAt p line.ends w.line.ends) s.phase f.ends);
   line_cause = read_line _ w.line s.line s.answer s.buffer w.setting.limit _ line.faults s.step f.faults;
   counts = f.counts;
-  desk_cause = λ is. on_desk _ _ _ (read_on s.answer w.setting.limit _ s.line.calm);
+  desk_cause = on_desk _ _ _ (read_on s.answer w.setting.limit _ s.line.calm);
+  answer_cause = on_answer _ _ (read_on s.answer w.setting.limit _ s.line.calm);
   own_cause = read_own s.answer s.line.calm w.setting w.stage w.frames w.last_stage w.last_calls (w.taken ++ came s.answer s.buffer) w.sent;
 })
 keeps alone line desk w v f (gives_up s) = subst (Facts alone line desk) (sym s.is) (record {
@@ -223,7 +244,8 @@ keeps alone line desk w v f (gives_up s) = subst (Facts alone line desk) (sym s.
   ends = early w.phase s.phase line.ends w.line.ends f.ends;
   line_cause = tt;
   counts = f.counts;
-  desk_cause = λ is. tt;
+  desk_cause = tt;
+  answer_cause = tt;
   own_cause = tt;
 })
 keeps alone line desk w v f (leaves s) =
@@ -238,9 +260,10 @@ keeps alone line desk w v f (leaves s) =
       faults = f.faults;
       ends = leave_ends s.end s.answer line.ends w.line.ends (subst (λ p. EndCountAt p line.ends w.line.ends) s.phase f.ends);
       line_cause = leave_drain s.end s.answer line.faults w.line.faults w.line.calm (subst (λ p. LineCauseAt p line.faults w.line.faults w.line.calm) s.phase f.line_cause);
-      counts = since_after alone _ w.desk s.desk (e ∷ []) f.counts chain;
-      desk_cause = λ is. leave_desk s.end s.answer (counts_of desk.knows) w.desk s.desk s.rows_before s.rows_after (f.counts is) (subst (λ x. CallsBeside x w.desk e s.desk) is s.call)
-          (subst (λ p. DeskCauseAt p (counts_of desk.knows) (counts_of w.desk.knows)) s.phase (f.desk_cause is));
+      counts = since_chain alone _ w.desk s.desk (e ∷ []) f.counts chain;
+      desk_cause = leave_desk alone s.end s.answer (counts_of desk.knows) w.desk s.desk s.rows_before s.rows_after f.counts s.call
+          (subst (λ p. DeskCauseAt p (counts_of desk.knows) (counts_of w.desk.knows)) s.phase f.desk_cause);
+      answer_cause = record { first = s.end; earlier = w.events; cause = subst (λ p. AnswerCauseAt p w.events) s.phase f.answer_cause; last = e; is = refl; leaves = refl; turned = refl };
       own_cause = leave_own s.end s.answer w.setting w.stage w.frames w.last_stage w.last_calls w.taken w.sent (subst (λ (p : Phase). OwnCauseAt p w.setting w.stage w.frames w.last_stage w.last_calls w.taken w.sent) s.phase f.own_cause);
     })
 keeps alone line desk w v f (drains s) = subst (Facts alone line desk) (sym s.is) (record {
@@ -253,7 +276,8 @@ keeps alone line desk w v f (drains s) = subst (Facts alone line desk) (sym s.is
   ends = drain_ends w.line s.line s.answer s.left s.end line.ends s.step (subst (λ p. EndCountAt p line.ends w.line.ends) s.phase f.ends);
   line_cause = drain_line s.answer s.end _ _ _ (subst (λ p. LineCauseAt p line.faults w.line.faults w.line.calm) s.phase f.line_cause);
   counts = f.counts;
-  desk_cause = λ is. drain_desk s.answer s.end s.line.calm _ _ (subst (λ p. DeskCauseAt p (counts_of desk.knows) (counts_of w.desk.knows)) s.phase (f.desk_cause is));
+  desk_cause = drain_desk s.answer s.end s.line.calm _ _ (subst (λ p. DeskCauseAt p (counts_of desk.knows) (counts_of w.desk.knows)) s.phase f.desk_cause);
+  answer_cause = drain_answer s.answer s.end s.line.calm w.events (subst (λ p. AnswerCauseAt p w.events) s.phase f.answer_cause);
   own_cause = drain_own s.answer s.line.calm s.end w.setting w.stage w.frames w.last_stage w.last_calls w.taken w.sent (went s.answer s.left) (subst (λ (p : Phase). OwnCauseAt p w.setting w.stage w.frames w.last_stage w.last_calls w.taken w.sent) s.phase f.own_cause);
 })
 keeps alone line desk w v f (closes s) = subst (Facts alone line desk) (sym s.is) (record {
@@ -266,7 +290,8 @@ keeps alone line desk w v f (closes s) = subst (Facts alone line desk) (sym s.is
   ends = subst (λ p. EndCountAt p line.ends w.line.ends) s.phase f.ends;
   line_cause = close_line s.mute s.end _ _ _ (subst (λ p. LineCauseAt p line.faults w.line.faults w.line.calm) s.phase f.line_cause);
   counts = f.counts;
-  desk_cause = λ is. subst (λ p. DeskCauseAt p (counts_of desk.knows) (counts_of w.desk.knows)) s.phase (f.desk_cause is);
+  desk_cause = subst (λ p. DeskCauseAt p (counts_of desk.knows) (counts_of w.desk.knows)) s.phase f.desk_cause;
+  answer_cause = subst (λ p. AnswerCauseAt p w.events) s.phase f.answer_cause;
   own_cause = subst (λ (p : Phase). OwnCauseAt p w.setting w.stage w.frames w.last_stage w.last_calls w.taken w.sent) s.phase f.own_cause;
 })
 
@@ -276,4 +301,4 @@ facts_on alone line desk w v f (next {u} r s) = keeps alone line desk u v (facts
 
 pub facts_open : (alone : Bool) (s : Setting) (line : LineState) (desk : DeskState) → Facts alone line desk (opening s line desk)
 facts_open alone s line desk =
-    record { pieces = refl; moves = moves_not line.bytes; left = []; front = refl; whole = tt; faults = omega arith; ends = refl; line_cause = tt; counts = λ is. since_same (counts_of desk.knows); desk_cause = λ is. tt; own_cause = tt }
+    record { pieces = refl; moves = moves_not line.bytes; left = []; front = refl; whole = tt; faults = omega arith; ends = refl; line_cause = tt; counts = since_same (counts_of desk.knows); desk_cause = tt; answer_cause = tt; own_cause = tt }

@@ -17,7 +17,7 @@ use Rattle.binkp_link.specs.Lines.{LineBytes, LineState, Moves, IsRead, IsWrite,
 use Rattle.session_core.specs.Sessions.{fault_end}
 use Rattle.session_run.specs.Machine.{Phase, Taking, Reading, Over, Draining, Closed, after_took, after_read, after_write, after_drain, after_leave, is_mute}
 use Rattle.session_run.specs.Laws.{joined, EndCount, EndCountAt, LineCause, LineCauseAt, DrainCause, WholeAt, DeskCause, Since}
-use Rattle.session_run.proofs.Causes.{Plain_end, Refused_end, RowCause, since_same, since_turn, later_desk, turn_fault}
+use Rattle.session_run.proofs.Causes.{Plain_end, Refused_end, Away_end, RowCause, since_same, since_turn, later_desk, turn_fault}
 
 pub joined-last : (pieces : List (List ℕ)) (piece : List ℕ) → joined (pieces ++ piece ∷ []) ≡ joined pieces ++ piece
 joined-last [] piece = append-nil piece
@@ -40,8 +40,9 @@ moves_not None = tt
 moves_not (Some a) = (refl, sym (append-nil a.taken), sym (append-nil a.sent))
 
 -- an end that a row gives comes from no count of the line
-row_ends : (m : ℕ) (end : End) (es : List Event) (before now : ℕ) → Plain_end m end ⊎ Refused_end end es → now ≡ before → EndCount end before now
-row_ends m end es before now (inr r) e = subst (λ x. EndCount x before now) (sym r.3) (by_fault r.1)
+row_ends : (m : ℕ) (end : End) (es : List Event) (before now : ℕ) → Plain_end m end ⊎ (Refused_end end es ⊎ Away_end end es) → now ≡ before → EndCount end before now
+row_ends m end es before now (inr (inr r)) e = subst (λ x. EndCount x before now) (sym r.2) e
+row_ends m end es before now (inr (inl r)) e = subst (λ x. EndCount x before now) (sym r.3) (by_fault r.1)
   where
     by_fault : (fault : Fault) → EndCount (fault_end fault) before now
     by_fault (Disk count) = inl e
@@ -57,13 +58,15 @@ row_ends m (E.DiskFault count) es before now (inl p) e = absurd p
 row_ends m E.LedgerFull es before now (inl p) e = absurd p
 row_ends m E.Quiet es before now (inl p) e = absurd p
 row_ends m E.Endless es before now (inl p) e = absurd p
+row_ends m E.TurnedAway es before now (inl p) e = absurd p
 
 pub took_ends : (m : ℕ) (took : Took) (es : List Event) (before now : ℕ) → RowCause m took es → now ≡ before → EndCountAt (after_took took) before now
 took_ends m T.More es before now c e = e
 took_ends m (T.Ended end) es before now c e = row_ends m end es before now c e
 
-row_line : (m : ℕ) (end : End) (es : List Event) (before now calm : ℕ) → Plain_end m end ⊎ Refused_end end es → LineCause end before now calm
-row_line m end es before now calm (inr r) = subst (λ x. LineCause x before now calm) (sym r.3) (by_fault r.1)
+row_line : (m : ℕ) (end : End) (es : List Event) (before now calm : ℕ) → Plain_end m end ⊎ (Refused_end end es ⊎ Away_end end es) → LineCause end before now calm
+row_line m end es before now calm (inr (inr r)) = subst (λ x. LineCause x before now calm) (sym r.2) tt
+row_line m end es before now calm (inr (inl r)) = subst (λ x. LineCause x before now calm) (sym r.3) (by_fault r.1)
   where
     by_fault : (fault : Fault) → LineCause (fault_end fault) before now calm
     by_fault (Disk count) = tt
@@ -79,6 +82,7 @@ row_line m (E.DiskFault count) es before now calm (inl p) = tt
 row_line m E.LedgerFull es before now calm (inl p) = tt
 row_line m E.Quiet es before now calm (inl p) = absurd p
 row_line m E.Endless es before now calm (inl p) = tt
+row_line m E.TurnedAway es before now calm (inl p) = tt
 
 pub took_line : (m : ℕ) (took : Took) (es : List Event) (before now calm : ℕ) → RowCause m took es → LineCauseAt (after_took took) before now calm
 took_line m T.More es before now calm c = tt
@@ -142,6 +146,7 @@ leave_ends end (Refused (Disk count)) before now e = turned end before now e
     turned E.LedgerFull before now e = inl e
     turned E.Quiet before now e = inl e
     turned E.Endless before now e = inl e
+    turned E.TurnedAway before now e = inl e
     turned E.NoMemory before now e = inl e
 leave_ends end (Refused (Read count)) before now e = e
 leave_ends end (Refused Full) before now e = e
@@ -201,25 +206,25 @@ leave_speaks end (Acted number) speaks = speaks
 leave_speaks end (Given number) speaks = speaks
 leave_speaks end (Held number) speaks = speaks
 
-pub leave_desk : (end : End) (answer : Answer) (a : Counts) (b c : DeskState) (rows_before rows_after : List Event) → Since a (counts_of b.knows) → CallsBeside true b (turned Leave_call answer rows_before rows_after) c → DeskCause end a (counts_of b.knows) → DeskCause (after_leave end answer) a (counts_of c.knows)
-leave_desk end (Refused (Disk count)) a b c r q s made d = turn_fault a b c (turned Leave_call (Refused (Disk count)) r q) (Disk count) s refl made
-leave_desk end (Refused (Read count)) a b c r q s made d = later_desk end a (counts_of b.knows) (counts_of c.knows) d (since_turn (counts_of b.knows) b c (turned Leave_call (Refused (Read count)) r q) (since_same (counts_of b.knows)) made)
-leave_desk end (Refused Full) a b c r q s made d = later_desk end a (counts_of b.knows) (counts_of c.knows) d (since_turn (counts_of b.knows) b c (turned Leave_call (Refused Full) r q) (since_same (counts_of b.knows)) made)
-leave_desk end (Refused No_memory) a b c r q s made d = later_desk end a (counts_of b.knows) (counts_of c.knows) d (since_turn (counts_of b.knows) b c (turned Leave_call (Refused No_memory) r q) (since_same (counts_of b.knows)) made)
-leave_desk end (Queued slots) a b c r q s made d = later_desk end a (counts_of b.knows) (counts_of c.knows) d (since_turn (counts_of b.knows) b c (turned Leave_call (Queued slots) r q) (since_same (counts_of b.knows)) made)
-leave_desk end Let_in a b c r q s made d = later_desk end a (counts_of b.knows) (counts_of c.knows) d (since_turn (counts_of b.knows) b c (turned Leave_call Let_in r q) (since_same (counts_of b.knows)) made)
-leave_desk end Busy a b c r q s made d = later_desk end a (counts_of b.knows) (counts_of c.knows) d (since_turn (counts_of b.knows) b c (turned Leave_call Busy r q) (since_same (counts_of b.knows)) made)
-leave_desk end (Begun number) a b c r q s made d = later_desk end a (counts_of b.knows) (counts_of c.knows) d (since_turn (counts_of b.knows) b c (turned Leave_call (Begun number) r q) (since_same (counts_of b.knows)) made)
-leave_desk end (Offered number key) a b c r q s made d = later_desk end a (counts_of b.knows) (counts_of c.knows) d (since_turn (counts_of b.knows) b c (turned Leave_call (Offered number key) r q) (since_same (counts_of b.knows)) made)
-leave_desk end Nothing a b c r q s made d = later_desk end a (counts_of b.knows) (counts_of c.knows) d (since_turn (counts_of b.knows) b c (turned Leave_call Nothing r q) (since_same (counts_of b.knows)) made)
-leave_desk end (Came bytes) a b c r q s made d = later_desk end a (counts_of b.knows) (counts_of c.knows) d (since_turn (counts_of b.knows) b c (turned Leave_call (Came bytes) r q) (since_same (counts_of b.knows)) made)
-leave_desk end Settled a b c r q s made d = later_desk end a (counts_of b.knows) (counts_of c.knows) d (since_turn (counts_of b.knows) b c (turned Leave_call Settled r q) (since_same (counts_of b.knows)) made)
-leave_desk end (Filed answer) a b c r q s made d = later_desk end a (counts_of b.knows) (counts_of c.knows) d (since_turn (counts_of b.knows) b c (turned Leave_call (Filed answer) r q) (since_same (counts_of b.knows)) made)
-leave_desk end More a b c r q s made d = later_desk end a (counts_of b.knows) (counts_of c.knows) d (since_turn (counts_of b.knows) b c (turned Leave_call More r q) (since_same (counts_of b.knows)) made)
-leave_desk end Whole_now a b c r q s made d = later_desk end a (counts_of b.knows) (counts_of c.knows) d (since_turn (counts_of b.knows) b c (turned Leave_call Whole_now r q) (since_same (counts_of b.knows)) made)
-leave_desk end (Acted number) a b c r q s made d = later_desk end a (counts_of b.knows) (counts_of c.knows) d (since_turn (counts_of b.knows) b c (turned Leave_call (Acted number) r q) (since_same (counts_of b.knows)) made)
-leave_desk end (Given number) a b c r q s made d = later_desk end a (counts_of b.knows) (counts_of c.knows) d (since_turn (counts_of b.knows) b c (turned Leave_call (Given number) r q) (since_same (counts_of b.knows)) made)
-leave_desk end (Held number) a b c r q s made d = later_desk end a (counts_of b.knows) (counts_of c.knows) d (since_turn (counts_of b.knows) b c (turned Leave_call (Held number) r q) (since_same (counts_of b.knows)) made)
+pub leave_desk : (alone : Bool) (end : End) (answer : Answer) (a : Counts) (b c : DeskState) (rows_before rows_after : List Event) → Since a (counts_of b.knows) → CallsBeside alone b (turned Leave_call answer rows_before rows_after) c → DeskCause end a (counts_of b.knows) → DeskCause (after_leave end answer) a (counts_of c.knows)
+leave_desk alone end (Refused (Disk count)) a b c r q s made d = turn_fault alone a b c (turned Leave_call (Refused (Disk count)) r q) (Disk count) s refl made
+leave_desk alone end (Refused (Read count)) a b c r q s made d = later_desk end a (counts_of b.knows) (counts_of c.knows) d (since_turn alone (counts_of b.knows) b c (turned Leave_call (Refused (Read count)) r q) (since_same (counts_of b.knows)) made)
+leave_desk alone end (Refused Full) a b c r q s made d = later_desk end a (counts_of b.knows) (counts_of c.knows) d (since_turn alone (counts_of b.knows) b c (turned Leave_call (Refused Full) r q) (since_same (counts_of b.knows)) made)
+leave_desk alone end (Refused No_memory) a b c r q s made d = later_desk end a (counts_of b.knows) (counts_of c.knows) d (since_turn alone (counts_of b.knows) b c (turned Leave_call (Refused No_memory) r q) (since_same (counts_of b.knows)) made)
+leave_desk alone end (Queued slots) a b c r q s made d = later_desk end a (counts_of b.knows) (counts_of c.knows) d (since_turn alone (counts_of b.knows) b c (turned Leave_call (Queued slots) r q) (since_same (counts_of b.knows)) made)
+leave_desk alone end Let_in a b c r q s made d = later_desk end a (counts_of b.knows) (counts_of c.knows) d (since_turn alone (counts_of b.knows) b c (turned Leave_call Let_in r q) (since_same (counts_of b.knows)) made)
+leave_desk alone end Busy a b c r q s made d = later_desk end a (counts_of b.knows) (counts_of c.knows) d (since_turn alone (counts_of b.knows) b c (turned Leave_call Busy r q) (since_same (counts_of b.knows)) made)
+leave_desk alone end (Begun number) a b c r q s made d = later_desk end a (counts_of b.knows) (counts_of c.knows) d (since_turn alone (counts_of b.knows) b c (turned Leave_call (Begun number) r q) (since_same (counts_of b.knows)) made)
+leave_desk alone end (Offered number key) a b c r q s made d = later_desk end a (counts_of b.knows) (counts_of c.knows) d (since_turn alone (counts_of b.knows) b c (turned Leave_call (Offered number key) r q) (since_same (counts_of b.knows)) made)
+leave_desk alone end Nothing a b c r q s made d = later_desk end a (counts_of b.knows) (counts_of c.knows) d (since_turn alone (counts_of b.knows) b c (turned Leave_call Nothing r q) (since_same (counts_of b.knows)) made)
+leave_desk alone end (Came bytes) a b c r q s made d = later_desk end a (counts_of b.knows) (counts_of c.knows) d (since_turn alone (counts_of b.knows) b c (turned Leave_call (Came bytes) r q) (since_same (counts_of b.knows)) made)
+leave_desk alone end Settled a b c r q s made d = later_desk end a (counts_of b.knows) (counts_of c.knows) d (since_turn alone (counts_of b.knows) b c (turned Leave_call Settled r q) (since_same (counts_of b.knows)) made)
+leave_desk alone end (Filed answer) a b c r q s made d = later_desk end a (counts_of b.knows) (counts_of c.knows) d (since_turn alone (counts_of b.knows) b c (turned Leave_call (Filed answer) r q) (since_same (counts_of b.knows)) made)
+leave_desk alone end More a b c r q s made d = later_desk end a (counts_of b.knows) (counts_of c.knows) d (since_turn alone (counts_of b.knows) b c (turned Leave_call More r q) (since_same (counts_of b.knows)) made)
+leave_desk alone end Whole_now a b c r q s made d = later_desk end a (counts_of b.knows) (counts_of c.knows) d (since_turn alone (counts_of b.knows) b c (turned Leave_call Whole_now r q) (since_same (counts_of b.knows)) made)
+leave_desk alone end (Acted number) a b c r q s made d = later_desk end a (counts_of b.knows) (counts_of c.knows) d (since_turn alone (counts_of b.knows) b c (turned Leave_call (Acted number) r q) (since_same (counts_of b.knows)) made)
+leave_desk alone end (Given number) a b c r q s made d = later_desk end a (counts_of b.knows) (counts_of c.knows) d (since_turn alone (counts_of b.knows) b c (turned Leave_call (Given number) r q) (since_same (counts_of b.knows)) made)
+leave_desk alone end (Held number) a b c r q s made d = later_desk end a (counts_of b.knows) (counts_of c.knows) d (since_turn alone (counts_of b.knows) b c (turned Leave_call (Held number) r q) (since_same (counts_of b.knows)) made)
 
 -- What is left is written.
 
@@ -241,6 +246,7 @@ speaking E.Dropped before now calm e = tt
 speaking (E.DiskFault count) before now calm e = tt
 speaking E.LedgerFull before now calm e = tt
 speaking E.Endless before now calm e = tt
+speaking E.TurnedAway before now calm e = tt
 speaking E.NoMemory before now calm e = tt
 
 pub drain_line : (answer : WriteAnswer) (end : End) (before now calm : ℕ) → is_mute end ≡ false → LineCauseAt (after_drain answer calm end) before now calm
@@ -262,6 +268,7 @@ mute_cause E.Dropped before now calm mute m = absurd (let clash : false ≡ true
 mute_cause (E.DiskFault count) before now calm mute m = absurd (let clash : false ≡ true = mute in cc)
 mute_cause E.LedgerFull before now calm mute m = absurd (let clash : false ≡ true = mute in cc)
 mute_cause E.Endless before now calm mute m = absurd (let clash : false ≡ true = mute in cc)
+mute_cause E.TurnedAway before now calm mute m = absurd (let clash : false ≡ true = mute in cc)
 mute_cause E.NoMemory before now calm mute m = absurd (let clash : false ≡ true = mute in cc)
 
 pub leave_drain : (end : End) (answer : Answer) (before now calm : ℕ) → LineCause end before now calm → DrainCause (is_mute end) (after_leave end answer) before now calm

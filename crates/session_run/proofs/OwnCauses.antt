@@ -1,11 +1,11 @@
 -- Why sessions end, in the session's own words, step by step.
-use Rattle.std.proofs.Common.{◌≡◌, ◌∙◌, ℕ, suc, ◌+◌, Bool, true, false, List, [], ◌++◌, length, Option, refl, sym, ap, subst, inl, inr, arith}
+use Rattle.std.proofs.Common.{◌≡◌, ◌∙◌, ℕ, suc, ◌+◌, Bool, true, false, List, ◌++◌, length, Option, refl, sym, ap, subst, inl, inr, arith}
 use Rattle.std.specs.Prelude.{nat_le, if◌then◌else◌}
 use Rattle.std.proofs.lemmas.List.{length-append}
 use Rattle.std.proofs.lemmas.Bool.{leb-true}
 use Rattle.ftn_addr.specs.Frames.{FrameText}
 use Rattle.node_model.specs.Calls.{Event, Turned, Fault, Disk, Read, Full, No_memory, Answer, Queued, Let_in, Busy, Begun, Offered, Nothing, Came, Settled, Filed, More, Whole_now, Acted, Given, Held, Refused}
-use Rattle.node_model.specs.Talk.{Talk, Part, Finishes, Rests, Says_end, Waits_for_end, Verdict, TurnRow}
+use Rattle.node_model.specs.Talk.{Talk, Part, Says_end, Waits_for_end, Verdict}
 use Rattle.session_core.specs.declared.ending.Cause.{Cause}
 use Rattle.session_core.specs.Ends.{End}
 use Rattle.session_core.specs.Ends as E
@@ -15,7 +15,7 @@ use Rattle.binkp_link.specs.declared.link.ReadAnswer.{ReadAnswer}
 use Rattle.binkp_link.specs.declared.link.ReadAnswer.TheVariants as R
 use Rattle.binkp_link.specs.declared.link.WriteAnswer.{WriteAnswer}
 use Rattle.binkp_link.specs.declared.link.WriteAnswer.TheVariants as W
-use Rattle.session_core.specs.Sessions.{Setting, Stage, Awaits_address, Awaits_password, Talks, Turn, GiveRow, Said, fault_end, outcome_gave}
+use Rattle.session_core.specs.Sessions.{EmptyTurn, Finishes, Rests, Gives_nothing, Setting, Stage, Awaits_address, Awaits_password, Talks, Turn, GiveRow, Said, fault_end, outcome_gave}
 use Rattle.session_run.specs.Machine.{Phase, Taking, Reading, Over, Draining, Closed, after_took, after_gave, after_leave, after_read, after_write, after_drain}
 use Rattle.session_run.specs.Laws.{OwnCause, OwnCauseAt, Refuses}
 use Rattle.session_run.proofs.Causes.{RowCause}
@@ -29,7 +29,8 @@ never_broke cause n No_memory e = cc
 -- a row breaks off at its own frame alone
 pub no_broke : (cause : Cause) (n : ℕ) (es : List Event) → RowCause (suc n) (T.Ended (E.Broke cause n)) es → ⊥
 no_broke cause n es (inl p) = omega (arith, p)
-no_broke cause n es (inr r) = never_broke cause n r.1 r.3
+no_broke cause n es (inr (inl r)) = never_broke cause n r.1 r.3
+no_broke cause n es (inr (inr r)) = let clash : E.Broke cause n ≡ E.TurnedAway = r.2 in cc
 
 by_fault : (fault : Fault) (s : Setting) (stage : Stage) (frames : List FrameText) (met : Stage) (made : List Turned) (taken sent : List ℕ) → OwnCause (fault_end fault) s stage frames met made taken sent
 by_fault (Disk count) s stage frames met made taken sent = tt
@@ -39,8 +40,10 @@ by_fault No_memory s stage frames met made taken sent = tt
 
 pub took_own : (m : ℕ) (took : Took) (es : List Event) (s : Setting) (stage : Stage) (frames : List FrameText) (met : Stage) (made : List Turned) (taken sent : List ℕ) → RowCause m took es → ((cause : Cause) → took ≡ T.Ended (E.Broke cause m) → Refuses cause m s frames met made taken) → OwnCauseAt (after_took took) s stage frames met made taken sent
 took_own m T.More es s stage frames met made taken sent c f = tt
-took_own m (T.Ended end) es s stage frames met made taken sent (inr r) f =
+took_own m (T.Ended end) es s stage frames met made taken sent (inr (inl r)) f =
     subst (λ (x : End). OwnCause x s stage frames met made taken sent) (sym r.3) (by_fault r.1 s stage frames met made taken sent)
+took_own m (T.Ended end) es s stage frames met made taken sent (inr (inr r)) f =
+    subst (λ (x : End). OwnCause x s stage frames met made taken sent) (sym r.2) tt
 took_own m (T.Ended (E.Broke cause n)) es s stage frames met made taken sent (inl p) f =
     subst (λ (k : ℕ). Refuses cause k s frames met made taken) (sym p) (f cause (ap (λ (k : ℕ). T.Ended (E.Broke cause k)) p))
 took_own m (T.Ended E.NoMemory) es s stage frames met made taken sent (inl p) f = tt
@@ -51,20 +54,21 @@ took_own m (T.Ended (E.DiskFault count)) es s stage frames met made taken sent (
 took_own m (T.Ended E.LedgerFull) es s stage frames met made taken sent (inl p) f = absurd p
 took_own m (T.Ended E.Quiet) es s stage frames met made taken sent (inl p) f = absurd p
 took_own m (T.Ended E.Endless) es s stage frames met made taken sent (inl p) f = absurd p
+took_own m (T.Ended E.TurnedAway) es s stage frames met made taken sent (inl p) f = absurd p
 
 -- what was said tells how the row went on, but for want of memory
 pub said_broke : (output : List ℕ) (goal : Took) (written : List ℕ) (took : Took) (cause : Cause) (n : ℕ) → Said output goal written took → took ≡ T.Ended (E.Broke cause n) → goal ≡ T.Ended (E.Broke cause n)
 said_broke output goal written took cause n (inl s) e = sym s.0 ∙ e
 said_broke output goal written took cause n (inr s) e = absurd (let clash : T.Ended E.NoMemory ≡ T.Ended (E.Broke cause n) = sym s.0 ∙ e in cc)
 
-verdict_own : (held : Option Part) (talk : Talk) (v : Verdict) (s : Setting) (frames : List FrameText) (met : Stage) (made : List Turned) (taken sent : List ℕ) → TurnRow held talk [] v → OwnCauseAt (after_gave (outcome_gave v.outcome)) s (Talks v.after held) frames met made taken sent
-verdict_own held talk v s frames met made taken sent (Finishes is e a) =
+verdict_own : (held : Option Part) (talk : Talk) (v : Verdict) (s : Setting) (frames : List FrameText) (met : Stage) (made : List Turned) (taken sent : List ℕ) → EmptyTurn held talk v → OwnCauseAt (after_gave (outcome_gave v.outcome)) s (Talks v.after held) frames met made taken sent
+verdict_own held talk v s frames met made taken sent (Finishes is a) =
     subst (λ (x : Verdict). OwnCauseAt (after_gave (outcome_gave x.outcome)) s (Talks x.after held) frames met made taken sent) (sym a) is
-verdict_own held talk v s frames met made taken sent (Rests is own e a) =
+verdict_own held talk v s frames met made taken sent (Rests is own a) =
     subst (λ (x : Verdict). OwnCauseAt (after_gave (outcome_gave x.outcome)) s (Talks x.after held) frames met made taken sent) (sym a) tt
-verdict_own held talk v s frames met made taken sent (Says_end own is e a) =
+verdict_own held talk v s frames met made taken sent (Gives_nothing own (Says_end is a)) =
     subst (λ (x : Verdict). OwnCauseAt (after_gave (outcome_gave x.outcome)) s (Talks x.after held) frames met made taken sent) (sym a) tt
-verdict_own held talk v s frames met made taken sent (Waits_for_end own is e a) =
+verdict_own held talk v s frames met made taken sent (Gives_nothing own (Waits_for_end is a)) =
     subst (λ (x : Verdict). OwnCauseAt (after_gave (outcome_gave x.outcome)) s (Talks x.after held) frames met made taken sent) (sym a) tt
 
 pub gave_own : (stage : Stage) (t : Turn) (s : Setting) (frames : List FrameText) (met : Stage) (made : List Turned) (taken sent : List ℕ) → GiveRow stage t → OwnCauseAt (after_gave t.gave) s t.stage frames met made taken sent
@@ -104,6 +108,7 @@ grow_own E.LineFault s stage frames met made taken sent more c = tt
 grow_own (E.DiskFault count) s stage frames met made taken sent more c = tt
 grow_own E.LedgerFull s stage frames met made taken sent more c = tt
 grow_own E.Quiet s stage frames met made taken sent more c = tt
+grow_own E.TurnedAway s stage frames met made taken sent more c = tt
 
 pub drain_own : (answer : WriteAnswer) (calm : ℕ) (end : End) (s : Setting) (stage : Stage) (frames : List FrameText) (met : Stage) (made : List Turned) (taken sent more : List ℕ) → OwnCause end s stage frames met made taken sent → OwnCauseAt (after_drain answer calm end) s stage frames met made taken (sent ++ more)
 drain_own (W.Wrote n) calm end s stage frames met made taken sent more c = grow_own end s stage frames met made taken sent more c

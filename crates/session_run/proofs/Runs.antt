@@ -9,10 +9,10 @@ use Rattle.ftn_addr.specs.Frames.{FrameText, Block, spelling}
 use Rattle.binkp_frame.specs.Stream.{Begins, Splits, Feeds, frame_in}
 use Rattle.binkp_frame.specs.Views.{frame_text, frame_texts}
 use Rattle.binkp_frame.specs.declared.frame.Frame.{Frame}
-use Rattle.node_model.specs.Calls.{DeskState, Answer, Turned, turned, asked_of, CallsBeside, Turns, Knock_call, Leave_call}
+use Rattle.node_model.specs.Calls.{DeskState, Answer, Turned, turned, asked_of, Knock_call, Leave_call}
 use Rattle.node_model.specs.declared.words.Role.TheVariants.{Answers}
 use Rattle.session_core.proofs.Writings.{if_more}
-use Rattle.node_model.specs.Images.{Stand, Kept, Drifted, Shared, RanAt}
+use Rattle.node_model.specs.Images.{Stand, Kept, Drifted, Shared}
 use Rattle.node_model.proofs.Drifting.{drifted_none, drifted_on, earlier}
 use Rattle.node_model.proofs.Rans.{absorbed, ran_none, ran_one, ran_shared, ran_then}
 use Rattle.session_core.specs.declared.ending.End.{End as EndCode}
@@ -30,7 +30,7 @@ use Rattle.binkp_link.specs.declared.link.WriteAnswer.{WriteAnswer}
 use Rattle.session_core.specs.Sessions.{AfterKnock, Awaits_address, Setting, Stage, Reply, Row, GiveRow, frame_number}
 use Rattle.session_core.specs.Replies.{Writes as Grows, Did, IfMore, MadeRow, DidGive, stage_of}
 use Rattle.session_run.specs.Machine.{World, Phase, Starting, opening, Greets, greets, Leaves, leaves, after_leave, is_mute, Taking, Writing, Reading, Over, Draining, Reach, here, next, TakesFrame, takes_frame, MakesTurn, makes_turn, GivesUp, gives_up, MayGiveUp, Writes, writes, PassesWrite, passes_write, Reads, reads, after_took, after_gave, after_write, after_read}
-use Rattle.session_run.specs.Runs.{Spot, spot, Stream, Follows, At, GoesBy, Goes, Went, IsNew, Wrote, Came, over_or}
+use Rattle.session_run.specs.Runs.{IsUnleft, Spot, spot, Stream, Follows, At, GoesBy, Goes, Went, IsNew, Wrote, Came, over_or}
 
 -- one run after another
 pub reach_trans : {alone : Bool} {u v w : World} → Reach alone u v → Reach alone v w → Reach alone u w
@@ -55,6 +55,9 @@ went_still {alone} desk g = record { events = []; goes = g; ran = ran_none alone
 
 pub ends_at : {alone : Bool} {s : Setting} {old new : Stand} {a : Spot} {run : Run} {line : LineState} {desk : DeskState} {fs : List FrameText} {p q : Phase} → Went alone s old a new (spot run line desk fs p) → p ≡ q → Went alone s old a new (spot run line desk fs q)
 ends_at {alone} {s} {old} {new} {a} {run} {line} {desk} {fs} {p} {q} g e = subst (λ (x : Phase). Went alone s old a new (spot run line desk fs x)) e g
+
+pub starts_at : {alone : Bool} {s : Setting} {old new : Stand} {b : Spot} {run : Run} {line : LineState} {desk : DeskState} {fs : List FrameText} {p q : Phase} → Went alone s old (spot run line desk fs p) new b → p ≡ q → Went alone s old (spot run line desk fs q) new b
+starts_at {alone} {s} {old} {new} {b} {run} {line} {desk} {fs} {p} {q} g e = subst (λ (x : Phase). Went alone s old (spot run line desk fs x) new b) e g
 
 pub went_nowhere : (alone : Bool) (s : Setting) (desk : Stand) (a : Spot) → Went alone s desk a desk a
 went_nowhere alone s desk a = went_still desk (record { goes = λ w at. (w, here, at, sym (append-nil w.events)) })
@@ -138,7 +141,7 @@ fed_it alone s run run' line desk frames law feeds session piece out taken wrote
           phase_is = at.phase_is;
           unsent = at.unsent ∙ ap (λ (x : List ℕ). w.sent ++ x) (sym out);
           taken = at.taken ∙ sym taken;
-          wrote = at.wrote ∙ sym wrote;
+          wrote = λ _. at.wrote tt ∙ sym wrote;
           follows = stream;
         },
         sym (append-nil w.events),
@@ -146,6 +149,12 @@ fed_it alone s run run' line desk frames law feeds session piece out taken wrote
 }
 
 -- want of memory between two rows
+may_open : (p : Phase) → MayGiveUp p → IsUnleft p
+may_open Starting may = tt
+may_open Taking may = tt
+may_open (Reading waits) may = tt
+may_open _ may = absurd may
+
 pub gave_up_at : (alone : Bool) (s : Setting) (run run' : Run) (line : LineState) (desk : DeskState) (pending pending' : List FrameText) (p : Phase) → MayGiveUp p → run'.out.list ≡ run.out.list → run'.taken ≡ run.taken → run'.wrote ≡ run.wrote → Goes alone s (spot run line desk pending p) (spot run' line desk pending' (Over E.NoMemory))
 gave_up_at alone s run run' line desk pending pending' p may out taken wrote = record {
   goes = λ w at.
@@ -160,7 +169,7 @@ gave_up_at alone s run run' line desk pending pending' p may out taken wrote = r
           phase_is = refl;
           unsent = at.unsent ∙ ap (λ (x : List ℕ). w.sent ++ x) (sym out);
           taken = at.taken ∙ sym taken;
-          wrote = at.wrote ∙ sym wrote;
+          wrote = λ _. at.wrote (may_open p may) ∙ sym wrote;
           follows = tt;
         },
         sym (append-nil w.events),
@@ -225,7 +234,7 @@ took_row alone s run run' line old new frame more took number d decoder piece ta
             phase_is = refl;
             unsent = ap (λ (x : List ℕ). x ++ d.writes.written) at.unsent ∙ append_assoc w.sent run.out.list d.writes.written ∙ ap (λ (x : List ℕ). w.sent ++ x) (sym d.writes.grew);
             taken = at.taken ∙ sym taken;
-            wrote = at.wrote ∙ sym wrote;
+            wrote = λ _. at.wrote tt ∙ sym wrote;
             follows = follows_took took run' more v (if_more_map took (stage_of run'.session.stage ≡ d.reply.stage) (Stream run' more v) (λ e. stream (sym e)) d.stage_is);
           },
           refl,
@@ -320,7 +329,7 @@ gave_it alone s run run' line desk gave empty d frames decoder piece taken wrote
               phase_is = ap after_gave (sym x.0);
               unsent = ap (λ (l : List ℕ). l ++ d.turn.output) at.unsent ∙ append_assoc w.sent run.out.list d.turn.output ∙ ap (λ (l : List ℕ). w.sent ++ l) (sym x.2);
               taken = at.taken ∙ sym taken;
-              wrote = at.wrote ∙ sym wrote;
+              wrote = λ _. at.wrote tt ∙ sym wrote;
               follows = follows_gave gave run' v stream;
             },
             sym (append-nil w.events),
@@ -349,7 +358,7 @@ pub wrote_it : (alone : Bool) (s : Setting) (run run' : Run) (l l' : LineState) 
 wrote_it alone s run run' l l' desk waits answer result some is did to = record {
   goes = λ w at.
       let gone = went answer run.out.list in
-      let now : length (w.sent ++ gone) ≡ run'.wrote = length-append w.sent gone ∙ ap (λ (n : ℕ). n + length gone) at.wrote ∙ sym did.wrote in
+      let now : length (w.sent ++ gone) ≡ run'.wrote = length-append w.sent gone ∙ ap (λ (n : ℕ). n + length gone) (at.wrote tt) ∙ sym did.wrote in
       let v : World = record w { line = l'; sent = w.sent ++ gone; phase = after_write answer w.setting.limit (length w.taken + length (w.sent ++ gone)) l'.calm (Reading waits) } in
       let step : Writes w v = record {
         waits = waits;
@@ -375,7 +384,7 @@ wrote_it alone s run run' l l' desk waits answer result some is did to = record 
           phase_is = ends;
           unsent = at.unsent ∙ ap (λ (x : List ℕ). w.sent ++ x) did.out ∙ sym (append_assoc w.sent gone run'.out.list);
           taken = at.taken ∙ sym did.taken;
-          wrote = now;
+          wrote = λ _. now;
           follows = follows_reading result waits run' v (stream_same run run' [] w v refl refl refl did.session did.decoder did.piece at.follows);
         },
         sym (append-nil w.events),
@@ -404,7 +413,7 @@ came_it alone s run run' l l' desk waits answer buffer result room is did to = r
       let ends : v.phase ≡ over_or result Taking =
       ap (λ (x : Setting). after_read answer x.limit (length (w.taken ++ piece) + length w.sent) l'.calm) at.setting_is
       ∙ ap (λ (x : ℕ). after_read answer s.limit (x + length w.sent) l'.calm) now
-      ∙ ap (λ (x : ℕ). after_read answer s.limit (run'.taken + x) l'.calm) at.wrote ∙ sym to in
+      ∙ ap (λ (x : ℕ). after_read answer s.limit (run'.taken + x) l'.calm) (at.wrote tt) ∙ sym to in
       let stream : Stream run' [] v = record {
         stage_is = st.stage_is ∙ ap (λ (x : Session). stage_of x.stage) (sym did.session);
         number_is = ap (λ (x : Session). x.frames) did.session ∙ st.number_is;
@@ -421,7 +430,7 @@ came_it alone s run run' l l' desk waits answer buffer result room is did to = r
           phase_is = ends;
           unsent = at.unsent ∙ ap (λ (x : List ℕ). w.sent ++ x) (sym did.out);
           taken = now;
-          wrote = at.wrote ∙ sym did.wrote;
+          wrote = λ _. at.wrote tt ∙ sym did.wrote;
           follows = follows_taking result run' v stream;
         },
         sym (append-nil w.events),
@@ -474,7 +483,7 @@ greeted_it alone s run run' line old new answer reply took kept after is_new ses
             phase_is = refl;
             unsent = ap (λ (x : List ℕ). x ++ grows.written) at.unsent ∙ append_assoc w.sent run.out.list grows.written ∙ ap (λ (x : List ℕ). w.sent ++ x) (sym grows.grew);
             taken = at.taken ∙ sym taken;
-            wrote = at.wrote ∙ sym wrote;
+            wrote = λ _. at.wrote tt ∙ sym wrote;
             follows = follows_took took run' [] v (if_more took (Stream run' [] v) stream);
           },
           refl,
@@ -491,7 +500,7 @@ left_it alone s run line old new end answer kept = record {
     goes = λ w at.
         let v : World = record w { desk = new.state; events = w.events ++ turned Leave_call answer kept.rows_before kept.rows_after ∷ []; phase = Draining (is_mute end) (after_leave end answer) } in
         let step : Leaves alone w v = record { end = end; phase = at.phase_is; answer = answer; desk = new.state; rows_before = kept.rows_before; rows_after = kept.rows_after; call = (earlier alone w.desk old.state at.desk_is (turned Leave_call answer kept.rows_before kept.rows_after) new.state kept.made).made; is = refl } in
-        (v, next here (leaves step), record { setting_is = at.setting_is; line_is = at.line_is; desk_is = drifted_none alone new.state; phase_is = refl; unsent = at.unsent; taken = at.taken; wrote = at.wrote; follows = tt }, refl);
+        (v, next here (leaves step), record { setting_is = at.setting_is; line_is = at.line_is; desk_is = drifted_none alone new.state; phase_is = refl; unsent = at.unsent; taken = at.taken; wrote = λ unleft. absurd unleft; follows = tt }, refl);
   };
 }
 
@@ -504,7 +513,7 @@ at_opening alone s run line desk is = record {
   phase_is = refl;
   unsent = sym is.out;
   taken = sym is.taken;
-  wrote = sym is.wrote;
+  wrote = λ _. sym is.wrote;
   follows = record {
     stage_is = sym is.stage;
     number_is = is.frames;

@@ -3,7 +3,7 @@ use Rattle.std.specs.Prelude.{◌≡◌, ◌⊎◌, ℕ, ◌+◌, ◌≤◌, Boo
 use Rattle.ftn_addr.specs.Counts.{Increased, CountGrew, next_count}
 use Rattle.ftn_addr.specs.Frames.{FrameText}
 use Rattle.binkp_frame.specs.Stream.{Begins}
-use Rattle.node_model.specs.Calls.{Counts, counts_of, DeskState, Turned, asked_of}
+use Rattle.node_model.specs.Calls.{Leave_call, Disk, Read, Full, Answer, Busy, Refused, Counts, counts_of, DeskState, Turned, asked_of}
 use Rattle.node_model.specs.Images.{Stand, Drifted, RanAt}
 use Rattle.node_model.specs.Talk.{is_finished}
 use Rattle.session_core.specs.declared.ending.Cause.{Cause}
@@ -12,7 +12,8 @@ use Rattle.session_core.specs.Ends as E
 use Rattle.session_core.specs.Takings as T
 use Rattle.binkp_link.specs.Lines.{LineState, Moves, shut}
 use Rattle.session_core.specs.Sessions.{Setting, Stage, Talks, Reply, Row, frame_number}
-use Rattle.session_run.specs.Machine.{World, Phase, Over, Draining, Closed, Reach, opening, is_mute}
+use Rattle.session_run.specs.Acknowledged.{Written}
+use Rattle.session_run.specs.Machine.{World, Phase, Over, Draining, Closed, Reach, opening, is_mute, after_leave}
 
 abbrev pub joined : List (List ℕ) → List ℕ
 joined [] = []
@@ -63,6 +64,37 @@ DeskCauseAt (Over end) before now = DeskCause end before now
 DeskCauseAt (Draining mute end) before now = DeskCause end before now
 DeskCauseAt (Closed end) before now = DeskCause end before now
 DeskCauseAt _ before now = Unit {0}
+
+-- the last of these calls was answered so
+pub record LastAnswered (es : List Turned) (answer : Answer) : Type 0 where
+  pub earlier : List Turned
+  pub last : Turned
+  pub is : es ≡ earlier ++ last ∷ []
+  pub answered : last.asked.answer ≡ answer
+
+-- DiskFault comes only where the last call answered Disk or Read with that count, LedgerFull only where it answered
+-- Full, and TurnedAway only where it answered Busy
+abbrev pub AnswerCause : End → List Turned → Type 0
+AnswerCause (E.DiskFault count) es = LastAnswered es (Refused (Disk count)) ⊎ LastAnswered es (Refused (Read count))
+AnswerCause E.LedgerFull es = LastAnswered es (Refused Full)
+AnswerCause E.TurnedAway es = LastAnswered es Busy
+AnswerCause _ es = Unit {0}
+
+-- the last of these calls left the desk, and only a disk that failed in it turned the end of the calls before it
+pub record LeftAt (end : End) (es : List Turned) : Type 0 where
+  pub first : End
+  pub earlier : List Turned
+  pub cause : AnswerCause first earlier
+  pub last : Turned
+  pub is : es ≡ earlier ++ last ∷ []
+  pub leaves : last.asked.call ≡ Leave_call
+  pub turned : end ≡ after_leave first last.asked.answer
+
+abbrev pub AnswerCauseAt : Phase → List Turned → Type 0
+AnswerCauseAt (Over end) es = AnswerCause end es
+AnswerCauseAt (Draining mute end) es = LeftAt end es
+AnswerCauseAt (Closed end) es = LeftAt end es
+AnswerCauseAt _ es = Unit {0}
 
 -- The frame with that number, the last that was taken of these bytes, was refused so: by its row at the stage that it
 -- met, with the calls that it made.
@@ -120,8 +152,9 @@ pub record Facts (alone : Bool) (line : LineState) (desk : DeskState) (w : World
   pub faults : line.faults ≤ w.line.faults
   pub ends : EndCountAt w.phase line.ends w.line.ends
   pub line_cause : LineCauseAt w.phase line.faults w.line.faults w.line.calm
-  pub counts : alone ≡ true → Since (counts_of desk.knows) (counts_of w.desk.knows)
-  pub desk_cause : alone ≡ true → DeskCauseAt w.phase (counts_of desk.knows) (counts_of w.desk.knows)
+  pub counts : Since (counts_of desk.knows) (counts_of w.desk.knows)
+  pub desk_cause : DeskCauseAt w.phase (counts_of desk.knows) (counts_of w.desk.knows)
+  pub answer_cause : AnswerCauseAt w.phase w.events
   pub own_cause : OwnCauseAt w.phase w.setting w.stage w.frames w.last_stage w.last_calls w.taken w.sent
 
 -- A session that ended so, over this line and this desk: a run from the opening to its close, and what holds of it. The
@@ -134,6 +167,9 @@ pub record WholeRun (alone : Bool) (setting : Setting) (line : LineState) (desk 
   pub desk_is : Drifted alone last.desk desk'
   pub taken_is : length last.taken ≡ taken
   pub facts : Facts alone line desk last
+  -- each M_GOT among the frames that were written names a file that the node has
+  pub cut : List ℕ
+  pub written : Written alone desk last.events last.output cut
 
 -- The same with what a stop may leave of it: its calls of the desk, with the moments at which they ended. At each moment
 -- since the opening each image is one of the call of that moment, and at its end the state after it.

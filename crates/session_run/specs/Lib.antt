@@ -1,3 +1,5 @@
+pub mod Acknowledged
+pub mod Courses
 pub mod Laws
 pub mod Machine
 pub mod Runs

@@ -226,19 +226,3 @@ pub data Reach (alone : Bool) (w : World) : World → Type 0 where
 abbrev pub opening : Setting → LineState → DeskState → World
 opening setting line desk =
     record { setting = setting; line = line; desk = desk; stage = Awaits_address; phase = Starting; pieces = []; taken = []; frames = []; last_stage = Awaits_address; last_calls = []; output = []; sent = []; events = [] }
-
--- the session is over, and this is left to write
-pub record IsLeft (line : LineState) (left : List ℕ) (mute : Bool) (end : End) (w : World) : Type 0 where
-  pub line_is : w.line ≡ line
-  pub unsent : w.output ≡ w.sent ++ left
-  pub phase : w.phase ≡ Draining mute end
-
--- what was left was written, as far as that goes
-pub record IsClosed (alone : Bool) (w : World) (line : LineState) (end : End) : Type 0 where
-  pub last : World
-  pub reached : Reach alone w last
-  pub line_is : last.line ≡ line
-  pub desk_is : last.desk ≡ w.desk
-  pub events_is : last.events ≡ w.events
-  pub taken_is : last.taken ≡ w.taken
-  pub phase : last.phase ≡ Closed end

@@ -1,11 +1,11 @@
 -- Where the code of a session stands in the run of its machine.
-use Rattle.std.specs.Prelude.{◌≡◌, ℕ, ◌+◌, ◌-◌, ◌*◌, ◌<◌, ◌≤◌, Bool, List, [], ◌++◌, length, Option, Some, None}
+use Rattle.std.specs.Prelude.{◌≡◌, ℕ, ◌+◌, ◌-◌, ◌*◌, ◌<◌, ◌≤◌, Bool, true, false, List, [], ◌++◌, length, Option, Some, None}
 use Rattle.ftn_addr.specs.Frames.{FrameText}
 use Rattle.binkp_frame.specs.Stream.{Splits}
 use Rattle.node_model.specs.Calls.{DeskState, Turned}
 use Rattle.node_model.specs.Images.{Stand, Drifted, RanAt}
 use Rattle.session_core.specs.declared.ending.End.{End as EndCode}
-use Rattle.session_core.specs.Ends.{end_text}
+use Rattle.session_core.specs.Ends.{End, end_text}
 use Rattle.session_run.specs.declared.run.Run.{Run}
 use Rattle.binkp_link.specs.Lines.{LineState}
 use Rattle.session_core.specs.Sessions.{Setting, Awaits_address, frame_number}
@@ -38,6 +38,12 @@ Follows (Draining mute end) run pending w = Unit {0}
 Follows (Closed end) run pending w = Unit {0}
 Follows phase run pending w = Stream run pending w
 
+-- the node wasn't left yet
+abbrev pub IsUnleft : Phase → Type 0
+IsUnleft (Draining mute end) = ⊥
+IsUnleft (Closed end) = ⊥
+IsUnleft phase = Unit {0}
+
 -- the desk stands where the machine has it, but for steps of other seats, which the next call counts as its own drift
 pub record At (alone : Bool) (setting : Setting) (s : Spot) (w : World) : Type 0 where
   pub setting_is : w.setting ≡ setting
@@ -46,7 +52,7 @@ pub record At (alone : Bool) (setting : Setting) (s : Spot) (w : World) : Type 0
   pub phase_is : w.phase ≡ s.phase
   pub unsent : w.output ≡ w.sent ++ s.run.out.list
   pub taken : length w.taken ≡ s.run.taken
-  pub wrote : length w.sent ≡ s.run.wrote
+  pub wrote : IsUnleft s.phase → length w.sent ≡ s.run.wrote
   pub follows : Follows s.phase s.run s.pending w
 
 -- wherever the code stands in its machine's run, the machine goes on to where the code comes, by these calls of the desk
@@ -104,6 +110,15 @@ over_or (Some end) goal = Over (end_text end)
 -- how much may still come: each turn moves a byte or is one Quiet more
 abbrev pub room : ℕ → Run → ℕ → ℕ
 room limit run calm = 64 * (limit - (run.taken + run.wrote)) + (63 - calm)
+
+-- the phase behind a write of what was left: nothing more is to be written, or something is
+abbrev pub drained : Bool → End → Phase
+drained true end = Closed end
+drained false end = Draining false end
+
+-- how much may still come of what is left: each write moves a byte or is one Quiet more
+abbrev pub drain_room : Run → ℕ → ℕ
+drain_room run calm = 64 * length run.out.list + (63 - calm)
 
 -- the run may go on
 pub record InLimit (limit : ℕ) (run : Run) (calm : ℕ) : Type 0 where

@@ -1,7 +1,8 @@
 //! One session over a line, from the opening to the close.
 //!
 //! [`run_session`] is the whole session: it greets, reads pieces, takes their frames, makes own turns and
-//! writes, until the session's end or the line's. [`Run`] is a session that goes on.
+//! writes, until the session's end or the line's. [`Course`] is the same turn by turn, for whoever holds several
+//! sessions at a time.
 //!
 //! ```
 //! let mut seat = Seat::new(store);             // of `hub_core`
@@ -13,5 +14,7 @@
 #![tactic(auto)]
 
 mod run;
+mod turns;
 
-pub use run::{Run, run_session};
+pub use run::Run;
+pub use turns::{Course, Going, Report, Turn, run_session};

@@ -4,14 +4,12 @@ ghost use Rattle.ftn_addr.specs.Address.{address};
 ghost use Rattle.ftn_addr.specs.Limits.{IsAddress};
 ghost use Rattle.binkp_frame.specs.Views.{frame_texts};
 ghost use Rattle.node_model.specs.Calls.{DeskState};
-ghost use Rattle.node_model.specs.Desks.{leave_answer};
 ghost use Rattle.binkp_link.specs.Lines.{LineState, LineBytes, MayRead, MayWrite, came, went};
 ghost use Rattle.session_core.specs.Replies.{Sits, SitsStill, setting_of, stage_of};
 ghost use Rattle.session_core.specs.Sessions.{Setting as Lent, IsSound, desk_part};
 ghost use Rattle.session_run.specs.Runs.{over_or};
-ghost use Rattle.session_run.specs.Laws.{IsSession};
-ghost use Rattle.session_run.specs.Machine.{World, Phase, Starting, Taking, Writing, Reading, Over, IsLeft, IsClosed, is_mute, after_gave, after_leave, after_read, after_took, after_write, moved, quieted};
-ghost use Rattle.session_core.specs.Ends.{End as Ending, end_text};
+ghost use Rattle.session_run.specs.Machine.{Phase, Starting, Taking, Writing, Reading, Over, Draining, after_gave, after_read, after_took, after_write, moved, quieted};
+ghost use Rattle.session_core.specs.Ends.{End as Ending};
 ghost use Rattle.session_core.specs.Givings.{gave_text};
 ghost use Rattle.session_core.specs.Takings.{took_text};
 ghost use Rattle.session_core.specs.Ends as E;
@@ -21,8 +19,8 @@ ghost use Rattle.session_core.specs.Givings as G;
 use binkp_frame::{Decoder, Frame, pieces_add_up};
 use binkp_link::{Line, ReadAnswer, WriteAnswer};
 use ftn_addr::{Bytes, NoMemory};
-use node_model::{Desk, DeskFault, Knock, Role};
-use session_core::{End, Gave, Session, Setting, Took, refuse, say_greeting};
+use node_model::{Desk, Knock, Role};
+use session_core::{End, Gave, Session, Setting, Took, refuse, say_greeting, turn_away};
 use std::alloc::Global;
 
 /// A session that goes on: what it knows, the bytes of a frame that isn't whole, the piece that was read and
@@ -38,7 +36,7 @@ pub struct Run {
 }
 
 impl Run {
-    ghost use Rattle.session_run.specs.Runs.{Goes, Went, IsNew, Wrote, Came, SameCounts, Advances, InLimit, room, spot};
+    ghost use Rattle.session_run.specs.Runs.{Goes, Went, IsNew, Wrote, Came, SameCounts, Advances, InLimit, drain_room, drained, room, spot};
 
     /// Before the first turn. This takes no memory.
     pub fn new(alloc: Global) -> Run
@@ -218,8 +216,8 @@ impl Run {
         self.came(answer, &buffer, line.calm(), limit)
     }
 
-    /// A turn: the frames that are whole, the own turn, one write and one read.
-    pub fn turn<L: Line, K: Desk>(
+    /// A turn of a session that goes on: the frames that are whole, the own turn, one write and one read.
+    pub(crate) fn go_on<L: Line, K: Desk>(
         &mut self,
         alloc: Global,
         line: &mut L,
@@ -259,46 +257,64 @@ impl Run {
         requires new { IsNew self.old }
         requires home { IsAddress (address setting.now.home) }
         requires ready { K.ready desk.old }
-        requires part { K.part desk.old ≡ record { open_now = false; held = None } }
+        requires part { K.part desk.old ≡ record { open_now = false; claim = None; held = None } }
         ensures went { (line : LineState) → Went K.alone (setting_of setting.now) (K.stand desk.old) (spot self.old line (K.stand desk.old).state [] Starting) (K.stand desk.new) (spot self.new line (K.stand desk.new).state [] (after_took (took_text result))) }
         ensures sits { SitsStill (K.ready desk.new) (K.part desk.new) (stage_of self.new.session.stage) (took_text result) }
         ensures counts { SameCounts self.old self.new }
     {
         match desk.knock(Role::Answers) {
             Ok(Knock::Come) => say_greeting(alloc, &setting.home, &mut self.out),
+            Ok(Knock::Busy) => turn_away(alloc, &mut self.out),
             Err(fault) => refuse(alloc, fault, &mut self.out),
         }
     }
 
-    /// The session from its first turn to its end.
-    fn talk<L: Line, K: Desk>(
+    /// The first turn: the caller knocks and is greeted, and the session goes on from there.
+    pub(crate) fn open<L: Line, K: Desk>(
         &mut self,
         alloc: Global,
         line: &mut L,
         desk: &mut K,
         setting: &Setting,
-    ) -> End
+    ) -> Option<End>
         requires new { IsNew self.old }
         requires home { IsAddress (address setting.now.home) }
         requires ready { K.ready desk.old }
-        requires part { K.part desk.old ≡ record { open_now = false; held = None } }
+        requires part { K.part desk.old ≡ record { open_now = false; claim = None; held = None } }
         requires some { 0 < setting.now.limit }
         requires limit { setting.now.limit ≤ 2 ^ 62 }
         requires calm { (L.state line.old).calm ≡ 0 }
         requires open { (L.state line.old).closed ≡ false }
-        ensures went { Went K.alone (setting_of setting.now) (K.stand desk.old) (spot self.old (L.state line.old) (K.stand desk.old).state [] Starting) (K.stand desk.new) (spot self.new (L.state line.new) (K.stand desk.new).state [] (Over (end_text result))) }
-        ensures open { (L.state line.new).closed ≡ false }
+        ensures went { Went K.alone (setting_of setting.now) (K.stand desk.old) (spot self.old (L.state line.old) (K.stand desk.old).state [] Starting) (K.stand desk.new) (spot self.new (L.state line.new) (K.stand desk.new).state [] (over_or result Taking)) }
         ensures ready { K.ready desk.new }
+        ensures sits { IfNone result (Sits (K.ready desk.new) (K.part desk.new) (stage_of self.new.session.stage)) }
+        ensures open { (L.state line.new).closed ≡ false }
+        ensures goes_on { IfNone result (InLimit setting.now.limit self.new (L.state line.new).calm) }
     {
         match self.greet(alloc, setting, desk) {
-            Took::More => {}
-            Took::Ended(end) => return end,
+            Took::More => self.go_on(alloc, line, desk, setting),
+            Took::Ended(end) => Some(end),
         }
-        loop {
-            match self.turn(alloc, line, desk, setting) {
-                None => {}
-                Some(end) => return end,
+    }
+
+    /// One write of what is left once the session is over; whether no more is to be written.
+    pub(crate) fn drain<L: Line>(&mut self, line: &mut L) -> bool
+        requires { (L.state line.old).closed ≡ false }
+        ensures went { (alone : Bool) (s : Lent) (desk : DeskState) (end : Ending) →
+            Goes alone s (spot self.old (L.state line.old) desk [] (Draining false end)) (spot self.new (L.state line.new) desk [] (drained result end)) }
+        ensures open { (L.state line.new).closed ≡ false }
+        ensures less { result ≡ false → drain_room self.new (L.state line.new).calm < drain_room self.old (L.state line.old).calm }
+    {
+        if self.out.is_empty() {
+            return true;
+        }
+        match line.write(self.out.as_slice()) {
+            WriteAnswer::Wrote(n) => {
+                self.out.drop_front(n);
+                self.out.is_empty()
             }
+            WriteAnswer::Quiet => line.calm() >= 60,
+            WriteAnswer::Failed => true,
         }
     }
 }
@@ -325,78 +341,4 @@ fn quiet(calm: u64) -> Option<End>
     ensures { (goal : Phase) → over_or result goal ≡ quieted calm goal }
 {
     if calm >= 60 { Some(End::Quiet) } else { None }
-}
-
-/// A `leave` that answers Disk turns any end.
-fn turned(end: End, answer: Result<(), DeskFault>) -> End
-    ensures { end_text result ≡ after_leave (end_text end) (leave_answer answer) }
-{
-    match answer {
-        Err(DeskFault::Disk(count)) => End::DiskFault(count),
-        Err(DeskFault::Full) => end,
-        Err(DeskFault::NoMemory) => end,
-        Ok(()) => end,
-    }
-}
-
-fn is_mute(end: End) -> bool
-    ensures { result ≡ is_mute (end_text end) }
-{
-    matches!(end, End::LineFault | End::Quiet)
-}
-
-/// Writes what is left once the session is over, as far as that goes.
-fn drain<L: Line>(out: &mut Bytes, line: &mut L, mute: bool)
-    requires { (L.state line.old).closed ≡ false }
-    ensures { (alone : Bool) (end : Ending) (w : World) → IsLeft (L.state line.old) out.old.list mute end w → IsClosed alone w (L.state line.new) end }
-{
-    if mute {
-        return;
-    }
-    while !out.is_empty() {
-        match line.write(out.as_slice()) {
-            WriteAnswer::Wrote(n) => out.drop_front(n),
-            WriteAnswer::Quiet => {
-                if line.calm() >= 60 {
-                    return;
-                }
-            }
-            WriteAnswer::Failed => return,
-        }
-    }
-}
-
-/// What is told of a session.
-#[derive(Clone, Copy, Debug, PartialEq, Eq)]
-pub struct Report {
-    pub end: End,
-    /// Bytes taken from the line.
-    pub taken: u64,
-}
-
-/// One whole answering session over a line, which is closed at its end.
-pub fn run_session<L: Line, K: Desk>(
-    alloc: Global,
-    line: &mut L,
-    desk: &mut K,
-    setting: &Setting,
-) -> Report
-    requires home { IsAddress (address setting.now.home) }
-    requires ready { K.ready desk.old }
-    requires part { K.part desk.old ≡ record { open_now = false; held = None } }
-    requires some { 0 < setting.now.limit }
-    requires limit { setting.now.limit ≤ 2 ^ 62 }
-    requires calm { (L.state line.old).calm ≡ 0 }
-    requires open { (L.state line.old).closed ≡ false }
-    ensures session { IsSession K.alone (setting_of setting.now) (L.state line.old) (K.stand desk.old) (end_text result.end) result.taken (L.state line.new) (K.stand desk.new) }
-    ensures ready { K.ready desk.new }
-{
-    let mut run = Run::new(alloc);
-    let end = run.talk(alloc, line, desk, setting);
-    let mute = is_mute(end);
-    let end = turned(end, desk.leave());
-    let taken = run.taken;
-    drain(&mut run.out, line, mute);
-    line.close();
-    Report { end, taken }
 }

@@ -1,7 +1,8 @@
 ghost use Rattle.std.specs.Prelude.{◌≡◌, ◌<◌, false, None, IfOk, IfSome};
-ghost use Rattle.list_store.specs.ListStates.{stand_of};
 ghost use Rattle.binkp_link.specs.MemLines.{mem_state};
-ghost use Rattle.hub_core.specs.Seats.{IsMarkFree};
+ghost use Rattle.hub_core.specs.Opening.{IsWhole, no_seats};
+ghost use Rattle.node_model.specs.Node.{plain_settings};
+ghost use Rattle.list_store.specs.ListStates.{stand_of};
 
 use crate::{Status, run_line};
 use binkp_link::{MemLine, MemSink, ReadAct};
@@ -15,6 +16,7 @@ use std::test::Fail;
 mod lines;
 mod ordinary;
 mod refusals;
+mod resumption;
 
 const LOGIN: &[u8] = b"\x80\x12\x012:5047/13@fidonet\x80\x02\x02-";
 
@@ -71,17 +73,26 @@ fn words(alloc: Global, address: &[u8]) -> Result<Vec<Bytes>, NoMemory> {
     Ok(words)
 }
 
+// A store with nothing in it.
+#[tactic(auto, using(crate::proofs::NewStore::new_fits))]
+fn new_store(alloc: Global) -> ListStore
+    ensures whole { (stand_of result).state.counts.broken ≡ None }
+    ensures fits { IsWhole (stand_of result) (no_seats plain_settings) }
+{
+    ListStore::new(alloc)
+}
+
 // Answers the caller on the line.
 fn answer(
     alloc: Global,
     store: ListStore,
     line: &mut MemLine,
 ) -> Result<(Status, ListStore), NoMemory>
-    requires free { IsMarkFree (stand_of store).state.content }
     requires whole { (stand_of store).state.counts.broken ≡ None }
+    requires fits { IsWhole (stand_of store) (no_seats plain_settings) }
     requires calm { (mem_state line.old).calm ≡ 0 }
     requires open { (mem_state line.old).closed ≡ false }
-    ensures { IfOk result (λ after. IsMarkFree (stand_of after.1).state.content) }
+    ensures { IfOk result (λ after. IsWhole (stand_of after.1) (no_seats plain_settings)) }
 {
     let words = words(alloc, b"2:5020/1042@fidonet")?;
     let mut out = MemSink::new(alloc, Vec::new(alloc));
@@ -112,13 +123,14 @@ fn the_first_session_is_answered_byte_for_byte(rt: HostRuntime) -> Result<(), Fa
     let alloc = rt.alloc();
     let call = joined(alloc, &[LOGIN, OFFER, b"\x00\x05hello", END])?;
     let mut line = fast_line(alloc, call.as_slice())?;
-    let (status, store) = answer(alloc, ListStore::new(alloc), &mut line)?;
+    let (status, store) = answer(alloc, new_store(alloc), &mut line)?;
     assert_eq!(rt; status, Status::Done);
     let wanted = joined(alloc, &[GREETING, WELCOME, GOT, END])?;
     assert_eq!(rt; line.written(), wanted.as_slice());
     assert_eq!(rt; store.receipts().len(), 1);
-    assert_eq!(rt; store.receipts()[0].bytes.as_slice(), b"hello".as_slice());
-    assert_eq!(rt; store.receipts()[0].from.node, 13);
+    let received = &store.receipts()[0];
+    assert_eq!(rt; received.bytes.as_slice(), b"hello".as_slice());
+    assert_eq!(rt; received.from.node, 13);
     Ok(())
 }
 
@@ -127,12 +139,13 @@ fn bytes_that_come_one_at_a_time_are_answered_alike(rt: HostRuntime) -> Result<(
     let alloc = rt.alloc();
     let call = joined(alloc, &[LOGIN, OFFER, b"\x00\x02he", b"\x00\x03llo", END])?;
     let mut line = slow_line(alloc, call.as_slice())?;
-    let (status, store) = answer(alloc, ListStore::new(alloc), &mut line)?;
+    let (status, store) = answer(alloc, new_store(alloc), &mut line)?;
     assert_eq!(rt; status, Status::Done);
     let wanted = joined(alloc, &[GREETING, WELCOME, GOT, END])?;
     assert_eq!(rt; line.written(), wanted.as_slice());
     assert_eq!(rt; store.receipts().len(), 1);
-    assert_eq!(rt; store.receipts()[0].bytes.as_slice(), b"hello".as_slice());
+    let received = &store.receipts()[0];
+    assert_eq!(rt; received.bytes.as_slice(), b"hello".as_slice());
     Ok(())
 }
 
@@ -142,12 +155,13 @@ fn an_empty_file_and_another_are_received_in_one_batch(rt: HostRuntime) -> Resul
     let empty: &[u8] = b"\x80\x08\x03e 0 7 0";
     let call = joined(alloc, &[LOGIN, empty, OFFER, b"\x00\x05hello", END])?;
     let mut line = fast_line(alloc, call.as_slice())?;
-    let (status, store) = answer(alloc, ListStore::new(alloc), &mut line)?;
+    let (status, store) = answer(alloc, new_store(alloc), &mut line)?;
     assert_eq!(rt; status, Status::Done);
     let wanted = joined(alloc, &[GREETING, WELCOME, b"\x80\x06\x06e 0 7", GOT, END])?;
     assert_eq!(rt; line.written(), wanted.as_slice());
     assert_eq!(rt; store.receipts().len(), 2);
-    assert!(rt; store.receipts()[0].bytes.is_empty());
+    let received = &store.receipts()[0];
+    assert!(rt; received.bytes.is_empty());
     Ok(())
 }
 
@@ -156,7 +170,7 @@ fn a_file_that_was_received_is_not_taken_again(rt: HostRuntime) -> Result<(), Fa
     let alloc = rt.alloc();
     let call = joined(alloc, &[LOGIN, OFFER, b"\x00\x05hello", END])?;
     let mut line = fast_line(alloc, call.as_slice())?;
-    let (first, store) = answer(alloc, ListStore::new(alloc), &mut line)?;
+    let (first, store) = answer(alloc, new_store(alloc), &mut line)?;
     assert_eq!(rt; first, Status::Done);
     let Some(store) = unbroken(store) else {
         assert!(rt; false);
@@ -176,7 +190,7 @@ fn a_line_that_ends_early_leaves_nothing(rt: HostRuntime) -> Result<(), Fail> {
     let alloc = rt.alloc();
     let call = joined(alloc, &[LOGIN, OFFER, b"\x00\x03hel"])?;
     let mut line = fast_line(alloc, call.as_slice())?;
-    let (status, store) = answer(alloc, ListStore::new(alloc), &mut line)?;
+    let (status, store) = answer(alloc, new_store(alloc), &mut line)?;
     assert_eq!(rt; status, Status::Dropped);
     assert_eq!(rt; status.number(), 7);
     assert!(rt; store.receipts().is_empty());
@@ -187,7 +201,7 @@ fn a_line_that_ends_early_leaves_nothing(rt: HostRuntime) -> Result<(), Fail> {
 fn a_file_before_login_is_out_of_turn(rt: HostRuntime) -> Result<(), Fail> {
     let alloc = rt.alloc();
     let mut line = fast_line(alloc, OFFER)?;
-    let (status, store) = answer(alloc, ListStore::new(alloc), &mut line)?;
+    let (status, store) = answer(alloc, new_store(alloc), &mut line)?;
     assert_eq!(rt; status, Status::Broke(Cause::OutOfTurn, 1));
     let wanted = joined(alloc, &[GREETING, BROKEN_FRAME])?;
     assert_eq!(rt; line.written(), wanted.as_slice());
@@ -196,16 +210,11 @@ fn a_file_before_login_is_out_of_turn(rt: HostRuntime) -> Result<(), Fail> {
 }
 
 #[test]
-fn an_offset_and_too_much_data_are_refused(rt: HostRuntime) -> Result<(), Fail> {
+fn too_much_data_is_refused(rt: HostRuntime) -> Result<(), Fail> {
     let alloc = rt.alloc();
-    let offset: &[u8] = b"\x80\x15\x03a.txt 5 1000000000 3";
-    let call = joined(alloc, &[LOGIN, offset])?;
-    let mut line = fast_line(alloc, call.as_slice())?;
-    let (status, _) = answer(alloc, ListStore::new(alloc), &mut line)?;
-    assert_eq!(rt; status, Status::Broke(Cause::OutOfTurn, 3));
     let call = joined(alloc, &[LOGIN, OFFER, b"\x00\x06hello!"])?;
     let mut line = fast_line(alloc, call.as_slice())?;
-    let (status, store) = answer(alloc, ListStore::new(alloc), &mut line)?;
+    let (status, store) = answer(alloc, new_store(alloc), &mut line)?;
     assert_eq!(rt; status, Status::Broke(Cause::TooMuch, 4));
     assert!(rt; store.receipts().is_empty());
     Ok(())
@@ -220,7 +229,7 @@ fn other_words_are_refused(rt: HostRuntime) -> Result<(), Fail> {
     let (status, _) = run_line(
         alloc,
         words.as_slice(),
-        ListStore::new(alloc),
+        new_store(alloc),
         &mut line,
         0,
         [0; 16],

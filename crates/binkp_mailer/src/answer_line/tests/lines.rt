@@ -1,9 +1,12 @@
 //! What a caller gets whose line, or whose node's store, fails or is silent.
-ghost use Rattle.std.specs.Prelude.{◌≡◌, false, map, IfOk, OnOk};
+ghost use Rattle.std.specs.Prelude.{◌≡◌, false, map, None, IfOk, OnOk};
+ghost use Rattle.hub_core.specs.Opening.{IsWhole, no_seats};
+ghost use Rattle.list_store.specs.ListStates.{stand_of};
+ghost use Rattle.node_model.specs.Node.{plain_settings};
 ghost use Rattle.binkp_link.specs.Scripts.{AllGiveSome, act_of};
 ghost use Rattle.binkp_link.specs.MemLines.{mem_state};
 
-use super::{END, GREETING, LOGIN, OFFER, WELCOME, answer, fast_line, joined};
+use super::{END, GREETING, LOGIN, OFFER, WELCOME, answer, fast_line, joined, new_store};
 use crate::Status;
 use binkp_link::{MemLine, ReadAct, WriteAct};
 use ftn_addr::{Bytes, NoMemory};
@@ -40,13 +43,13 @@ fn silent_line(alloc: Global, first: u32, last: u32) -> Result<MemLine, NoMemory
 fn the_sixtieth_quiet_on_end_ends_a_session(rt: HostRuntime) -> Result<(), Fail> {
     let alloc = rt.alloc();
     let mut line = silent_line(alloc, 60, 0)?;
-    let (status, _) = answer(alloc, ListStore::new(alloc), &mut line)?;
+    let (status, _) = answer(alloc, new_store(alloc), &mut line)?;
     assert_eq!(rt; status, Status::Quiet);
     let mut line = silent_line(alloc, 59, 59)?;
-    let (status, _) = answer(alloc, ListStore::new(alloc), &mut line)?;
+    let (status, _) = answer(alloc, new_store(alloc), &mut line)?;
     assert_eq!(rt; status, Status::Dropped);
     let mut line = silent_line(alloc, 59, 60)?;
-    let (status, _) = answer(alloc, ListStore::new(alloc), &mut line)?;
+    let (status, _) = answer(alloc, new_store(alloc), &mut line)?;
     assert_eq!(rt; status, Status::Quiet);
     Ok(())
 }
@@ -57,23 +60,33 @@ fn a_read_or_a_write_that_fails_is_a_line_fault(rt: HostRuntime) -> Result<(), F
     let mut reads = Vec::new(alloc);
     reads.push(ReadAct::Failed)?;
     let mut line = MemLine::new(alloc, reads, Vec::new(alloc));
-    let (status, _) = answer(alloc, ListStore::new(alloc), &mut line)?;
+    let (status, _) = answer(alloc, new_store(alloc), &mut line)?;
     assert_eq!(rt; status, Status::LineFault);
     let mut writes = Vec::new(alloc);
     writes.push(WriteAct::Failed)?;
     let mut line = MemLine::new(alloc, Vec::new(alloc), writes);
-    let (status, _) = answer(alloc, ListStore::new(alloc), &mut line)?;
+    let (status, _) = answer(alloc, new_store(alloc), &mut line)?;
     assert_eq!(rt; status, Status::LineFault);
     assert!(rt; line.written().is_empty());
     Ok(())
 }
 
-// One session over a store whose call with that number is to fail.
+// A new store whose call with that number is to fail.
+#[tactic(auto, using(crate::proofs::NewStore::new_fits))]
+fn failing_store(alloc: Global, call: u64) -> Result<ListStore, NoMemory>
+    ensures whole { IfOk result (λ store. (stand_of store).state.counts.broken ≡ None) }
+    ensures fits { IfOk result (λ store. IsWhole (stand_of store) (no_seats plain_settings)) }
+{
+    let mut store = ListStore::new(alloc);
+    store.fail_at(call)?;
+    Ok(store)
+}
+
+// One session over such a store.
 fn answer_failing(alloc: Global, call: u64) -> Result<(Status, ListStore, MemLine), NoMemory> {
     let bytes = joined(alloc, &[LOGIN, OFFER, DATA, END])?;
     let mut line = fast_line(alloc, bytes.as_slice())?;
-    let mut store = ListStore::new(alloc);
-    store.fail_at(call)?;
+    let store = failing_store(alloc, call)?;
     let (status, store) = answer(alloc, store, &mut line)?;
     Ok((status, store, line))
 }

@@ -1,9 +1,10 @@
 //! Ordinary input for which memory is there: none of it may end with want of memory.
 ghost use Rattle.std.specs.Prelude.{◌≡◌, None, IfSome};
 ghost use Rattle.list_store.specs.ListStates.{stand_of};
-ghost use Rattle.hub_core.specs.Seats.{IsMarkFree};
+ghost use Rattle.hub_core.specs.Opening.{IsWhole, no_seats};
+ghost use Rattle.node_model.specs.Node.{plain_settings};
 
-use super::{END, GREETING, LOGIN, OFFER, WELCOME, answer, fast_line, joined, words};
+use super::{END, GREETING, LOGIN, OFFER, WELCOME, answer, fast_line, joined, new_store, words};
 use crate::{Status, run_line};
 use binkp_link::MemSink;
 use ftn_addr::{Bytes, NoMemory};
@@ -20,10 +21,11 @@ fn a_caller_with_two_addresses_is_let_in(rt: HostRuntime) -> Result<(), Fail> {
     let addresses: &[u8] = b"\x80\x24\x012:5047/13@fidonet 2:5047/14@fidonet";
     let call = joined(alloc, &[addresses, b"\x80\x02\x02-", OFFER, DATA, END])?;
     let mut line = fast_line(alloc, call.as_slice())?;
-    let (status, store) = answer(alloc, ListStore::new(alloc), &mut line)?;
+    let (status, store) = answer(alloc, new_store(alloc), &mut line)?;
     assert_eq!(rt; status, Status::Done);
     assert_eq!(rt; store.receipts().len(), 1);
-    assert_eq!(rt; store.receipts()[0].from.node, 13);
+    let received = &store.receipts()[0];
+    assert_eq!(rt; received.from.node, 13);
     Ok(())
 }
 
@@ -34,15 +36,13 @@ fn a_name_with_a_blank_is_acknowledged_as_it_came(rt: HostRuntime) -> Result<(),
     let got: &[u8] = b"\x80\x1c\x06my\\x20file.txt 5 1000000000";
     let call = joined(alloc, &[LOGIN, offer, DATA, END])?;
     let mut line = fast_line(alloc, call.as_slice())?;
-    let (status, store) = answer(alloc, ListStore::new(alloc), &mut line)?;
+    let (status, store) = answer(alloc, new_store(alloc), &mut line)?;
     assert_eq!(rt; status, Status::Done);
     let wanted = joined(alloc, &[GREETING, WELCOME, got, END])?;
     assert_eq!(rt; line.written(), wanted.as_slice());
     assert_eq!(rt; store.receipts().len(), 1);
-    assert_eq!(rt;
-        store.receipts()[0].key.name.as_slice(),
-        b"my file.txt".as_slice()
-    );
+    let received = &store.receipts()[0];
+    assert_eq!(rt; received.key.name.as_slice(), b"my file.txt".as_slice());
     Ok(())
 }
 
@@ -56,7 +56,7 @@ fn an_own_address_with_a_point_is_told(rt: HostRuntime) -> Result<(), Fail> {
     let (status, _) = run_line(
         alloc,
         words.as_slice(),
-        ListStore::new(alloc),
+        new_store(alloc),
         &mut line,
         1_000_000_000,
         [0; 16],
@@ -92,23 +92,25 @@ fn a_file_longer_than_a_frame_is_received(rt: HostRuntime) -> Result<(), Fail> {
     call.push_slice(back.as_slice())?;
     call.push_slice(END)?;
     let mut line = fast_line(alloc, call.as_slice())?;
-    let (status, store) = answer(alloc, ListStore::new(alloc), &mut line)?;
+    let (status, store) = answer(alloc, new_store(alloc), &mut line)?;
     assert_eq!(rt; status, Status::Done);
     let wanted = joined(alloc, &[GREETING, WELCOME, got, END])?;
     assert_eq!(rt; line.written(), wanted.as_slice());
     let mut file = front;
     file.push_slice(back.as_slice())?;
     assert_eq!(rt; store.receipts().len(), 1);
-    assert_eq!(rt; store.receipts()[0].bytes.as_slice(), file.as_slice());
+    let received = &store.receipts()[0];
+    assert_eq!(rt; received.bytes.as_slice(), file.as_slice());
     Ok(())
 }
 
 // A store all of whose places are taken.
+#[tactic(auto, using(crate::proofs::ReservedStore::reserved_whole, crate::proofs::ReservedStore::reserved_unbroken))]
 fn full_store(alloc: Global) -> Option<ListStore>
-    ensures free { IfSome result (λ store. IsMarkFree (stand_of store).state.content) }
+    ensures fits { IfSome result (λ store. IsWhole (stand_of store) (no_seats plain_settings)) }
     ensures whole { IfSome result (λ store. (stand_of store).state.counts.broken ≡ None) }
 {
-    let mut store = ListStore::new(alloc);
+    let mut store = new_store(alloc);
     match store.reserve(262_144) {
         Ok(()) => Some(store),
         Err(_) => None,

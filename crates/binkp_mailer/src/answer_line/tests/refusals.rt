@@ -1,9 +1,10 @@
 //! What a caller gets whose frames aren't those of an ordinary session.
-use super::{BROKEN_FRAME, END, GOT, GREETING, LOGIN, OFFER, WELCOME, answer, fast_line, joined};
+use super::{
+    BROKEN_FRAME, END, GOT, GREETING, LOGIN, OFFER, WELCOME, answer, fast_line, joined, new_store,
+};
 use crate::Status;
 use binkp_args::ArgFault;
 use ftn_addr::NoMemory;
-use list_store::ListStore;
 use session_core::Cause;
 use std::alloc::Global;
 use std::test::Fail;
@@ -36,7 +37,7 @@ fn came_of(
 ) -> Result<(Status, bool, usize), NoMemory> {
     let call = joined(alloc, pieces)?;
     let mut line = fast_line(alloc, call.as_slice())?;
-    let (status, store) = answer(alloc, ListStore::new(alloc), &mut line)?;
+    let (status, store) = answer(alloc, new_store(alloc), &mut line)?;
     let mut wanted = joined(alloc, &[GREETING])?;
     wanted.push_slice(joined(alloc, behind)?.as_slice())?;
     let as_wanted = line.written() == wanted.as_slice();

@@ -1,0 +1,52 @@
+use Rattle.std.proofs.Common.{◌≡◌, ◌<◌, ℕ, Option, Some, None, length, sym, ◌∙◌, ap, subst}
+use Rattle.node_model.specs.Calls.{Skip_call, Settled}
+use Rattle.node_model.specs.Desks.{Claim, number_in}
+use Rattle.hub_core.specs.Hubs.{HubState, hub_state, sitting_of, with_sitting, sitting_at}
+use Rattle.hub_core.specs.HubCalls.{Does}
+use Rattle.hub_core.specs.Sending.{claim_number, skipped_sitting}
+use Rattle.hub_core.proofs.GotSteps.{skip_does, skip_broken, place_now}
+use Rattle.hub_core.proofs.ReadSteps.{part_claims}
+use Rattle.hub_core.proofs.Sittings.{given_still}
+use Rattle.hub_core.proofs.hub.Hub.skip_now.Goals as goal
+
+pub put_session-requires : goal.put_session-requires
+put_session-requires g c =
+    let h = hub_state c.args.self.now.seats in
+    subst (λ (k : HubState). c.args.seat < length k.chairs) (sym c.take_session.ensures.after) (given_still h c.args.seat None c.requires.ready.given)
+
+pub give_place-requires-clause-place : goal.give_place-requires-clause-place
+give_place-requires-clause-place g c =
+    let v = g.S.Store.stand c.args.self.now.store in
+    let h = hub_state c.args.self.now.seats in
+    let x = sitting_of c.in-Some.session in
+    let sits : sitting_at h c.args.seat ≡ Some x = sym c.in-Some.ensures.session in
+    place_now v h c.args.seat x c.requires.claimed.claim (record { ready = c.requires.ready; seat_is = c.requires.turn; whole = sym c.in-None.ensures }) sits (sym (part_claims h c.args.seat x sits) ∙ c.requires.claimed.is)
+
+pub returns-in-None : goal.returns-in-None
+returns-in-None g c =
+    let v = g.S.Store.stand c.args.self.now.store in
+    let w = g.S.Store.stand c.give_place.new.store in
+    let h = hub_state c.args.self.now.seats in
+    let k = hub_state c.put_session.new.self in
+    let x = sitting_of c.in-Some.session in
+    let y = sitting_of c.skip.new.self in
+    let claim = c.requires.claimed.claim in
+    let sits : sitting_at h c.args.seat ≡ Some x = sym c.in-Some.ensures.session in
+    let claimed : x.claim ≡ Some claim = sym (part_claims h c.args.seat x sits) ∙ c.requires.claimed.is in
+    let skipped : y ≡ skipped_sitting claim.number x = c.skip.ensures ∙ ap (λ (o : Option Claim). skipped_sitting (claim_number o) x) claimed in
+    subst (λ (n : ℕ). Does v h c.args.seat (Skip_call n) Settled w k) (sym (ap number_in c.requires.claimed.is))
+    (skip_does v w h k c.args.seat x y claim (record { ready = c.requires.ready; seat_is = c.requires.turn; whole = sym c.in-None.ensures }) sits claimed (c.put_session.ensures ∙ ap (with_sitting c.args.seat (Some y)) c.take_session.ensures.after) skipped c.give_place.ensures.made c.give_place.ensures.leaves c.give_place.ensures.settled)
+
+pub returns-in-Some-broken : goal.returns-in-Some-broken
+returns-in-Some-broken g c =
+    let v = g.S.Store.stand c.args.self.now.store in
+    let h = hub_state c.args.self.now.seats in
+    let k = hub_state c.put_session.new.self in
+    let x = sitting_of c.in-Some.session in
+    let y = sitting_of c.skip.new.self in
+    let claim = c.requires.claimed.claim in
+    let sits : sitting_at h c.args.seat ≡ Some x = sym c.in-Some.ensures.session in
+    let claimed : x.claim ≡ Some claim = sym (part_claims h c.args.seat x sits) ∙ c.requires.claimed.is in
+    let skipped : y ≡ skipped_sitting claim.number x = c.skip.ensures ∙ ap (λ (o : Option Claim). skipped_sitting (claim_number o) x) claimed in
+    subst (λ (n : ℕ). Does v h c.args.seat (Skip_call n) Settled v k) (sym (ap number_in c.requires.claimed.is))
+    (skip_broken v h k c.args.seat x y claim _ (sym c.in-Some-broken.ensures) c.requires.ready.given sits claimed (c.put_session.ensures ∙ ap (with_sitting c.args.seat (Some y)) c.take_session.ensures.after) skipped)

@@ -1,0 +1,19 @@
+use Rattle.std.proofs.Common.{List, ◌∷◌, ◌++◌, [], map, take, ◌∙◌, sym, subst, ap}
+use Rattle.std.proofs.lemmas.List.{map_more}
+use Rattle.ftn_addr.specs.Address.{Address, address}
+use Rattle.hub_core.specs.Hubs.{chair_of}
+use Rattle.hub_core.specs.Sending.{KeptBack, NextFree}
+use Rattle.hub_core.proofs.Walking.{join_free}
+use Rattle.hub_core.proofs.sending.next_for.Goals as goal
+
+pub loop-peer-preserved : goal.loop-peer-preserved
+loop-peer-preserved g c =
+    let queue = (g.S.Store.stand c.args.store.now).state.stock.state.queue in
+    let back = KeptBack (map chair_of c.args.places.now) c.args.skipped.now in
+    let others = c.args.others.now in
+    let peer = c.peer-item.result in
+    let first = address c.args.first.now in
+    let was = map address (take c.loop-peer.peer-index others) in
+    let grown = map_more address others c.loop-peer.peer-index peer c.loop-peer-test.true ∙ ap (λ x. was ++ address x ∷ []) (sym c.peer-item.is) in
+    subst (λ (ds : List Address). NextFree (first ∷ ds) back queue c.earlier-least.result) (sym grown)
+    (join_free (first ∷ was) (address peer ∷ []) back queue c.loop-peer.least c.next_free.result c.earlier-least.result c.loop-peer.invariant c.next_free.ensures c.earlier-least.ensures)

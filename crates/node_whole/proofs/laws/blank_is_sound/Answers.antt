@@ -1,5 +1,0 @@
-use Rattle.node_whole.proofs.Lives.{blank_sound}
-use Rattle.node_whole.proofs.laws.blank_is_sound.Goals as goal
-
-pub returns : goal.returns
-returns c = blank_sound

@@ -1,5 +1,0 @@
-use Rattle.node_whole.proofs.CallsLive.{turns_live}
-use Rattle.node_whole.proofs.laws.calls_are_a_life.Goals as goal
-
-pub returns : goal.returns
-returns c = λ alone a es b chain. turns_live alone a es b chain

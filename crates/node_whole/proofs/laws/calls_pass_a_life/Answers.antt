@@ -1,5 +1,0 @@
-use Rattle.node_whole.proofs.CallsLive.{turns_past}
-use Rattle.node_whole.proofs.laws.calls_pass_a_life.Goals as goal
-
-pub returns : goal.returns
-returns c = λ alone a es b chain from ts k d past. turns_past alone a es b chain from ts k d past

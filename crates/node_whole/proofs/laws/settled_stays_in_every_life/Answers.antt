@@ -1,5 +1,0 @@
-use Rattle.node_whole.proofs.Lives.{life_stays}
-use Rattle.node_whole.proofs.laws.settled_stays_in_every_life.Goals as goal
-
-pub returns : goal.returns
-returns c = λ old es new life. life_stays old es new life

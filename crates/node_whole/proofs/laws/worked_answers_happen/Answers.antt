@@ -1,5 +1,0 @@
-use Rattle.node_whole.proofs.WorkedAnswers.{answered, worked, worked_ends}
-use Rattle.node_whole.proofs.laws.worked_answers_happen.Goals as goal
-
-pub returns : goal.returns
-returns c = (answered, worked, worked_ends)

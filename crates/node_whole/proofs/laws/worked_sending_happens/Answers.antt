@@ -1,5 +1,0 @@
-use Rattle.node_whole.proofs.WorkedSending.{sent, worked, worked_ends}
-use Rattle.node_whole.proofs.laws.worked_sending_happens.Goals as goal
-
-pub returns : goal.returns
-returns c = (sent, worked, worked_ends)
