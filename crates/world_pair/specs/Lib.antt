@@ -1,0 +1,13 @@
+pub mod Course
+pub mod World
+pub mod Law
+pub mod Flow
+pub mod Invariant
+pub mod Nodes
+pub mod Offers
+pub mod Parts
+pub mod FromDesk
+pub mod MixedRun
+pub mod TwoNames
+pub mod CrossingRun
+pub mod WorkedRun
