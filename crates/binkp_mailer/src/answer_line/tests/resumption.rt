@@ -1,4 +1,9 @@
 //! A file that came in part goes on where it stopped.
+ghost use Rattle.std.specs.Prelude.{◌≡◌, IfOk};
+ghost use Rattle.hub_core.specs.Opening.{IsWhole, no_seats};
+ghost use Rattle.list_store.specs.ListStates.{stand_of};
+ghost use Rattle.node_model.specs.Node.{plain_settings};
+
 use super::*;
 
 const GET_FROM_2: &[u8] = b"\x80\x15\x09a.txt 5 1000000000 2";
