@@ -329,7 +329,7 @@ pub fn take_turn<S: Store>(store: &mut S, seat: u32)
     store.by(seat);
 }
 
-/// Why a desk refuses where its store did, with the store's count where the disk failed. No call of a hub reads yet.
+/// Why a desk refuses where its store did, with the store's count where the disk failed. It is asked of no failed read.
 pub fn refusal<S: Store>(store: &S, fault: StoreFault) -> DeskFault
     requires { fault ≢ Read }
     ensures { fault_of result ≡ fault_in fault (S.stand store.now).state.counts.faults }

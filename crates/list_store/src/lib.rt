@@ -1,4 +1,4 @@
-//! A store in memory, over the node in its whole width.
+//! A store in memory.
 //!
 //! [`ListStore`] keeps a node's durable state in lists. It tells all that it keeps, and a stop leaves exactly that
 //! (`specs/ListStates.antt`); nothing of it outlives the program. It fails the calls that it was told to fail, as a disk

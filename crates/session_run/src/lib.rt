@@ -5,8 +5,8 @@
 //! sessions at a time.
 //!
 //! ```
-//! let mut seat = Seat::new(store);             // of `hub_core`
-//! let report = run_session(alloc, &mut line, &mut seat, &setting);
+//! let mut desk = HubDesk { hub, seat };         // of `hub_core`
+//! let report = run_session(alloc, &mut line, &mut desk, &setting);
 //! let end = report.end;                        // `End::Finished`, or why not
 //! ```
 //!
