@@ -1,13 +1,17 @@
 pub mod Answering
 pub mod Batches
 pub mod Kept
+pub mod Leasts
 pub mod Lookups
 pub mod Marking
 pub mod Offering
 pub mod Opening
 pub mod Orderly
+pub mod OutsideCalls
+pub mod Outsiding
 pub mod PartCalls
 pub mod Places
 pub mod QueueCall
 pub mod Queueing
 pub mod Reading
+pub mod Standing

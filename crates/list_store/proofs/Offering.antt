@@ -22,7 +22,7 @@ behind_is (Some at) e (inl l) = or_true (nat_lt (rank at.0) (rank e.flavour)) _ 
 behind_is (Some at) e (inr r) =
     or_true_right (nat_lt (rank at.0) (rank e.flavour)) _ (and_both (rank at.0 == rank e.flavour) _ ((Decides-eqb _ _).1 r.0) ((Decides-ltb _ _).1 r.1))
 
-same_address-refl : (a : Address) → same_address a a ≡ true
+pub same_address-refl : (a : Address) → same_address a a ≡ true
 same_address-refl a =
     and_both (a.zone == a.zone) _ (number-refl a.zone) (and_both (a.net == a.net) _ (number-refl a.net) (and_both (a.node == a.node) _ (number-refl a.node) (and_both (a.point == a.point) _ (number-refl a.point) (bytes-refl a.domain))))
 

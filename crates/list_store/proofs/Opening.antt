@@ -23,6 +23,7 @@ use Rattle.list_store.proofs.PartCalls.{InOrder, PartAt, all_told, marked_told, 
 use Rattle.list_store.proofs.Places.{first_passes, position_is, no_position, each_at, first_one, first_none, without_one, without_all}
 use Rattle.list_store.specs.Comings.{Coming, part_of, mark_in, placed, marks_of, back_to_mark}
 use Rattle.list_store.specs.ListStates.{ListState, found_full, durable_of, stock_of, stored_of, state_of, stand_of}
+use Rattle.list_store.specs.Outsiders.{outside_of}
 use Rattle.list_store.specs.Orders.{Apart, IsDrawn, IsOrderly, told_parts}
 
 others_fail : (s : ListState) (from : Address) (key : Key) (i : ℕ) (x : Coming) → PartAt s i x → is_same from key x.from x.key ≡ true → Each (λ (q : Coming). is_same from key q.from q.key ≡ false) (remove s.parts i)
@@ -71,9 +72,9 @@ opened_as : (s t : ListState) (from : Address) (key : Key) (number : ℕ) → st
 opened_as s t from key number all drawn is risen =
     ap (λ (z : Stock). told z t.log t) all ∙ (ap (λ (z : ListState). told (part_opened from key number [] (stock_of s)) z.log z) is ∙ (ap (λ (log : List Logged). told (part_opened from key number [] (stock_of s)) log (record s { drawn = drawn })) (sym (append-nil s.log)) ∙ (changed_is (stock_of s) s.log (record s { drawn = drawn }) (part_opened from key number 0) (part_opened from key number []) [] (part_opened-map length from key number [] (stock_of s)) ∙ ap (λ n. record (changed (part_opened from key number 0) (part_opened from key number []) [] (state_of s)) { drawn = n }) risen)))
 
-shelf_same : (s t : ListState) → durable_of t ≡ durable_of s → t.recorded ≡ s.recorded → shelf_of (stored_of t) ≡ shelf_of (stored_of s)
-shelf_same s t durable recorded =
-    λ j. record { state = durable j; recorded = recorded j; takes = λ name. None; outside = λ path. None; gifts = [] }
+shelf_same : (s t : ListState) → durable_of t ≡ durable_of s → t.recorded ≡ s.recorded → t.outside ≡ s.outside → t.gifts ≡ s.gifts → shelf_of (stored_of t) ≡ shelf_of (stored_of s)
+shelf_same s t durable recorded outside gifts =
+    λ j. record { state = durable j; recorded = recorded j; takes = λ name. None; outside = outside_of (outside j); gifts = gifts j }
 
 pub opens_again : (s : ListState) (from : Address) (key : Key) (i : ℕ) (x : Coming) → PartAt s i x → is_same from key x.from x.key ≡ true → x.marked ≤ length x.bytes → s.drawn ≤ MAX_NUMBER → StoreKept (stand_of s) (Part_open from key) (Part_opened x.number x.marked) (stand_of (again_after s i x))
 opens_again s from key i x at same within few =
@@ -95,7 +96,7 @@ opens_again s from key i x at same within few =
     let made : OpenedAs s t from key x.number = opened_as s t from key x.number all s.drawn refl (omega (arith, drawn_enough)) in
     let does : StoreDoes (state_of s) (Part_open from key) (Part_opened x.number x.marked) (state_of t) =
     (sym number, sym (marked_told s from key i x at same within), omega (arith, drawn_enough, few), subst (OpenedAs s t from key) (sym number) made) in
-    still s t (Part_open from key) (Part_opened x.number x.marked) does refl (shelf_same s t durable refl)
+    still s t (Part_open from key) (Part_opened x.number x.marked) does refl (shelf_same s t durable refl refl refl)
   where
     last : {left all : List Mark} → left ≡ all → from ≡ x.from → key ≡ x.key → begins_with [] (mark_of from key (durable_of s)) ≡ take x.marked x.bytes → left ++ part_of (back_to_mark x) ∷ [] ≡ all ++ record { number = x.number; from = from; key = key; bytes = begins_with [] (mark_of from key (durable_of s)) } ∷ []
     last e f k b = let f' = sym f in let k' = sym k in let b' = sym b in λ j. e j ++ record { number = x.number; from = f' j; key = k' j; bytes = b' j } ∷ []
@@ -134,7 +135,7 @@ opens_new s from key y o is none few =
     let empty : 0 ≡ begins_with 0 (mark_of from key (sizes (stock_of s)).state) = sym (ap (begins_with 0) (mark_of-map length from key (durable_of s) ∙ ap (option_map (mark_map length)) (no_mark from key s.parts none))) in
     let does : StoreDoes (state_of s) (Part_open from key) (Part_opened (s.drawn + 1) 0) (state_of t) =
     (sym number, empty, few, subst (OpenedAs s t from key) (sym number) made) in
-    still s t (Part_open from key) (Part_opened (s.drawn + 1) 0) does refl (shelf_same s t durable refl)
+    still s t (Part_open from key) (Part_opened (s.drawn + 1) 0) does refl (shelf_same s t durable refl refl refl)
   where
     last : {left all : List Mark} → left ≡ all → part_of y ≡ record { number = s.drawn + 1; from = from; key = key; bytes = [] } → begins_with [] (mark_of from key (durable_of s)) ≡ [] → left ++ part_of y ∷ [] ≡ all ++ record { number = s.drawn + 1; from = from; key = key; bytes = begins_with [] (mark_of from key (durable_of s)) } ∷ []
     last {all = all} e f b = let b' = sym b in (λ j. e j ++ f j ∷ []) ∙ (λ j. all ++ record { number = s.drawn + 1; from = from; key = key; bytes = b' j } ∷ [])

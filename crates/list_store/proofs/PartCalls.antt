@@ -24,6 +24,7 @@ use Rattle.list_store.proofs.Orderly.{SameFile, orderly_set, orderly_close, orde
 use Rattle.list_store.proofs.Places.{first_passes, position_is, first_one, without_one}
 use Rattle.list_store.specs.Comings.{Coming, part_of, mark_in, placed, marks_of}
 use Rattle.list_store.specs.ListStates.{ListState, called, durable_of, stock_of, state_of, stand_of}
+use Rattle.list_store.specs.Outsiders.{outside_of}
 use Rattle.list_store.specs.Orders.{IsOrderly, told_parts}
 use Rattle.list_store.specs.Told.{told_are}
 
@@ -123,7 +124,7 @@ puts s number i bytes x y at number_is within is =
     let all : stock_of t ≡ part_put number (λ b. b ++ bytes) (stock_of s) = λ j. record { state = durable j; parts = parts j; staged = s.staged } in
     let made : state_of t ≡ with_bytes number bytes (state_of s) =
     (ap (λ (z : Stock). told z s.log s) all ∙ ap (λ (log : List Logged). told (part_put number (λ b. b ++ bytes) (stock_of s)) log s) (sym (append-nil s.log))) ∙ changed_is (stock_of s) s.log s (part_put number (λ n. n + length bytes)) (part_put number (λ b. b ++ bytes)) [] (part_put-map length number (λ b. b ++ bytes) (λ n. n + length bytes) (λ b. length-append b bytes) (stock_of s)) in
-    still s t (Part_put number bytes) Well made refl (ap (λ (d : Durable). record { state = d; recorded = s.recorded; takes = λ name. None; outside = λ path. None; gifts = [] }) durable)
+    still s t (Part_put number bytes) Well made refl (ap (λ (d : Durable). record { state = d; recorded = s.recorded; takes = λ name. None; outside = outside_of s.outside; gifts = s.gifts }) durable)
   where
     each_put : (ps : List Coming) (i : ℕ) (x y : Coming) → i < length ps → x ≡ get_or ps i x → (number : ℕ) (bytes : List ℕ) → put_part number (λ b. b ++ bytes) (part_of x) ≡ part_of y → Each (λ (q : Coming). (q.number == number) ≡ false) (remove ps i) → map (put_part number (λ b. b ++ bytes)) (map part_of ps) ≡ map part_of (set ps i y)
     each_put [] i x y lt e number bytes put all = absurd (omega (arith, lt))
@@ -219,7 +220,7 @@ marks s number i x y at number_is within more is =
     let made : state_of t ≡ marked_part (mark_map length p) (state_of s) =
     change ∙ sym (ap (λ b. cond b (with_place (changed (by_part x.number (λ part z. part_marked part z)) (by_part x.number (λ part z. part_marked part z)) (Mark_record x.number x.from x.key (length x.bytes) ∷ []) (state_of s))) (state_of s)) ahead) in
     let does : StoreDoes (state_of s) (Part_mark number) Well (state_of t) = (mark_map length p, part_sized s number i x at number_is, made) in
-    grew s t (Part_mark number) Well does does (omega (arith, length_push s.log (record { seat = s.seat; entry = Mark_record x.number x.from x.key (length x.bytes) })))
+    grew s t (Part_mark number) Well does does (omega (arith, length_push s.log (record { seat = s.seat; entry = Mark_record x.number x.from x.key (length x.bytes) }))) refl
 
 -- Committing.
 
@@ -243,7 +244,7 @@ commits s number i session secure x r at number_is is =
     let made : state_of t ≡ committed (mark_map length p) session secure (state_of s) =
     ap (λ (z : Stock). told z t.log (record s { reserved = s.reserved - 1 })) all ∙ changed_is (stock_of s) s.log (record s { reserved = s.reserved - 1 }) (by_part x.number (λ part z. part_committed part secure z)) (by_part x.number (λ part z. part_committed part secure z)) (Received_record x.number x.from x.key session secure ∷ []) (by_part-map length x.number (λ part z. part_committed part secure z) (λ part z. part_committed part secure z) (λ q z. part_committed-map length q secure z) (stock_of s)) in
     let does : StoreDoes (state_of s) (Commit number session secure) Well (state_of t) = (mark_map length p, part_sized s number i x at number_is, made) in
-    grew s t (Commit number session secure) Well does does (omega (arith, length_push s.log (record { seat = s.seat; entry = Received_record x.number x.from x.key session secure })))
+    grew s t (Commit number session secure) Well does does (omega (arith, length_push s.log (record { seat = s.seat; entry = Received_record x.number x.from x.key session secure }))) refl
 
 -- Refusing.
 
@@ -264,7 +265,7 @@ refuses_file s from key session reason r o is =
     λ j. record { state = record { queue = s.queue; inbox = s.inbox; refused = s.refused ++ is j ∷ []; marks = gone j }; parts = left j; staged = s.staged } in
     let does : state_of t ≡ refused q session reason (state_of s) =
     ap (λ (z : Stock). told z t.log (record s { reserved = s.reserved - 1 })) all ∙ changed_is (stock_of s) s.log (record s { reserved = s.reserved - 1 }) (file_refused q) (file_refused q) (Refused_record from key session reason ∷ []) (file_refused-map length q (stock_of s)) in
-    grew s t (Refuse_file from key session reason) Well does does (omega (arith, length_push s.log (record { seat = s.seat; entry = Refused_record from key session reason })))
+    grew s t (Refuse_file from key session reason) Well does does (omega (arith, length_push s.log (record { seat = s.seat; entry = Refused_record from key session reason }))) refl
 
 -- whether a part has more than its mark
 

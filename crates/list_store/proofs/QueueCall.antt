@@ -19,6 +19,7 @@ use Rattle.list_store.proofs.PartCalls.{InOrder}
 use Rattle.list_store.proofs.Queueing.{slots-map, all_queued-map, nothing_new, one_each_queued}
 use Rattle.list_store.specs.Comings.{Coming}
 use Rattle.list_store.specs.ListStates.{ListState, called, found_full, durable_of, stock_of, stored_of, state_of, stand_of}
+use Rattle.list_store.specs.Outsiders.{outside_of}
 use Rattle.list_store.specs.Orders.{OneEach, IsOrderly}
 
 abbrev pub records_for : Option ℕ → Option ℕ → List NewEntry → ListState → List Record
@@ -67,11 +68,11 @@ queues s taken answered files room = go (records_for taken answered files s) ref
         let queue = nothing_new files s.staged s.queue (front_empty (entry_records files (slots_of files s.staged s.queue)) (taken_records taken) front) in
         let recorded = not_taken taken s.recorded (back_empty (entry_records files (slots_of files s.staged s.queue)) (taken_records taken) front) in
         let inbox = not_answered answered s.inbox (back_empty (entry_records files (slots_of files s.staged s.queue) ++ taken_records taken) (answered_records answered) none) in
-        still s (queued_after s taken answered files) (Queue_all taken answered files) (Slots (slots_of files s.staged s.queue)) does (ap (λ (rs : List Record). s.log ++ all_by s.seat rs) none ∙ append-nil s.log) (λ j. record { state = record (durable_of s) { queue = queue j; inbox = inbox j }; recorded = recorded j; takes = λ name. None; outside = λ path. None; gifts = [] })
+        still s (queued_after s taken answered files) (Queue_all taken answered files) (Slots (slots_of files s.staged s.queue)) does (ap (λ (rs : List Record). s.log ++ all_by s.seat rs) none ∙ append-nil s.log) (λ j. record { state = record (durable_of s) { queue = queue j; inbox = inbox j }; recorded = recorded j; takes = λ name. None; outside = outside_of s.outside; gifts = s.gifts })
     go (r ∷ rs) some =
         let long : length (s.log ++ all_by s.seat (records_for taken answered files s)) ≡ length s.log + length (all_by s.seat (records_for taken answered files s)) = length-append s.log (all_by s.seat (records_for taken answered files s)) in
         let more : length (all_by s.seat (records_for taken answered files s)) ≡ length (r ∷ rs) = length-map (records_for taken answered files s) (λ (x : Record). record { seat = s.seat; entry = x }) ∙ ap length some in
-        grew s (queued_after s taken answered files) (Queue_all taken answered files) (Slots (slots_of files s.staged s.queue)) does does (omega (arith, long, more))
+        grew s (queued_after s taken answered files) (Queue_all taken answered files) (Slots (slots_of files s.staged s.queue)) does does (omega (arith, long, more)) refl
 
 -- there is no place for the records
 pub queues_full : (s : ListState) (taken answered : Option ℕ) (files : List NewEntry) → MOST_RECORDS < length s.log + s.reserved + length (records_for taken answered files s) → StoreKept (stand_of s) (Queue_all taken answered files) (Refuses Full) (stand_of (found_full s))

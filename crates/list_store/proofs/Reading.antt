@@ -55,7 +55,7 @@ settles s number session i x y at is =
     let all : stock_of t ≡ on_state (with_done number) (stock_of s) = ap (λ (es : List Entry). record (stock_of s) { state = record (durable_of s) { queue = es } }) queue in
     let does : state_of t ≡ settled number session (state_of s) =
     ap (λ (z : Stock). told z t.log (record s { reserved = s.reserved - 1 })) all ∙ changed_is (stock_of s) s.log (record s { reserved = s.reserved - 1 }) (on_state (with_done number)) (on_state (with_done number)) (Done_record number session ∷ []) (on_state-map length (with_done number) (with_done number) (stock_of s) (with_done-map length number (durable_of s))) in
-    grew s t (Settle number session) Well does does (omega (arith, length_push s.log (record { seat = s.seat; entry = Done_record number session })))
+    grew s t (Settle number session) Well does does (omega (arith, length_push s.log (record { seat = s.seat; entry = Done_record number session }))) refl
 
 -- Reading a source.
 
@@ -111,7 +111,7 @@ receipt_at s number i x inbox o same first lt is =
     let within = subst (λ (rs : List Receipt). i < length rs) same lt in
     record { order = o; within = within; is = is; numbered = (Decides-eqb x.number number).0 (first_passes (λ (r : Receipt). r.number == number) s.inbox i x (subst (λ (rs : List Receipt). i ≡ position_or_len (λ (r : Receipt). r.number == number) rs) same first) within is) }
 
-receipt_is : (inbox : List Receipt) (r : ReceiptOf ℕ) → Member r (map (receipt_map length) inbox) → (x : Receipt) × Member x inbox × (r ≡ receipt_map length x)
+pub receipt_is : (inbox : List Receipt) (r : ReceiptOf ℕ) → Member r (map (receipt_map length) inbox) → (x : Receipt) × Member x inbox × (r ≡ receipt_map length x)
 receipt_is [] r m = absurd m
 receipt_is (x ∷ inbox) r (inl same) = (x, inl refl, same)
 receipt_is (x ∷ inbox) r (inr m) = let h = receipt_is inbox r m in (h.0, inr h.1, h.2)

@@ -16,16 +16,19 @@
 //! ```
 //!
 //! Its files, from the bottom: `lists` puts items behind lists; `log_record` and `place` are a record, and the room for
-//! one; `queued`, `staged`, `received`, `refused` and `open_part` are the items of its lists, with their look-ups;
-//! `plan` says how files are queued together; `list_store` is the store, and `store_calls` its calls.
-//!
-//! Left out: files of other programs, giving received files away, and acting on sources.
+//! one; `queued`, `staged`, `received`, `refused`, `open_part` and `outside` are the items of its lists, with their
+//! look-ups; `plan` says how files are queued together, and `giving` under which name a received file is given;
+//! `list_store` is the store, and `store_calls` its calls.
 #![tactic(auto)]
 
+mod acting;
+mod giving;
+mod least;
 mod list_store;
 mod lists;
 mod log_record;
 mod open_part;
+mod outside;
 mod place;
 mod plan;
 mod queued;
@@ -36,8 +39,10 @@ mod store_calls;
 #[cfg(test)]
 mod tests;
 
+pub use giving::GivenFile;
 pub use list_store::ListStore;
 pub use log_record::{LogEntry, LogRecord};
+pub use outside::OutsideFile;
 pub use queued::QueuedFile;
 pub use received::Received;
 pub use refused::RefusedFile;

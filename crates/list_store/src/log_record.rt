@@ -55,6 +55,10 @@ pub enum LogRecord {
     Taken {
         take: u32,
     },
+    /// What was to be done with a queued file's source is done.
+    Acted {
+        number: u32,
+    },
     /// A received request was answered.
     Answered {
         receipt: u32,

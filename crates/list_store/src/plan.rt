@@ -103,6 +103,7 @@ fn entry_for(alloc: Global, file: &NewFile, content: &[u8]) -> Result<QueuedFile
         flavour: file.flavour,
         source: file.source.copy(alloc)?,
         action: file.action,
+        acted: false,
         content: Some(Bytes::from_slice(alloc, content)?),
     })
 }

@@ -27,12 +27,13 @@ pub struct QueuedFile {
     pub source: Bytes,
     /// What is to be done with that.
     pub action: Action,
+    /// Whether that was done.
+    pub acted: bool,
     /// None once it is settled.
     pub content: Option<Bytes>,
 }
 
 impl Model for QueuedFile {
-    ghost use Rattle.std.specs.Prelude.{false};
     ghost use Rattle.ftn_addr.specs.Address.{address};
     ghost use Rattle.ftn_addr.specs.Key.{key_of};
     ghost use Rattle.ftn_addr.specs.Limits.{IsKey};
@@ -43,7 +44,23 @@ impl Model for QueuedFile {
 
     ghost invariant = { λ e. IsKey (key_of e.key) };
 
-    ghost view = { λ e. record { number = e.number; dest = address e.dest; key = key_of e.key; flavour = e.flavour; source = e.source.list; action = e.action; acted = false; body = body_of e.content } };
+    ghost view = { λ e. record { number = e.number; dest = address e.dest; key = key_of e.key; flavour = e.flavour; source = e.source.list; action = e.action; acted = e.acted; body = body_of e.content } };
+}
+
+#[cfg(test)]
+impl QueuedFile {
+    ghost use Rattle.std.specs.Prelude.{IsTrue};
+    ghost use Rattle.node_model.specs.Durable.{body_map};
+
+    /// Whether it is live, with as many bytes as its key says.
+    pub fn is_whole(&self) -> bool
+        ensures { IsTrue result → body_map length self.now.body ≡ Live self.now.key.size }
+    {
+        match &self.content {
+            Some(bytes) => bytes.len() as u64 == self.key.size,
+            None => false,
+        }
+    }
 }
 
 impl QueuedFile {
@@ -100,6 +117,13 @@ impl QueuedFile {
     {
         self.content = None;
     }
+
+    /// What was to be done with its source is done.
+    pub fn act(&mut self)
+        ensures { self.new ≡ record self.old { acted = true } }
+    {
+        self.acted = true;
+    }
 }
 
 fn rank_of(flavour: Flavour) -> u8
@@ -150,8 +174,8 @@ pub fn next_of(queue: &[QueuedFile], dest: &Addr, after: Option<LivePlace>) -> O
     best
 }
 
-// Where the first entry with that number stands, if there is one.
-fn position_of(queue: &[QueuedFile], number: u32) -> Option<usize>
+/// Where the first entry with that number stands, if there is one.
+pub fn position_of_entry(queue: &[QueuedFile], number: u32) -> Option<usize>
     ensures { result ≡ position (λ (e : Entry). e.number == number) queue.now }
 {
     queue.iter().position(|file| file.number() == number)
@@ -163,7 +187,7 @@ pub fn place_of_entry(queue: &[QueuedFile], number: u32) -> usize
     ensures within { result < length queue.now }
     ensures first { result ≡ position_or_len (λ (e : Entry). e.number == number) queue.now }
 {
-    position_of(queue, number).unwrap()
+    position_of_entry(queue, number).unwrap()
 }
 
 /// Where an entry of that address and key stands, if there is one.

@@ -6,21 +6,26 @@ ghost use Rattle.ftn_addr.specs.Limits.{IsAddress, IsKey};
 ghost use Rattle.node_model.specs.declared.words.Known.TheVariants as K;
 ghost use Rattle.node_model.specs.Stocks.{known_in};
 ghost use Rattle.node_model.specs.StoreWords.{IsNewBatch, IsReason, entry_of, slot_of, size_of_entry, size_of_receipt};
-ghost use Rattle.node_model.specs.Stores.{StoreKept, IsLive, IsKept, IsOpen, IsWhole, Stage, Queue_all, Settle, Refuse_file, Part_open, Part_put, Part_mark, Commit, Read_source, Read_part, Reserve, Slots, Refuses, Well, open_answer, read_answer, staged_answer, well_answer};
+ghost use Rattle.node_model.specs.Stores.{StoreKept, IsLive, IsKept, IsOpen, IsWhole, Stage, Queue_all, Settle, Refuse_file, Part_open, Part_put, Part_mark, Commit, Read_source, Read_part, Reserve, Stage_copy, Give_next, Act_next, Slots, Refuses, Well, act_answer, copy_answer, give_answer, open_answer, read_answer, staged_answer, well_answer};
 ghost use Rattle.list_store.specs.Told.{tied};
 ghost use Rattle.list_store.specs.ListStates.{FailsAsSet, ReadFailsAsSet, stand_of};
 
+use crate::acting::next_action;
+use crate::giving::plan_gift;
 use crate::lists::{add, copy_from, make_room, put, put_all};
 use crate::log_record::{LogRecord, append, refusal_record};
 use crate::open_part::{OpenPart, close_file, open_again, place_of_file, place_of_part};
+use crate::outside::{place_of_path, put_file};
 use crate::place::{make_places, take_place};
 use crate::plan::{Plan, answer, note_take, plan_all, record_answer, record_take, unstage};
 use crate::queued::{next_of, place_of_entry};
-use crate::received::{is_received, place_of_receipt};
+use crate::received::{is_received, next_given, place_of_receipt};
 use crate::refused::is_refused;
 use crate::{ListStore, RefusedFile, StagedFile};
-use ftn_addr::{Addr, FileKey, MAX_NUMBER};
-use node_model::{Known, LivePlace, MOST_RECORDS, NewFile, PartAt, Slot, Store, StoreFault};
+use ftn_addr::{Addr, Bytes, FileKey, MAX_NUMBER, MAX_SIZE};
+use node_model::{
+    Gave, Known, LivePlace, MOST_RECORDS, NewFile, PartAt, Slot, Staged, Store, StoreFault,
+};
 use std::alloc::Global;
 
 impl Store for ListStore {
@@ -86,6 +91,29 @@ impl Store for ListStore {
         add(file, &mut self.staged)?;
         self.last_staged = number;
         Ok(number)
+    }
+
+    fn stage_copy(&mut self, alloc: Global, path: &Bytes) -> Result<Staged, StoreFault>
+        requires { (stand_of self.old).state.counts.broken ≡ None }
+        ensures kept { StoreKept (stand_of self.old) (Stage_copy path.now.list) (copy_answer result) (stand_of self.new) }
+        ensures fails { FailsAsSet result self.old self.new }
+    {
+        self.count_call()?;
+        if self.last_staged == MAX_NUMBER {
+            return Err(self.find_full());
+        }
+        let number = self.last_staged + 1;
+        let Some(place) = place_of_path(self.outside.as_slice(), path.as_slice()) else {
+            return Ok(Staged::Absent);
+        };
+        let stat = self.outside[place].stat();
+        if stat.size > MAX_SIZE {
+            return Ok(Staged::Over);
+        }
+        let copy = StagedFile::new(alloc, number, self.outside[place].content())?;
+        add(copy, &mut self.staged)?;
+        self.last_staged = number;
+        Ok(Staged::Copied(number, stat))
     }
 
     fn queue_all(
@@ -163,9 +191,10 @@ impl Store for ListStore {
         ensures fails { FailsAsSet result self.old self.new }
     {
         self.count_call()?;
+        make_room(1, &mut self.refused)?;
         let file = RefusedFile::new(alloc, from, key)?;
         let record = refusal_record(alloc, from, key, session, reason)?;
-        add(file, &mut self.refused)?;
+        put(file, &mut self.refused);
         close_file(from, key, &mut self.parts);
         append(self.seat, record, &mut self.log);
         self.reserved -= 1;
@@ -269,6 +298,58 @@ impl Store for ListStore {
         self.count_call()?;
         let place = place_of_receipt(self.inbox.as_slice(), receipt);
         Ok(copy_from(self.inbox[place].content(), at, out))
+    }
+
+    fn give_next(
+        &mut self,
+        alloc: Global,
+        inbound: &Bytes,
+        nonsecure: &Bytes,
+    ) -> Result<Gave, StoreFault>
+        requires { (stand_of self.old).state.counts.broken ≡ None }
+        ensures kept { StoreKept (stand_of self.old) (Give_next inbound.now.list nonsecure.now.list) (give_answer result) (stand_of self.new) }
+        ensures fails { FailsAsSet result self.old self.new }
+    {
+        self.count_call()?;
+        let Some(number) = next_given(self.inbox.as_slice(), self.last_given) else {
+            return Ok(Gave::Nothing);
+        };
+        let place = place_of_receipt(self.inbox.as_slice(), number);
+        let folder = self.inbox[place].folder(inbound, nonsecure);
+        let plan = plan_gift(alloc, &self.inbox[place], folder, self.outside.as_slice())?;
+        let Some(plan) = plan else {
+            self.last_given = number;
+            return Ok(Gave::Held(number));
+        };
+        make_room(1, &mut self.outside)?;
+        add(plan.gift, &mut self.gifts)?;
+        put_file(plan.file, &mut self.outside);
+        self.inbox[place].give();
+        self.last_given = number;
+        Ok(Gave::Given(number))
+    }
+
+    fn act_next(&mut self, alloc: Global, dest: &Addr) -> Result<Option<u32>, StoreFault>
+        requires { (stand_of self.old).state.counts.broken ≡ None }
+        ensures kept { StoreKept (stand_of self.old) (Act_next (address dest.now)) (act_answer result) (stand_of self.new) }
+        ensures fails { FailsAsSet result self.old self.new }
+    {
+        self.count_call()?;
+        let Some(number) = next_action(self.queue.as_slice(), dest) else {
+            return Ok(None);
+        };
+        let held = self.log.len() as u64 + u64::from(self.reserved);
+        if held + 1 > u64::from(MOST_RECORDS) {
+            return Err(self.find_full());
+        }
+        let place = place_of_entry(self.queue.as_slice(), number);
+        let empty = self.queue[place].empty_source(alloc)?;
+        make_room(1, &mut self.outside)?;
+        make_room(1 + self.reserved as usize, &mut self.log)?;
+        self.queue[place].act_on_source(empty, &mut self.outside);
+        self.queue[place].act();
+        append(self.seat, LogRecord::Acted { number }, &mut self.log);
+        Ok(Some(number))
     }
 
     fn reserve(&mut self, places: u32) -> Result<(), StoreFault>

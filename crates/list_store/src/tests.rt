@@ -1,21 +1,27 @@
-//! A call whose conditions aren't met isn't made, and answers [`StoreFault::Read`] here.
-ghost use Rattle.std.specs.Prelude.{◌≡◌, ◌+◌, ◌≤◌, ◌∷◌, [], nat_lt, None, length, IfOk, IsTrue};
+//! A call whose conditions aren't met isn't made, and answers [`StoreFault::Full`] here.
+ghost use Rattle.std.specs.Prelude.{◌≡◌, ◌+◌, ◌≤◌, ◌<◌, ◌∷◌, [], nat_lt, None, length, IfOk, IsTrue};
 ghost use Rattle.ftn_addr.specs.Address.{address};
 ghost use Rattle.ftn_addr.specs.Key.{key_of};
 ghost use Rattle.ftn_addr.specs.Limits.{IsAddress, IsKey};
 ghost use Rattle.std.specs.List.{list_all};
 ghost use Rattle.node_model.specs.Items.{Entry};
-ghost use Rattle.node_model.specs.Stores.{IsOpen, IsWhole};
+ghost use Rattle.node_model.specs.Stores.{IsLive, IsOpen, IsWhole};
 ghost use Rattle.node_model.specs.StoreWords.{FitsQueue, IsNewBatch, entry_of};
 ghost use Rattle.list_store.specs.ListStates.{stand_of};
 
+mod failing;
+mod giving;
+mod queueing;
+mod receiving;
+mod sources;
+
 use crate::open_part::position_of_part;
+use crate::queued::position_of_entry;
 use crate::staged::place_staged;
 use crate::{ListStore, QueuedFile};
 use ftn_addr::{Action, Addr, Bytes, FileKey, NoMemory};
 use node_model::{Flavour, Known, NewFile, PartAt, Slot, Store, StoreFault};
 use std::alloc::Global;
-use std::test::Fail;
 
 fn sender(alloc: Global, node: u16) -> Result<Addr, NoMemory>
     requires { node ≤ 32767 }
@@ -30,15 +36,22 @@ fn sender(alloc: Global, node: u16) -> Result<Addr, NoMemory>
     })
 }
 
-fn key(alloc: Global, size: u64) -> Result<FileKey, NoMemory>
+fn named(alloc: Global, name: &[u8], size: u64) -> Result<FileKey, NoMemory>
+    requires some { 0 < length name.now }
+    requires short { length name.now ≤ 200 }
     ensures limits { IfOk result (λ key. IsKey (key_of key)) }
-    ensures size { IfOk result (λ key. key.size ≡ size) }
 {
     Ok(FileKey {
-        name: Bytes::from_slice(alloc, b"a.txt")?,
+        name: Bytes::from_slice(alloc, name)?,
         size,
         time: 1_000_000_000,
     })
+}
+
+fn key(alloc: Global, size: u64) -> Result<FileKey, NoMemory>
+    ensures { IfOk result (λ key. IsKey (key_of key)) }
+{
+    named(alloc, b"a.txt", size)
 }
 
 // Whether a part is open, and so many bytes fit it.
@@ -57,6 +70,16 @@ fn is_whole(store: &ListStore, part: u32) -> bool
 {
     match position_of_part(store.parts.as_slice(), part) {
         Some(place) => store.parts[place].is_whole(),
+        None => false,
+    }
+}
+
+// Whether an entry is live, with all its bytes.
+fn is_live(store: &ListStore, number: u32) -> bool
+    ensures { IsTrue result → IsLive number (stand_of store.now).state }
+{
+    match position_of_entry(store.queue.as_slice(), number) {
+        Some(place) => store.queue[place].is_whole(),
         None => false,
     }
 }
@@ -82,32 +105,56 @@ fn is_batch(store: &ListStore, file: &NewFile) -> bool
     is_above(store.queue.as_slice(), file.number)
 }
 
-// Stages five bytes and queues them.
-fn queue(alloc: Global, store: &mut ListStore, dest: Addr, key: FileKey) -> Result<Slot, StoreFault>
+// Queues a staged file.
+fn queue_staged(alloc: Global, store: &mut ListStore, file: NewFile) -> Result<Slot, StoreFault>
+    requires { FitsQueue (entry_of file) }
+{
+    if store.broken().is_some() || !is_batch(store, &file) {
+        return Err(StoreFault::Full);
+    }
+    let files = [file];
+    let slots = store.queue_all(alloc, None, None, &files)?;
+    match slots.as_slice() {
+        [slot] => Ok(*slot),
+        _ => Err(StoreFault::Full),
+    }
+}
+
+// Stages bytes and queues them.
+fn queue(
+    alloc: Global,
+    store: &mut ListStore,
+    dest: Addr,
+    key: FileKey,
+    flavour: Flavour,
+    bytes: &[u8],
+) -> Result<Slot, StoreFault>
     requires address_limits { IsAddress (address dest) }
     requires key_limits { IsKey (key_of key) }
 {
     if store.broken().is_some() {
-        return Err(StoreFault::Read);
+        return Err(StoreFault::Full);
     }
-    let number = store.stage(alloc, b"hello")?;
+    let number = store.stage(alloc, bytes)?;
     let file = NewFile {
         number,
         dest,
         key,
         source: Bytes::new(alloc),
         action: Action::Leave,
-        flavour: Flavour::Crash,
+        flavour,
     };
-    if store.broken().is_some() || !is_batch(store, &file) {
-        return Err(StoreFault::Read);
+    queue_staged(alloc, store, file)
+}
+
+// Reads at most eight bytes of an entry.
+fn read(alloc: Global, store: &mut ListStore, number: u32, at: u64) -> Result<Bytes, StoreFault> {
+    if store.broken().is_some() || !is_live(store, number) {
+        return Err(StoreFault::Full);
     }
-    let files = [file];
-    let slots = store.queue_all(alloc, None, None, &files)?;
-    match slots.as_slice() {
-        [slot] => Ok(*slot),
-        _ => Err(StoreFault::Read),
-    }
+    let mut out = [0u8; 8];
+    let count = store.read_source(number, at, &mut out)?;
+    Ok(Bytes::from_slice(alloc, &out[..count])?)
 }
 
 fn open(
@@ -121,30 +168,30 @@ fn open(
 {
     match (store.broken(), store.known(from, key)) {
         (None, Known::New) => store.part_open(alloc, from, key),
-        _ => Err(StoreFault::Read),
+        _ => Err(StoreFault::Full),
     }
 }
 
 fn put(store: &mut ListStore, part: u32, bytes: &[u8]) -> Result<(), StoreFault> {
     if store.broken().is_some() || !is_open(store, part, bytes.len() as u64) {
-        return Err(StoreFault::Read);
+        return Err(StoreFault::Full);
     }
     store.part_put(part, bytes)
 }
 
 fn mark(store: &mut ListStore, part: u32) -> Result<(), StoreFault> {
     if store.broken().is_some() || store.reserved() == 0 || !is_open(store, part, 0) {
-        return Err(StoreFault::Read);
+        return Err(StoreFault::Full);
     }
     store.part_mark(part)
 }
 
 // Commits a part in session 7.
-fn commit(store: &mut ListStore, part: u32) -> Result<(), StoreFault> {
+fn commit(store: &mut ListStore, part: u32, secure: bool) -> Result<(), StoreFault> {
     if store.broken().is_some() || store.reserved() == 0 || !is_whole(store, part) {
-        return Err(StoreFault::Read);
+        return Err(StoreFault::Full);
     }
-    store.commit(part, 7, false)
+    store.commit(part, 7, secure)
 }
 
 // Refuses a file for its size in session 7.
@@ -158,101 +205,29 @@ fn refuse(
     requires key_limits { IsKey (key_of key.now) }
 {
     if store.reserved() == 0 {
-        return Err(StoreFault::Read);
+        return Err(StoreFault::Full);
     }
     match (store.broken(), store.known(from, key)) {
         (None, Known::New) => store.refuse(alloc, from, key, 7, 2),
-        _ => Err(StoreFault::Read),
+        _ => Err(StoreFault::Full),
     }
 }
 
 // Reserves places.
 fn reserve(store: &mut ListStore, places: u32) -> Result<(), StoreFault> {
     if store.broken().is_some() {
-        return Err(StoreFault::Read);
+        return Err(StoreFault::Full);
     }
     store.reserve(places)
 }
 
-#[test]
-fn resumed_from_its_mark(rt: HostRuntime) -> Result<(), Fail> {
-    let alloc = rt.alloc();
-    let mut store = ListStore::new(alloc);
-    let from = sender(alloc, 1042)?;
-    let file = key(alloc, 5)?;
-    reserve(&mut store, 3)?;
-    let at = open(alloc, &mut store, &from, &file)?;
-    assert_eq!(rt; at, PartAt { part: 1, len: 0 });
-    assert_eq!(rt; store.mark_of(&from, &file), None);
-    put(&mut store, 1, b"he")?;
-    mark(&mut store, 1)?;
-    mark(&mut store, 1)?;
-    assert_eq!(rt;
-        store.mark_of(&from, &file),
-        Some(PartAt { part: 1, len: 2 })
-    );
-    put(&mut store, 1, b"xx")?;
-    // What came behind the mark is lost, and the second mark made no record.
-    let again = open(alloc, &mut store, &from, &file)?;
-    assert_eq!(rt; again, PartAt { part: 1, len: 2 });
-    assert_eq!(rt; store.appended(), 1);
-    assert_eq!(rt; store.reserved(), 2);
-    put(&mut store, 1, b"llo")?;
-    assert_eq!(rt; put(&mut store, 1, b"!"), Err(StoreFault::Read));
-    commit(&mut store, 1)?;
-    assert_eq!(rt; store.known(&from, &file), Known::Received);
-    assert_eq!(rt; store.mark_of(&from, &file), None);
-    assert_eq!(rt; store.receipts().len(), 1);
-    let receipt = &store.receipts()[0];
-    assert_eq!(rt; receipt.number, 1);
-    assert_eq!(rt; receipt.content(), b"hello".as_slice());
-    assert_eq!(rt; store.appended(), 2);
-    assert_eq!(rt; store.reserved(), 1);
-    Ok(())
-}
-
-#[test]
-fn refused_file_loses_its_mark(rt: HostRuntime) -> Result<(), Fail> {
-    let alloc = rt.alloc();
-    let mut store = ListStore::new(alloc);
-    let from = sender(alloc, 1042)?;
-    let file = key(alloc, 5)?;
-    reserve(&mut store, 2)?;
-    open(alloc, &mut store, &from, &file)?;
-    put(&mut store, 1, b"he")?;
-    mark(&mut store, 1)?;
-    refuse(alloc, &mut store, &from, &file)?;
-    assert_eq!(rt; store.known(&from, &file), Known::Refused);
-    assert_eq!(rt; store.mark_of(&from, &file), None);
-    assert_eq!(rt; put(&mut store, 1, b"l"), Err(StoreFault::Read));
-    assert_eq!(rt; store.refusals().len(), 1);
-    assert_eq!(rt; store.reserved(), 0);
-    // Another file of that sender is another part.
-    let longer = key(alloc, 6)?;
-    let at = open(alloc, &mut store, &from, &longer)?;
-    assert_eq!(rt; at, PartAt { part: 2, len: 0 });
-    Ok(())
-}
-
-#[test]
-fn full_past_the_last_place(rt: HostRuntime) -> Result<(), Fail> {
-    let mut store = ListStore::new(rt.alloc());
-    assert_eq!(rt; reserve(&mut store, 262_145), Err(StoreFault::Full));
-    assert_eq!(rt; store.fulls(), 1);
-    assert_eq!(rt; store.reserved(), 0);
-    assert_eq!(rt; reserve(&mut store, 2_000), Ok(()));
-    assert_eq!(rt; reserve(&mut store, 260_145), Err(StoreFault::Full));
-    assert_eq!(rt; store.fulls(), 2);
-    assert_eq!(rt; store.faults(), 0);
-    Ok(())
-}
-
-// Receives a file in one piece.
+// Receives a file of five bytes in one piece, with a mark.
 fn receive(
     alloc: Global,
     store: &mut ListStore,
     from: &Addr,
     key: &FileKey,
+    secure: bool,
 ) -> Result<(), StoreFault>
     requires address_limits { IsAddress (address from.now) }
     requires key_limits { IsKey (key_of key.now) }
@@ -261,46 +236,5 @@ fn receive(
     let at = open(alloc, store, from, key)?;
     put(store, at.part, b"hello")?;
     mark(store, at.part)?;
-    commit(store, at.part)
-}
-
-#[test]
-fn each_call_can_be_made_to_fail(rt: HostRuntime) -> Result<(), Fail> {
-    let alloc = rt.alloc();
-    let from = sender(alloc, 1042)?;
-    let file = key(alloc, 5)?;
-    for call in 1..6u64 {
-        let mut store = ListStore::new(alloc);
-        store.fail_at(call)?;
-        let answer = receive(alloc, &mut store, &from, &file);
-        assert_eq!(rt; answer, Err(StoreFault::Disk));
-        assert_eq!(rt; store.faults(), 1);
-        assert_eq!(rt; store.broken(), Some(1));
-        assert_eq!(rt; store.known(&from, &file), Known::New);
-        assert_eq!(rt; store.receipts().len(), 0);
-    }
-    Ok(())
-}
-
-#[test]
-fn key_that_is_queued_twice(rt: HostRuntime) -> Result<(), Fail> {
-    let alloc = rt.alloc();
-    let mut store = ListStore::new(alloc);
-    let dest = sender(alloc, 1042)?;
-    let file = key(alloc, 5)?;
-    let slot = queue(alloc, &mut store, sender(alloc, 1042)?, key(alloc, 5)?)?;
-    assert_eq!(rt; slot, Slot::New(1));
-    let slot = queue(alloc, &mut store, sender(alloc, 1042)?, key(alloc, 5)?)?;
-    assert_eq!(rt; slot, Slot::Again(1));
-    let slot = queue(alloc, &mut store, sender(alloc, 7)?, key(alloc, 5)?)?;
-    assert_eq!(rt; slot, Slot::New(3));
-    assert_eq!(rt; store.entries().len(), 2);
-    assert_eq!(rt; store.staged().len(), 0);
-    assert_eq!(rt; store.appended(), 2);
-    let first = store.next_live(&dest, None);
-    assert_eq!(rt; first, Some((Flavour::Crash, 1)));
-    assert_eq!(rt; store.next_live(&dest, first), None);
-    let entry = &store.entries()[0];
-    assert_eq!(rt; entry.key(), &file);
-    Ok(())
+    commit(store, at.part, secure)
 }

@@ -1,6 +1,7 @@
-use Rattle.std.proofs.Common.{◌≡◌, ◌++◌, ◌∙◌, ap, arith}
+use Rattle.std.proofs.Common.{◌≡◌, List, [], ◌∷◌, ◌++◌, ◌∙◌, ap, arith}
 use Rattle.ftn_addr.specs.Address.{address}
 use Rattle.ftn_addr.specs.Key.{key_of}
+use Rattle.node_model.specs.Items.{Refusal}
 use Rattle.node_model.specs.Node.{Record, Refused_record}
 use Rattle.node_model.specs.Rows.{by}
 use Rattle.list_store.specs.contracts.list_store.ListStore.{the_view}
@@ -23,4 +24,5 @@ pub returns-clause-kept : goal.returns-clause-kept
 returns-clause-kept c =
     let s = the_view c.self.inside in
     let log : c.append.new.log.items ≡ s.log ++ by s.seat (Refused_record (address c.args.from.now) (key_of c.args.key.now) c.args.session c.args.reason) = c.append.ensures.items ∙ ap (λ (r : Record). s.log ++ by s.seat r) c.in_ok-record.ensures in
-    rw (log, c.in_ok-add.ensures.ok, c.close_file.ensures.items) (from_called _ _ _ _ _ (c.self.view_is ∙ c.in_ok-count_call.ensures.ok) (refuses_file s (address c.args.from.now) (key_of c.args.key.now) c.args.session c.args.reason c.in_ok-file.file c.self.invariant.0 c.in_ok-file.ensures))
+    let refusals : c.put.new.list.items ≡ s.refused ++ c.in_ok-file.file ∷ [] = c.put.ensures.items ∙ ap (λ (l : List Refusal). l ++ c.in_ok-file.file ∷ []) c.make_room.ensures.items in
+    rw (log, refusals, c.close_file.ensures.items) (from_called _ _ _ _ _ (c.self.view_is ∙ c.in_ok-count_call.ensures.ok) (refuses_file s (address c.args.from.now) (key_of c.args.key.now) c.args.session c.args.reason c.in_ok-file.file c.self.invariant.0 c.in_ok-file.ensures))
