@@ -1,5 +1,5 @@
 -- A session begins, or finds no number or no memory: a step of the hub's node.
-use Rattle.std.proofs.Common.{◌≡◌, ◌≢◌, ◌⊎◌, ℕ, zero, suc, ◌+◌, ◌<◌, ◌≤◌, Bool, true, false, List, [], ◌∷◌, Option, Some, None, map, length, option_map, refl, sym, ◌∙◌, ap, subst, inl, inr, arith}
+use Rattle.std.proofs.Common.{◌≡◌, ℕ, ◌+◌, ◌<◌, Bool, true, false, List, [], ◌∷◌, Option, Some, None, option_map, refl, sym, ◌∙◌, ap, subst, inl, inr, arith}
 use Rattle.std.specs.List.{All}
 use Rattle.std.proofs.lemmas.List.Elements.{All-head}
 use Rattle.ftn_addr.specs.Address.{Address}
@@ -10,14 +10,14 @@ use Rattle.node_model.specs.declared.words.Role.{Role}
 use Rattle.node_model.specs.declared.store.StoreFault.{StoreFault}
 use Rattle.node_model.specs.declared.store.StoreFault.TheVariants as D
 use Rattle.node_model.specs.Node.{Node, Session, Seat, seat_in, put_seat, session_at}
-use Rattle.node_model.specs.Rows.{OpenRow, new_session}
-use Rattle.node_model.specs.Calls.{Call, Answer, Open_call, Begun, Refused, Full, No_memory, Disk, NodeStep, Counts, MayFindFull, Caused}
-use Rattle.node_model.specs.Stores.{Shelf, Stored, StoreState, StoreStand, StoreTied}
+use Rattle.node_model.specs.Rows.{new_session}
+use Rattle.node_model.specs.Calls.{Call, Open_call, Begun, Refused, Full, No_memory, NodeStep, Counts, MayFindFull, Caused}
+use Rattle.node_model.specs.Stores.{Shelf, Stored, StoreState, StoreStand}
 use Rattle.node_model.proofs.StepSound.{step_sound}
-use Rattle.hub_core.specs.Hubs.{Sitting, Chair, HubState, HubFits, SittingFits, IfClaimed, IfHeld, Taking, IsNewSitting, chair_in, put_chair, with_sitting, begun_with, sitting_at, session_over, node_with, sitting_part, seat_part}
+use Rattle.hub_core.specs.Hubs.{Sitting, Chair, HubState, HubFits, SittingFits, IfClaimed, IfHeld, Taking, IsNewSitting, chair_in, begun_with, sitting_at, session_over, node_with, sitting_part, seat_part}
 use Rattle.hub_core.specs.HubCalls.{HasTurn, Does, ShelfPasses}
 use Rattle.hub_core.specs.HubLaws.{session_of}
-use Rattle.hub_core.specs.Steps.{Leaves, StaysSettled, OneOf, RefusedBy, Broke, counted_full, loses_none, fault_in}
+use Rattle.hub_core.specs.Steps.{Leaves, StaysSettled, OneOf, RefusedBy, counted_full, loses_none, fault_in}
 use Rattle.hub_core.proofs.Nodes.{seats_put, chair_at, sits_at, sittings_put}
 use Rattle.hub_core.proofs.Keeping.{leaves_as, leaves_none}
 use Rattle.hub_core.proofs.Ends.{same_content}

@@ -1,10 +1,10 @@
 -- The disk failed in a call behind a mark: it failed in both together.
-use Rattle.std.proofs.Common.{◌≡◌, ◌≢◌, ◌⊎◌, ℕ, Bool, true, false, List, [], ◌∷◌, ◌++◌, Option, Some, None, map, length, option_map, refl, sym, ◌∙◌, ap, subst, inl, inr, append_assoc}
+use Rattle.std.proofs.Common.{◌≡◌, ℕ, Bool, true, false, List, [], ◌++◌, Option, Some, None, option_map, refl, sym, ◌∙◌, ap, subst, append_assoc}
 use Rattle.std.proofs.lemmas.List.{append-nil}
 use Rattle.ftn_addr.specs.Address.{Address}
 use Rattle.ftn_addr.specs.Counts.{Increased}
 use Rattle.node_model.specs.Items.{Mark, MarkOf}
-use Rattle.node_model.specs.Lists.{Member, Each}
+use Rattle.node_model.specs.Lists.{Member}
 use Rattle.node_model.specs.Node.{Logged}
 use Rattle.node_model.specs.Calls.{Logs, Counts}
 use Rattle.node_model.specs.Stocks.{part_in}

@@ -1,21 +1,18 @@
 -- The disk failed in a call of a hub: its node breaks.
-use Rattle.std.proofs.Common.{◌≡◌, ◌≢◌, ◌⊎◌, ℕ, ◌<◌, ◌==◌, Bool, true, false, List, [], ◌∷◌, ◌++◌, Option, Some, None, length, map, option_map, refl, sym, ◌∙◌, ap, subst, inl, inr}
+use Rattle.std.proofs.Common.{◌≡◌, ◌≢◌, ℕ, ◌==◌, Bool, false, Option, Some, None, option_map, refl, sym, ◌∙◌, ap, subst, inr}
 use Rattle.ftn_addr.specs.Counts.{Increased}
 use Rattle.node_model.specs.Items.{MarkOf}
 use Rattle.node_model.specs.Lists.{Member}
-use Rattle.node_model.specs.Node.{Node, Session, Seat, seat_in, session_at}
-use Rattle.node_model.specs.Rows.{unheld}
-use Rattle.node_model.specs.Calls.{Call, Answer, Refused, Disk, Caused, IsSkip, NodeStep, KnownStep, Breaks, Passes, Logs, Counts, unheld_in, SeatCounted}
+use Rattle.node_model.specs.Node.{Seat}
+use Rattle.node_model.specs.Calls.{Call, Refused, Disk, IsSkip, KnownStep, Breaks, Passes, Logs, Counts, unheld_in}
 use Rattle.node_model.specs.Stocks.{Stock, part_in}
-use Rattle.node_model.specs.Stores.{Shelf, Stored, StoreState, StoreStand, IfTold, TellsOn, shelf_of}
+use Rattle.node_model.specs.Stores.{Shelf, Stored, StoreState, IfTold, TellsOn, shelf_of}
 use Rattle.hub_core.specs.Hubs.{Taking, Sitting, Chair, HubState, HubFits, Fitted, chair_in, sitting_at, session_over, seat_over, node_with, knows_over, hub_stand, IsSettled}
-use Rattle.node_model.specs.Images.{Kept}
-use Rattle.hub_core.specs.HubCalls.{ShelfPasses, HasTurn, Does}
-use Rattle.hub_core.specs.Steps.{Broke, Leaves, Stays, part_under}
+use Rattle.hub_core.specs.HubCalls.{ShelfPasses}
+use Rattle.hub_core.specs.Steps.{Broke, Stays, part_under}
 use Rattle.hub_core.proofs.Finding.{found}
 use Rattle.hub_core.proofs.Nodes.{seat_same, session_same}
 use Rattle.hub_core.proofs.Ends.{unheld_sitting}
-use Rattle.hub_core.proofs.Keeping.{kept_of}
 use Rattle.hub_core.specs.HubLaws.{seat_of, session_of}
 
 -- the hub is the same but for what its seat holds

@@ -1,22 +1,22 @@
 -- Entries that aren't kept back at a hub are those that its node may offer.
-use Rattle.std.proofs.Common.{◌≡◌, ◌≢◌, ◌⊎◌, ℕ, Bool, true, false, ◌||◌, ◌==◌, ◌<◌, ◌≤◌, List, [], ◌∷◌, Option, Some, None, map, length, option_map, refl, sym, ◌∙◌, ap, subst, inl, inr, ⊎_elim}
+use Rattle.std.proofs.Common.{◌≡◌, ◌≢◌, ◌⊎◌, ℕ, Bool, true, false, ◌||◌, ◌==◌, List, [], ◌∷◌, Option, Some, None, length, option_map, refl, sym, ◌∙◌, ap, subst, inl, inr, ⊎_elim}
 use Rattle.ftn_addr.specs.Key.{Key}
 use Rattle.node_model.specs.declared.words.Flavour.{Flavour}
-use Rattle.node_model.specs.Items.{Body, BodyOf, Live, Done, Entry, EntryOf}
+use Rattle.node_model.specs.Items.{Body, Live, Done, Entry, EntryOf}
 use Rattle.node_model.specs.Lists.{Member}
 use Rattle.node_model.specs.Durable.{body_map, entry_map}
 use Rattle.node_model.specs.Desks.{Claim}
-use Rattle.node_model.specs.Node.{Session, session_at, claim_in}
-use Rattle.node_model.specs.SendRows.{Candidate, Precedes, rank}
+use Rattle.node_model.specs.Node.{session_at, claim_in}
+use Rattle.node_model.specs.SendRows.{Candidate, Precedes}
 use Rattle.node_model.specs.Sound.{same_number}
 use Rattle.node_model.specs.Stocks.{Stock, Sizes, sizes, is_live}
 use Rattle.node_model.specs.StoreWords.{KeyOf}
 use Rattle.node_model.specs.Stores.{Stored, StoreState}
 use Rattle.node_model.proofs.Distinct.{distinct_one}
-use Rattle.node_model.proofs.Lists.{decide_line, eqb_refl, off, or_true, or_true_right}
-use Rattle.hub_core.specs.Hubs.{Sitting, Chair, HubState, HubFits, chair_in, with_sitting, sitting_at, session_over, node_with}
+use Rattle.node_model.proofs.Lists.{decide_line, off, or_true, or_true_right}
+use Rattle.hub_core.specs.Hubs.{Sitting, HubState, HubFits, with_sitting, sitting_at, session_over, node_with}
 use Rattle.hub_core.specs.HubLaws.{session_of}
-use Rattle.hub_core.specs.Sending.{claims, sitting_claims, chair_claims, ClaimedBy, is_skipped, KeptBack, Comes, place_of, IsFree, FirstFree, NextFree, NextOf, dests_of}
+use Rattle.hub_core.specs.Sending.{claims, sitting_claims, ClaimedBy, is_skipped, KeptBack, Comes, place_of, IsFree, NextOf, dests_of}
 use Rattle.hub_core.proofs.Finding.{member_map, map_member}
 use Rattle.hub_core.proofs.Nodes.{sits_at, sits_apart}
 use Rattle.hub_core.proofs.OpenParts.{same_number as numbers_are, number_same}

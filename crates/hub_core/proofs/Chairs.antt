@@ -1,12 +1,10 @@
 -- The seat with a number, among places of the code and after one of them changed.
-use Rattle.std.proofs.Common.{◌≡◌, ◌≢◌, ◌⊎◌, ℕ, zero, suc, nat_lt, true, cond, count_by, fold, ◌+◌, inl, inr, ◌<◌, ◌≤◌, Bool, false, List, [], ◌∷◌, Option, Some, None, map, length, slice_index_or, refl, sym, ◌∙◌, ap, arith}
+use Rattle.std.proofs.Common.{◌≡◌, ◌⊎◌, ℕ, zero, suc, nat_lt, true, cond, count_by, fold, ◌+◌, inl, inr, ◌<◌, ◌≤◌, Bool, false, List, [], ◌∷◌, map, length, slice_index_or, refl, sym, arith}
 use Rattle.std.proofs.lemmas.Bool.Decides.{Decides-ltb}
 use borrow.Author.Tests.{ltb-false}
-use Rattle.ftn_addr.specs.Address.{Address}
-use Rattle.ftn_addr.specs.Key.{Key}
 use Rattle.hub_core.specs.declared.places.Place.{Place}
 use Rattle.hub_core.specs.Hubs.{Chair, chair_of, chair_in, empty_chair}
-use Rattle.hub_core.specs.Steps.{HeldBy, chair_holds, chair_answers, place_answers}
+use Rattle.hub_core.specs.Steps.{chair_answers, place_answers}
 
 pub chair_in-map : (places : List Place) (k : ℕ) (p : Place) → k < length places → chair_in (map chair_of places) k ≡ chair_of (slice_index_or places k p)
 chair_in-map [] k p below = absurd (omega arith)

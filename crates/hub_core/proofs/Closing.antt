@@ -1,9 +1,9 @@
 -- A store that a hub has used fits a hub without seats.
-use Rattle.std.proofs.Common.{◌≡◌, ℕ, zero, suc, List, [], Option, Some, None, refl, sym, ◌∙◌, ap, arith}
-use Rattle.node_model.specs.Node.{Hold, Session, Seat, Node, Settings, seat_in, session_at, hold_in, claim_in}
+use Rattle.std.proofs.Common.{◌≡◌, ℕ, zero, suc, [], Option, Some, None, refl, sym, ◌∙◌, ap, arith}
+use Rattle.node_model.specs.Node.{Node, Settings, session_at, hold_in, claim_in}
 use Rattle.node_model.specs.Sound.{Sound}
 use Rattle.node_model.specs.Stores.{Stored, StoreState, StoreStand}
-use Rattle.hub_core.specs.Hubs.{Sitting, Chair, HubState, chair_in, sitting_at, node_with, HubFits, Fitted, IsReady}
+use Rattle.hub_core.specs.Hubs.{HubState, sitting_at, node_with, HubFits, Fitted, IsReady}
 use Rattle.hub_core.specs.Opening.{no_seats, IsWhole}
 
 -- no seat, other settings, and no session begun

@@ -1,6 +1,5 @@
 -- Data comes for a held file: what the store keeps then, with the bytes and without them.
-use Rattle.std.proofs.Common.{◌≡◌, ◌≢◌, ◌⊎◌, ℕ, ◌+◌, ◌-◌, ◌<◌, ◌≤◌, max, nat_le, nat_lt, Bool, true, false, cond, ◌==◌, List, [], ◌∷◌, ◌++◌, Option, Some, None, map, length, option_map, refl, sym, ◌∙◌, ap, subst, inl, inr, arith, ⊎_elim, length-append}
-use Rattle.std.proofs.lemmas.List.{append-nil}
+use Rattle.std.proofs.Common.{◌≡◌, ◌≢◌, ℕ, ◌+◌, ◌<◌, nat_le, Bool, true, false, cond, ◌==◌, List, [], ◌++◌, Some, length, refl, sym, ◌∙◌, ap, subst, arith, length-append}
 use borrow.Author.Tests.{leb-true}
 use Rattle.std.proofs.lemmas.Bool.Decides.{Decides-ltb}
 use Rattle.ftn_addr.specs.Address.{Address}
@@ -8,19 +7,18 @@ use Rattle.ftn_addr.specs.Files.{is_same}
 use Rattle.ftn_addr.specs.Key.{Key}
 use Rattle.node_model.specs.Items.{Mark, MarkOf, Receipt}
 use Rattle.node_model.specs.Lists.{Member, Each}
-use Rattle.node_model.specs.Durable.{Durable, marked, mark_map, with_mark}
-use Rattle.node_model.specs.Node.{Hold, Session, Node, session_at, hold_in}
+use Rattle.node_model.specs.Durable.{Durable, marked}
+use Rattle.node_model.specs.Node.{Hold, hold_in}
 use Rattle.node_model.specs.Rows.{stride, at_stride, grown}
-use Rattle.node_model.specs.Stocks.{Stock, Sizes, StockOf, sizes, part_in, part_put, put_part, body_of, bytes_of_part}
-use Rattle.node_model.specs.Stores.{Stored, StoreState, StoreTied, stored_after, with_bytes}
-use Rattle.node_model.specs.Stores as T
+use Rattle.node_model.specs.Stocks.{Sizes, sizes, part_put, put_part, body_of, bytes_of_part}
+use Rattle.node_model.specs.Stores.{Stored, StoreState, stored_after, with_bytes}
 use Rattle.node_model.proofs.StockMaps.{part_put-map}
-use Rattle.hub_core.specs.Hubs.{Taking, Sitting, Chair, HubState, HubFits, PartFits, IfHeld, chair_in, sitting_at, session_over, hold_over, node_with}
-use Rattle.hub_core.specs.HubLaws.{held_told, HeldTold, held_part}
+use Rattle.hub_core.specs.Hubs.{Taking, Sitting, HubState, HubFits, PartFits, sitting_at, hold_over}
+use Rattle.hub_core.specs.HubLaws.{HeldTold, held_part}
 use Rattle.hub_core.specs.Steps.{part_under, more_taking, reaches, marked_if, put_marked, mark_len}
-use Rattle.hub_core.proofs.Ends.{marked_by, marked_stored, marked_content}
+use Rattle.hub_core.proofs.Ends.{marked_by}
 use Rattle.hub_core.proofs.Nodes.{session_is}
-use Rattle.hub_core.proofs.Putting.{own_put, other_put, put_shelf}
+use Rattle.hub_core.proofs.Putting.{own_put}
 use Rattle.hub_core.proofs.Telling.{mark_len_is}
 
 abbrev pub put_stored : ℕ → List ℕ → ℕ → Stored → Stored

@@ -1,11 +1,11 @@
 -- What the store's calls want for data of a held file.
-use Rattle.std.proofs.Common.{◌≡◌, ◌≢◌, ℕ, ◌+◌, ◌-◌, ◌<◌, ◌≤◌, Bool, true, false, List, Option, Some, None, length, option_map, refl, sym, ◌∙◌, ap, subst, arith}
+use Rattle.std.proofs.Common.{◌≡◌, ℕ, ◌-◌, ◌≤◌, Bool, true, false, Option, Some, sym, ◌∙◌, ap, subst}
 use Rattle.node_model.specs.Desks.{Fits}
 use Rattle.node_model.specs.Talk.{Part}
-use Rattle.node_model.specs.Stores.{StoreState, StoreStand}
+use Rattle.node_model.specs.Stores.{StoreStand}
 use Rattle.hub_core.specs.Hubs.{Taking, Sitting, HubState, with_sitting, sitting_part, taken_part, unless_dropped}
 use Rattle.hub_core.specs.HubCalls.{HasTurn}
-use Rattle.hub_core.specs.Steps.{Holds, IfHolds, whole_taking}
+use Rattle.hub_core.specs.Steps.{Holds, IfHolds}
 use Rattle.hub_core.proofs.FileNeeds.{turn_holds}
 
 pub record Taken_of (t : Taking) (n : ℕ) : Type 0 where

@@ -1,29 +1,21 @@
 -- Data comes for a held file, and more is to come: a step of the hub's node.
-use Rattle.std.proofs.Common.{◌≡◌, ◌≢◌, ◌⊎◌, ℕ, ◌+◌, ◌-◌, ◌<◌, ◌≤◌, Bool, true, false, if◌then◌else◌, cond, List, [], ◌∷◌, ◌++◌, Option, Some, None, map, length, option_map, refl, sym, ◌∙◌, ap, subst, inl, inr, arith, ⊎_elim, length-append}
+use Rattle.std.proofs.Common.{◌≡◌, ℕ, ◌+◌, ◌-◌, Bool, true, false, if◌then◌else◌, List, [], ◌∷◌, ◌++◌, Option, Some, None, length, option_map, refl, sym, ◌∙◌, ap, subst, arith}
 use Rattle.std.proofs.lemmas.List.{append-nil}
 use Rattle.ftn_addr.specs.Address.{Address}
-use Rattle.ftn_addr.specs.Key.{Key}
-use Rattle.node_model.specs.Items.{Mark, MarkOf}
-use Rattle.node_model.specs.Lists.{Member}
-use Rattle.node_model.specs.Durable.{Durable, with_mark}
-use Rattle.node_model.specs.Node.{Hold, Session, Node, Logged, Mark_record, with_session}
-use Rattle.node_model.specs.Rows.{by, at_stride, grown, stride_place, stride_records, marked_at_stride, mark_for, mark_record, holding_more, DataMore}
-use Rattle.node_model.specs.Calls.{Data_call, More, NodeStep, Counts}
-use Rattle.node_model.specs.Sound.{Sound}
+use Rattle.node_model.specs.Items.{Mark}
+use Rattle.node_model.specs.Durable.{with_mark}
+use Rattle.node_model.specs.Node.{Hold, Session, Node, Mark_record, with_session}
+use Rattle.node_model.specs.Rows.{by, grown, mark_for, mark_record}
 use Rattle.node_model.specs.Stocks.{Stock, Sizes, sizes, part_in, part_put, by_part, part_marked, body_of}
-use Rattle.node_model.specs.Stores.{Stored, StoreState, StoreTied, stored_after, with_bytes}
-use Rattle.node_model.proofs.StepSound.{step_sound}
+use Rattle.node_model.specs.Stores.{Stored, StoreState, with_bytes}
 use Rattle.hub_core.specs.Hubs.{Taking, Sitting, Chair, HubState, HubFits, SittingFits, HoldFits, IfHeld, PartFits, chair_in, with_sitting, sitting_at, session_over, hold_over, node_with}
 use Rattle.hub_core.specs.HubLaws.{held_told, HeldTold, held_part}
-use Rattle.hub_core.specs.Steps.{part_under, more_taking, reaches, put_marked}
-use Rattle.hub_core.proofs.Data.{put_stored, parts_apart, put_told, put_body, put_sizes, put_marked_is, stride_is, fits_same, put_from}
-use Rattle.hub_core.proofs.Ends.{Sits, marked_by, marked_stored, marked_content, stock_marked}
-use Rattle.hub_core.proofs.FileSteps.{busy_put, reads_put, map_twice}
-use Rattle.hub_core.proofs.Finding.{found}
-use Rattle.hub_core.proofs.Marking.{by_part_parts, marked_sizes, marked_parts, mark_fits_part}
-use Rattle.hub_core.proofs.Nodes.{seats_put, session_same, session_is, node_eq, sittings_put, OthersStay}
-use Rattle.hub_core.proofs.Putting.{own_put, other_put}
-use Rattle.hub_core.proofs.Stepping.{Stepped}
+use Rattle.hub_core.specs.Steps.{part_under, more_taking}
+use Rattle.hub_core.proofs.Data.{put_stored, parts_apart, put_told, put_body}
+use Rattle.hub_core.proofs.Ends.{Sits, marked_by, marked_stored, stock_marked}
+use Rattle.hub_core.proofs.Marking.{by_part_parts}
+use Rattle.hub_core.proofs.Nodes.{seats_put, session_same, node_eq, OthersStay}
+use Rattle.hub_core.proofs.Putting.{other_put}
 
 -- the session whose hold grew, and gave a place at a stride
 abbrev pub grown_taking : Bool → ℕ → Taking → Taking

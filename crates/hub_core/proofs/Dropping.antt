@@ -1,13 +1,12 @@
 -- Over a broken store a session is told that it holds nothing more, and the node doesn't change.
-use Rattle.std.proofs.Common.{◌≡◌, ◌≢◌, ℕ, ◌<◌, Bool, true, false, List, Option, Some, None, length, map, option_map, refl, sym, ◌∙◌, ap, subst}
-use Rattle.ftn_addr.specs.Address.{Address}
+use Rattle.std.proofs.Common.{◌≡◌, ℕ, ◌<◌, true, false, List, Option, Some, None, length, map, option_map, refl, sym, ◌∙◌, ap, subst}
 use Rattle.ftn_addr.specs.Key.{Key}
-use Rattle.node_model.specs.Node.{Hold, Session, Seat, put_seat, seat_in, Node}
-use Rattle.node_model.specs.Calls.{File_call, Refused, Disk, Tells, Counts_alone, Knows}
+use Rattle.node_model.specs.Node.{Session, Seat, put_seat}
+use Rattle.node_model.specs.Calls.{File_call, Refused, Disk, Tells, Counts_alone}
 use Rattle.node_model.specs.Desks.{part_after}
 use Rattle.node_model.specs.Stocks.{Stock}
 use Rattle.node_model.specs.Stores.{Stored, StoreState, StoreStand}
-use Rattle.hub_core.specs.Hubs.{Taking, Sitting, Chair, HubState, chair_in, put_chair, with_sitting, sitting_at, dropped_taking, dropped_sitting, session_over, hold_over, hold_places_of, seat_over, node_with, knows_over, seat_part, sitting_part, taken_part}
+use Rattle.hub_core.specs.Hubs.{Taking, Sitting, HubState, chair_in, with_sitting, sitting_at, dropped_taking, dropped_sitting, session_over, seat_over, node_with, knows_over, seat_part, sitting_part}
 use Rattle.hub_core.specs.HubCalls.{Does}
 use Rattle.hub_core.proofs.FileSteps.{busy_put, reads_put}
 use Rattle.hub_core.proofs.Nodes.{map_put, sits_at}

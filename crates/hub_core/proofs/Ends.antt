@@ -1,28 +1,18 @@
 -- What is held is marked, and its places go back: the node of a hub is released.
-use Rattle.std.proofs.Common.{◌≡◌, ◌≢◌, ◌⊎◌, ℕ, ◌+◌, ◌-◌, ◌≤◌, Bool, true, false, if◌then◌else◌, ◌==◌, List, [], ◌∷◌, ◌++◌, Option, Some, None, map, length, option_map, refl, sym, ◌∙◌, ap, subst, arith}
+use Rattle.std.proofs.Common.{◌≡◌, ℕ, ◌+◌, ◌-◌, Bool, true, false, if◌then◌else◌, List, [], ◌∷◌, ◌++◌, Option, Some, None, length, option_map, refl, sym, ◌∙◌, ap, arith}
 use Rattle.std.proofs.lemmas.List.{append-nil}
 use Rattle.ftn_addr.specs.Address.{Address}
-use Rattle.ftn_addr.specs.Files.{is_same}
-use Rattle.ftn_addr.specs.Key.{Key}
-use Rattle.node_model.specs.Items.{Mark, MarkOf, Receipt}
-use Rattle.node_model.specs.Lists.{Member, Each}
-use Rattle.node_model.specs.Durable.{Durable, with_mark, unmarked, mark_of}
-use Rattle.node_model.specs.Node.{Hold, Session, Seat, Node, Logged, Mark_record, with_session, seat_in, put_seat}
-use Rattle.node_model.specs.Rows.{by, all_by, is_ahead, mark_for, mark_record, released, unheld}
-use Rattle.node_model.specs.Sound.{Sound}
-use Rattle.node_model.specs.Stocks.{Stock, Sizes, StockOf, sizes, part_in, part_of, by_part, by_some, part_marked, body_of}
+use Rattle.node_model.specs.Items.{Mark, MarkOf}
+use Rattle.node_model.specs.Durable.{with_mark}
+use Rattle.node_model.specs.Node.{Hold, Session, Node, Logged, Mark_record, with_session}
+use Rattle.node_model.specs.Rows.{by, all_by, mark_for, mark_record, released, unheld}
+use Rattle.node_model.specs.Stocks.{Stock, sizes, part_in, by_part, by_some, part_marked, body_of}
 use Rattle.node_model.specs.Stores.{Stored, StoreState, StoreTied, IfTold, stored_after, changed, placed, marked_part}
 use Rattle.node_model.specs.Stores as T
-use Rattle.node_model.proofs.Lists.{is_same_true, is_same_refl, is_same_at, Each-without}
-use Rattle.node_model.proofs.Marks.{Each-placed}
-use Rattle.node_model.proofs.Seats.{fits, sound}
-use Rattle.node_model.proofs.Leaving.{released_fits}
-use Rattle.node_model.proofs.StockMaps.{by_part-map, part_marked-map}
-use Rattle.hub_core.specs.Hubs.{Taking, Sitting, Chair, HubState, IfHeld, HoldFits, SittingFits, PartFits, HubFits, Fitted, chair_in, with_sitting, sitting_at, session_over, hold_over, node_with}
-use Rattle.hub_core.specs.Steps.{part_under, ended, hold_ended}
-use Rattle.hub_core.proofs.Finding.{found}
-use Rattle.hub_core.proofs.OpenParts.{one_part, same_number}
-use Rattle.hub_core.proofs.Nodes.{seats_put, session_same, session_is, node_eq, sittings_put, OthersStay}
+use Rattle.node_model.proofs.Seats.{fits}
+use Rattle.hub_core.specs.Hubs.{Taking, Sitting, HubState, IfHeld, HubFits, with_sitting, sitting_at, session_over, node_with}
+use Rattle.hub_core.specs.Steps.{part_under, ended}
+use Rattle.hub_core.proofs.Nodes.{seats_put, session_same, node_eq}
 use Rattle.hub_core.proofs.Telling.{ahead_is}
 use Rattle.hub_core.specs.HubLaws.{HeldTold, held_part, held_told}
 

@@ -1,34 +1,25 @@
 -- A file is offered at a hub's desk: what the call is told by, whatever it answers.
-use Rattle.std.proofs.Common.{◌≡◌, ◌≢◌, ◌⊎◌, ℕ, ◌+◌, ◌-◌, ◌<◌, ◌≤◌, Bool, true, false, List, [], ◌∷◌, ◌++◌, Option, Some, None, map, length, option_map, refl, sym, ◌∙◌, ap, subst, inl, inr, arith}
+use Rattle.std.proofs.Common.{◌≡◌, ℕ, ◌-◌, ◌<◌, true, false, [], ◌∷◌, Option, Some, length, refl, sym, ◌∙◌, ap, subst, inl, inr}
 use Rattle.std.specs.Prelude.{Ok}
-use Rattle.ftn_addr.specs.Address.{Address}
 use Rattle.ftn_addr.specs.Key.{Key}
-use Rattle.ftn_addr.specs.Counts.{next_count}
 use Rattle.node_model.specs.declared.desk.FileIn.{FileIn}
 use Rattle.node_model.specs.declared.desk.FileIn.TheVariants as F
-use Rattle.node_model.specs.declared.store.StoreFault.{StoreFault}
-use Rattle.node_model.specs.declared.store.StoreFault.TheVariants as D
-use Rattle.node_model.specs.Node.{Hold, Session, Node, session_at, hold_in}
-use Rattle.node_model.specs.Rows.{FileAnswer, Have, Refuse, Elsewhere, Go, Whole, From, Late, FileFull, LacksRoom, wanted_places, mark_length, mark_any, released, reason, draws}
-use Rattle.node_model.specs.Calls.{Call, Answer, File_call, Filed, Refused, Full, No_memory, Disk, Passes, Marked, After_it, Counts, FileRefused, NodeStep}
-use Rattle.node_model.specs.Desks.{DeskPart, file_answer, part_after, held_after}
-use Rattle.node_model.specs.Talk.{Part}
+use Rattle.node_model.specs.Node.{Hold, Node, session_at, hold_in}
+use Rattle.node_model.specs.Rows.{FileAnswer, Refuse, Whole, mark_any, reason}
+use Rattle.node_model.specs.Calls.{Call, Answer, File_call, Filed, Marked, After_it, Counts}
+use Rattle.node_model.specs.Desks.{file_answer, part_after, held_after}
 use Rattle.node_model.specs.Stores.{Shelf, Stored, StoreState, StoreStand, StoreTied, IsShelf}
-use Rattle.hub_core.specs.Hubs.{Taking, Sitting, Chair, HubState, chair_in, with_sitting, sitting_at, session_over, node_with, seat_part, sitting_part, taken_part}
+use Rattle.hub_core.specs.Hubs.{Sitting, HubState, with_sitting, node_with, seat_part, sitting_part, taken_part}
 use Rattle.hub_core.specs.HubCalls.{ShelfPasses, HasTurn, Does}
-use Rattle.hub_core.specs.Steps.{Leaves, StaysSettled, OneOf, OneMade, RefusedBy, BrokeBy, Broke, loses_none, is_file, Judged, MayBeMade, Answered, FindsNone, CallsStore, answered_state, word_of, fault_in, ended, counted_full, mark_len, taken_up}
-use Rattle.hub_core.proofs.Behind.{broke_behind}
-use Rattle.hub_core.proofs.BeginSteps.{full_fits, full_caused}
-use Rattle.hub_core.proofs.Breaking.{SameBut, OthersApart}
+use Rattle.hub_core.specs.Steps.{Leaves, StaysSettled, OneOf, OneMade, Judged, MayBeMade, Answered, answered_state, word_of, ended}
 use Rattle.hub_core.proofs.Ends.{Sits, unheld_sitting, ended_stored, ended_content, ended_counts, released_is}
-use Rattle.hub_core.proofs.FileSteps.{ended_hub, busy_put, reads_put, still_stepped, room_now, refused_row, refused_stepped, whole_row, whole_stepped, go_stepped, from_stepped}
-use Rattle.hub_core.proofs.Filing.{Offered, unheld_hub, apart_by, apart_refused, released_node}
+use Rattle.hub_core.proofs.FileSteps.{ended_hub, still_stepped, room_now, refused_stepped, whole_stepped, go_stepped, from_stepped}
+use Rattle.hub_core.proofs.Filing.{Offered, unheld_hub}
 use Rattle.hub_core.proofs.Keeping.{leaves_as, leaves_then}
-use Rattle.hub_core.proofs.Marking.{ended_fits}
-use Rattle.hub_core.proofs.Nodes.{session_is, chair_apart, sits_at}
+use Rattle.hub_core.proofs.Nodes.{session_is, sits_at}
 use Rattle.hub_core.proofs.Sittings.{sit_twice, given_still}
 use Rattle.hub_core.proofs.Stepping.{Stepped, passes_by}
-use Rattle.hub_core.proofs.Turning.{fitted_now, sits_now, before_passes, made_does, broken_does}
+use Rattle.hub_core.proofs.Turning.{fitted_now, sits_now, before_passes, made_does}
 
 -- What held was released, and the file was judged.
 pub record Offers (v v1 : StoreStand) (k : HubState) (seat : ℕ) (x : Sitting) (key : Key) (offset : ℕ) (word : FileIn) : Type 0 where

@@ -1,6 +1,5 @@
 -- A file is offered at a hub's desk, and the store refuses: the disk failed, or no place, number or memory was found.
-use Rattle.std.proofs.Common.{◌≡◌, ◌≢◌, ◌⊎◌, ℕ, ◌+◌, ◌-◌, ◌<◌, ◌≤◌, Bool, true, false, List, [], ◌∷◌, ◌++◌, Option, Some, None, map, length, option_map, refl, sym, ◌∙◌, ap, subst, inl, inr, arith}
-use Rattle.ftn_addr.specs.Address.{Address}
+use Rattle.std.proofs.Common.{◌≡◌, ◌⊎◌, ℕ, ◌<◌, Bool, true, false, [], ◌∷◌, Option, Some, None, length, option_map, refl, sym, ◌∙◌, ap, subst, inl, inr}
 use Rattle.ftn_addr.specs.Key.{Key}
 use Rattle.ftn_addr.specs.Counts.{Increased, next_count}
 use Rattle.ftn_addr.specs.declared.limits.TheConstants.{MAX_NUMBER}
@@ -10,12 +9,12 @@ use Rattle.node_model.specs.declared.store.StoreFault.{StoreFault}
 use Rattle.node_model.specs.declared.store.StoreFault.TheVariants as D
 use Rattle.node_model.specs.Items.{Mark, MarkOf}
 use Rattle.node_model.specs.Durable.{mark_of, mark_map}
-use Rattle.node_model.specs.Node.{Hold, Session, Node, session_at, hold_in}
+use Rattle.node_model.specs.Node.{Node}
 use Rattle.node_model.specs.Rows.{FileAnswer, FileFull, LacksRoom, wanted_places, mark_length, places_for, released, unheld, Applies, draws}
 use Rattle.node_model.specs.Calls.{Call, Answer, File_call, Filed, Refused, Full, No_memory, Disk, Counts, FileRefused, NodeStep, Caused, MayFindFull}
 use Rattle.node_model.specs.Stocks.{draws_number, part_of}
-use Rattle.node_model.specs.Stores.{Shelf, Stored, StoreState, StoreStand, StoreTied, TellsOn, shelf_of}
-use Rattle.hub_core.specs.Hubs.{Taking, Sitting, Chair, HubState, chair_in, with_sitting, sitting_at, session_over, node_with, seat_part, sitting_part, taken_part}
+use Rattle.node_model.specs.Stores.{Shelf, Stored, StoreState, StoreStand, TellsOn, shelf_of}
+use Rattle.hub_core.specs.Hubs.{Sitting, HubState, chair_in, with_sitting, session_over, node_with, taken_part}
 use Rattle.hub_core.specs.HubCalls.{ShelfPasses, HasTurn, Does}
 use Rattle.hub_core.specs.Steps.{Leaves, StaysSettled, OneOf, OneMade, RefusedBy, BrokeBy, Broke, loses_none, is_file, Judged, MayBeMade, FindsNone, CallsStore, OpensFull, answered_state, word_of, fault_in, ended, counted_full, mark_len, places_from}
 use Rattle.hub_core.proofs.Behind.{broke_behind}
@@ -24,7 +23,7 @@ use Rattle.hub_core.proofs.Breaking.{SameBut, OthersApart}
 use Rattle.hub_core.proofs.Ends.{Sits, unheld_sitting, ended_stored, ended_content, ended_counts, released_is}
 use Rattle.hub_core.proofs.FileSteps.{ended_hub, busy_put, reads_put, mark_is}
 use Rattle.hub_core.proofs.FileDoes.{Offers, offered, judged_ended, first_passes, second_passes, file_leaves, part_filed, placed_at, at_end}
-use Rattle.hub_core.proofs.Filing.{Offered, unheld_hub, apart_by, apart_refused, released_node, judged_put}
+use Rattle.hub_core.proofs.Filing.{Offered, apart_by, apart_refused, released_node, judged_put}
 use Rattle.hub_core.proofs.JudgeSteps.{judged_applies}
 use Rattle.hub_core.proofs.Marking.{ended_fits, ended_sizes}
 use Rattle.hub_core.proofs.Nodes.{session_is, chair_apart, sits_at}

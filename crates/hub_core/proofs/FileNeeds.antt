@@ -1,12 +1,11 @@
 -- What the store's calls want for a file that was judged.
-use Rattle.std.proofs.Common.{◌≡◌, ◌≢◌, ℕ, ◌≤◌, Option, Some, length, refl, sym, ◌∙◌, ap, subst, arith}
+use Rattle.std.proofs.Common.{◌≡◌, ◌≢◌, ℕ, Some, sym, subst, arith}
 use Rattle.ftn_addr.specs.Key.{Key}
 use Rattle.ftn_addr.specs.Limits.{IsAddress}
 use Rattle.node_model.specs.declared.desk.FileIn.{FileIn}
 use Rattle.node_model.specs.declared.desk.FileIn.TheVariants as F
-use Rattle.node_model.specs.Stocks.{known_in}
-use Rattle.node_model.specs.Stores.{Stored, StoreState, StoreStand}
-use Rattle.hub_core.specs.Hubs.{Sitting, HubState, with_sitting, session_over, node_with}
+use Rattle.node_model.specs.Stores.{StoreState, StoreStand}
+use Rattle.hub_core.specs.Hubs.{Sitting, HubState, with_sitting, session_over}
 use Rattle.hub_core.specs.HubCalls.{HasTurn}
 use Rattle.hub_core.specs.Steps.{IfHolds, MayAnswer, OpensWhole, ended, mark_len}
 use Rattle.hub_core.proofs.Ends.{unheld_sitting, ended_stored}

@@ -1,22 +1,17 @@
 -- Each answer to a file is a step of the hub's node.
-use Rattle.std.proofs.Common.{◌≡◌, ◌≢◌, ◌⊎◌, ℕ, ◌+◌, ◌-◌, ◌<◌, ◌≤◌, max, Bool, true, false, List, [], ◌∷◌, ◌++◌, Option, Some, None, map, length, option_map, refl, sym, ◌∙◌, ap, subst, inl, inr, arith, ⊎_elim}
-use Rattle.ftn_addr.specs.Address.{Address}
+use Rattle.std.proofs.Common.{◌≡◌, ℕ, true, false, ◌∷◌, Option, Some, None, option_map, refl, sym, ◌∙◌, ap, subst, inl, arith}
 use Rattle.ftn_addr.specs.Key.{Key}
-use Rattle.ftn_addr.specs.declared.limits.TheConstants.{MAX_NUMBER}
-use Rattle.node_model.specs.declared.words.TheConstants.{MOST_RECORDS}
 use Rattle.node_model.specs.declared.desk.FileIn.{FileIn}
 use Rattle.node_model.specs.declared.desk.FileIn.TheVariants as F
-use Rattle.node_model.specs.Node.{Session, Node}
 use Rattle.node_model.specs.Rows.{FileAnswer, FileRow, FileMade, HasRoom, Have, Refuse, Elsewhere, Go, Whole, From, Late, wanted_places, mark_length, places_for, unheld, released, reason}
-use Rattle.node_model.specs.Calls.{Call, Answer, File_call, Filed, NodeStep, SeatCounted, Counts}
+use Rattle.node_model.specs.Calls.{File_call, Filed, NodeStep, Counts}
 use Rattle.node_model.specs.Sound.{Sound}
 use Rattle.node_model.specs.Stocks.{part_number}
-use Rattle.node_model.specs.Stores.{Stored, StoreState, StoreTied}
-use Rattle.node_model.specs.Durable.{marked}
+use Rattle.node_model.specs.Stores.{Stored, StoreState}
 use Rattle.node_model.proofs.StepSound.{step_sound}
-use Rattle.hub_core.specs.Hubs.{Taking, Sitting, Chair, HubState, HubFits, chair_in, with_sitting, sitting_at, session_over, node_with}
+use Rattle.hub_core.specs.Hubs.{Sitting, Chair, HubState, HubFits, chair_in, with_sitting, session_over, node_with}
 use Rattle.hub_core.specs.Steps.{Judged, MayOpen, HasOne, RefusesFile, ReceivesWhole, TakesUp, NotesMissed, Answered, word_of, ended, mark_len, places_from, taken_up, opened_under, received_whole, file_refused_under}
-use Rattle.hub_core.proofs.Ends.{Sits, unheld_sitting, ended_stored, ended_content, ended_counts}
+use Rattle.hub_core.proofs.Ends.{unheld_sitting, ended_stored, ended_content, ended_counts}
 use Rattle.hub_core.proofs.Filing.{Offered, unheld_hub, apart_by, apart_refused, free_for, offered_row, released_node}
 use Rattle.hub_core.proofs.Marking.{ended_fits, ended_sizes}
 use Rattle.hub_core.proofs.Nodes.{chair_at}
@@ -24,8 +19,7 @@ use Rattle.hub_core.proofs.Numbers.{IsFree, part_numbered}
 use Rattle.hub_core.proofs.Opening.{opened_stored, held_up, holding_is, opened_fits}
 use Rattle.hub_core.proofs.Receiving.{received_stored, received_content, whole_is, received_fits}
 use Rattle.hub_core.proofs.Refusing.{refused_stored, refused_is, refused_fits}
-use Rattle.hub_core.proofs.Sittings.{sit_twice}
-use Rattle.hub_core.proofs.Stepping.{Stepped, counted}
+use Rattle.hub_core.proofs.Stepping.{Stepped}
 use Rattle.hub_core.proofs.Telling.{mark_len_is}
 
 pub map_twice : (f g : Stored → Stored) (c : Option Stored) → option_map f (option_map g c) ≡ option_map (λ a. f (g a)) c

@@ -1,36 +1,23 @@
 -- A file is offered to a hub's session: what it held is released, and what is done with the file is the row of its answer.
-use Rattle.std.proofs.Common.{◌≡◌, ◌≢◌, ◌⊎◌, ℕ, ◌+◌, ◌-◌, ◌<◌, ◌≤◌, max, Bool, true, false, List, [], ◌∷◌, ◌++◌, Option, Some, None, map, length, option_map, refl, sym, ◌∙◌, ap, subst, inl, inr, arith, ⊎_elim}
+use Rattle.std.proofs.Common.{◌≡◌, ℕ, Bool, true, false, Option, Some, None, refl, sym, ◌∙◌, ap, subst}
 use Rattle.ftn_addr.specs.Address.{Address}
-use Rattle.ftn_addr.specs.Files.{is_same}
 use Rattle.ftn_addr.specs.Key.{Key}
-use Rattle.ftn_addr.specs.declared.limits.TheConstants.{MAX_NUMBER}
 use Rattle.node_model.specs.declared.desk.FileIn.{FileIn}
 use Rattle.node_model.specs.declared.desk.FileIn.TheVariants as F
-use Rattle.node_model.specs.Items.{MarkOf}
 use Rattle.node_model.specs.Node.{Session, Node}
-use Rattle.node_model.specs.Rows.{FileAnswer, FileRow, FileMade, Applies, HasRoom, wanted_places, mark_length, unheld, released, refuses, reason, Refuse}
-use Rattle.node_model.specs.Calls.{Call, Answer, File_call, Filed, NodeStep, SeatCounted}
-use Rattle.node_model.specs.Sound.{Sound}
-use Rattle.node_model.specs.Stocks.{sizes}
+use Rattle.node_model.specs.Rows.{FileAnswer, FileRow, FileMade, Applies, HasRoom, wanted_places, mark_length, unheld, released, refuses}
 use Rattle.node_model.specs.Stores.{Stored, StoreState, StoreTied}
 use Rattle.node_model.specs.Stores as T
 use Rattle.node_model.proofs.Lists.{is_false, is_same_true}
-use Rattle.node_model.proofs.StepSound.{step_sound}
-use Rattle.hub_core.specs.Hubs.{Taking, Sitting, Chair, HubState, HubFits, chair_in, put_chair, with_sitting, sitting_at, session_over, hold_over, node_with}
-use Rattle.hub_core.specs.HubLaws.{session_of}
+use Rattle.hub_core.specs.Hubs.{Taking, Sitting, HubState, HubFits, chair_in, with_sitting, session_over, hold_over, node_with}
 use Rattle.hub_core.specs.Steps.{HeldBy, MayBeTaken, Judged, MayOpen, Answered, answered_state, word_of, ended, chair_holds, part_under, is_file, mark_len, places_from, taken_up, was_missed}
 use Rattle.hub_core.proofs.Breaking.{OthersApart}
-use Rattle.hub_core.proofs.Ends.{Sits, unheld_sitting, ended_stored, ended_content, ended_counts, released_is, marked_by}
+use Rattle.hub_core.proofs.Ends.{Sits, unheld_sitting, ended_stored, released_is, marked_by}
 use Rattle.hub_core.proofs.JudgeSteps.{judged_applies}
-use Rattle.hub_core.proofs.Marking.{ended_fits, ended_sizes}
-use Rattle.hub_core.proofs.Nodes.{session_is, chair_at, chair_apart, sits_at, sits_apart}
-use Rattle.hub_core.proofs.Numbers.{IsFree, part_numbered}
-use Rattle.hub_core.proofs.Opening.{opened_stored, held_up, holding_is, opened_fits}
-use Rattle.hub_core.proofs.Receiving.{received_stored, received_content, whole_is, received_fits}
-use Rattle.hub_core.proofs.Refusing.{refused_stored, refused_is, refused_fits}
+use Rattle.hub_core.proofs.Marking.{ended_fits}
+use Rattle.hub_core.proofs.Nodes.{session_is, chair_apart, sits_at, sits_apart}
+use Rattle.hub_core.proofs.Numbers.{IsFree}
 use Rattle.hub_core.proofs.Sittings.{sit_twice}
-use Rattle.hub_core.proofs.Stepping.{Stepped}
-use Rattle.hub_core.proofs.Telling.{mark_len_is}
 
 -- a session with its turn at a store that keeps this
 pub record Offered (a : Stored) (s : StoreState) (k : HubState) (seat : ℕ) (x : Sitting) : Type 0 where

@@ -1,5 +1,5 @@
 -- The first that passes a test, among some that go and one more.
-use Rattle.std.proofs.Common.{◌≡◌, ◌⊎◌, Bool, true, false, not, cond, List, [], ◌∷◌, ◌++◌, Option, Some, None, refl, sym, ◌∙◌, ap, subst, inl, inr, map}
+use Rattle.std.proofs.Common.{◌≡◌, ◌⊎◌, Bool, true, false, not, cond, List, [], ◌∷◌, ◌++◌, Some, None, refl, sym, ◌∙◌, ap, subst, inl, inr, map}
 use Rattle.node_model.specs.Lists.{Member, without, first_that}
 
 off : {X : Type 0} {b : Bool} → b ≡ true → b ≡ false → X

@@ -1,24 +1,23 @@
 -- Settling and skipping: a session's claim ends, which is a step of the hub's node.
-use Rattle.std.proofs.Common.{◌≡◌, ◌≢◌, ◌⊎◌, ℕ, ◌+◌, ◌-◌, ◌<◌, ◌≤◌, Bool, true, false, if◌then◌else◌, ◌==◌, List, [], ◌∷◌, ◌++◌, Option, Some, None, map, length, option_map, refl, sym, ◌∙◌, ap, subst, inl, inr, arith}
+use Rattle.std.proofs.Common.{◌≡◌, ◌≢◌, ℕ, ◌+◌, ◌-◌, ◌<◌, Bool, true, false, if◌then◌else◌, ◌==◌, List, [], ◌∷◌, ◌++◌, Option, Some, None, length, option_map, refl, sym, ◌∙◌, ap, subst, inl, inr, arith}
 use Rattle.ftn_addr.specs.Key.{Key}
 use Rattle.node_model.specs.declared.store.StoreFault.{StoreFault}
 use Rattle.node_model.specs.declared.store.StoreFault.TheVariants as D
-use Rattle.node_model.specs.Items.{Done, EntryOf, MarkOf}
-use Rattle.node_model.specs.Lists.{Member}
-use Rattle.node_model.specs.Durable.{Durable, DurableOf, with_done, done_entry, all_done, durable_map}
-use Rattle.node_model.specs.Desks.{Claim, HasClaim, number_in, part_after}
-use Rattle.node_model.specs.Node.{Node, Session, Logged, Done_record, with_session}
-use Rattle.node_model.specs.Rows.{by, all_by}
+use Rattle.node_model.specs.Items.{Done, EntryOf}
+use Rattle.node_model.specs.Durable.{DurableOf, with_done, done_entry, all_done}
+use Rattle.node_model.specs.Desks.{Claim, part_after}
+use Rattle.node_model.specs.Node.{Done_record, with_session}
+use Rattle.node_model.specs.Rows.{by}
 use Rattle.node_model.specs.SendRows.{GotRow, SkipRow, unclaimed, left_reserved}
-use Rattle.node_model.specs.Calls.{Call, Answer, Got_call, Skip_call, Settled, Refused, NodeStep, KnownStep, Counts, After_it}
-use Rattle.node_model.specs.Stocks.{Sizes, Stock, sizes, on_state}
+use Rattle.node_model.specs.Calls.{Call, Got_call, Skip_call, Settled, Refused, NodeStep, KnownStep, Counts, After_it}
+use Rattle.node_model.specs.Stocks.{sizes, on_state}
 use Rattle.node_model.specs.StoreWords.{KeyOf}
-use Rattle.node_model.specs.Stores.{Shelf, Stored, StoreState, StoreStand, IsShelf, stored_after, settled}
+use Rattle.node_model.specs.Stores.{Shelf, Stored, StoreState, StoreStand, stored_after, settled}
 use Rattle.node_model.proofs.StepSound.{step_sound}
 use Rattle.node_model.proofs.StockMaps.{with_done-map}
-use Rattle.hub_core.specs.Hubs.{Taking, Sitting, Chair, HubState, HubFits, SittingFits, PartFits, IfClaimed, IfHeld, IsReady, chair_in, with_sitting, sitting_at, session_over, node_with, sitting_part, seat_part, knows_over, claim_places_of}
+use Rattle.hub_core.specs.Hubs.{Taking, Sitting, Chair, HubState, HubFits, SittingFits, IfClaimed, IfHeld, IsReady, chair_in, with_sitting, sitting_at, session_over, node_with, sitting_part, seat_part, knows_over, claim_places_of}
 use Rattle.hub_core.specs.HubCalls.{HasTurn, Does, ShelfPasses}
-use Rattle.hub_core.specs.Sending.{claim_number, unclaimed_sitting, skipped_sitting}
+use Rattle.hub_core.specs.Sending.{unclaimed_sitting, skipped_sitting}
 use Rattle.hub_core.specs.Steps.{Leaves, StaysSettled, OneOf, BrokeBy, loses_none, fault_in, given_back}
 use Rattle.hub_core.proofs.BeginSteps.{one_passes}
 use Rattle.hub_core.proofs.Breaking.{same_but}

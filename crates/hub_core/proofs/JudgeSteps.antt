@@ -1,7 +1,7 @@
 -- What a hub judges of a file is the answer that applies at its node.
-use Rattle.std.proofs.Common.{◌≡◌, ◌≢◌, ◌⊎◌, ℕ, ◌+◌, ◌<◌, ◌≤◌, Bool, true, false, cond, ◌&&◌, ◌||◌, not, List, [], ◌∷◌, Option, Some, None, map, length, option_map, refl, sym, ◌∙◌, ap, subst, inl, inr, arith}
+use Rattle.std.proofs.Common.{◌≡◌, ◌⊎◌, ℕ, ◌≤◌, Bool, true, false, cond, ◌||◌, not, List, [], ◌∷◌, Option, Some, None, length, option_map, refl, sym, ◌∙◌, ap, subst, inl, inr, arith}
 use Rattle.std.specs.List.{list_any}
-use Rattle.ftn_addr.specs.Address.{Address, same_address}
+use Rattle.ftn_addr.specs.Address.{Address}
 use Rattle.ftn_addr.specs.Files.{is_same}
 use Rattle.ftn_addr.specs.Key.{Key, same_key}
 use Rattle.node_model.specs.declared.words.Known.{Known}
@@ -9,19 +9,19 @@ use Rattle.node_model.specs.declared.words.Known.TheVariants.{New, Received, Ref
 use Rattle.node_model.specs.declared.desk.FileIn.{FileIn}
 use Rattle.node_model.specs.declared.desk.FileIn.TheVariants as F
 use Rattle.node_model.specs.Items.{Mark}
-use Rattle.node_model.specs.Lists.{Member, Each, first_that}
+use Rattle.node_model.specs.Lists.{Member, Each}
 use Rattle.node_model.specs.Durable.{Durable, is_known, is_received, is_refused, marked, mark_of, bytes_of_mark}
-use Rattle.node_model.specs.Node.{Hold, Session, Node, session_at, hold_in}
-use Rattle.node_model.specs.Rows.{HeldElsewhere, Acceptable, Applies, mark_length, refuses}
+use Rattle.node_model.specs.Node.{Hold, hold_in}
+use Rattle.node_model.specs.Rows.{HeldElsewhere, Acceptable, Applies}
 use Rattle.node_model.specs.Sound.{SoundInbox}
 use Rattle.node_model.specs.Stocks.{Sizes, sizes, known_in}
 use Rattle.node_model.specs.Stores.{Stored, StoreState}
-use Rattle.node_model.proofs.Lists.{is_same_true, is_same_refl, Each-without}
+use Rattle.node_model.proofs.Lists.{is_same_true, is_same_refl}
 use Rattle.node_model.proofs.StockMaps.{known_in-map}
-use Rattle.hub_core.specs.Hubs.{Taking, Sitting, Chair, HubState, HubFits, chair_in, sitting_at, session_over, hold_over, node_with}
+use Rattle.hub_core.specs.Hubs.{Taking, Sitting, HubState, sitting_at, session_over, hold_over, node_with}
 use Rattle.hub_core.specs.HubLaws.{session_of}
-use Rattle.hub_core.specs.Steps.{HeldBy, MayBeTaken, Judged, word_of, is_new, mark_len, was_missed, sitting_holds, sits_on}
-use Rattle.hub_core.proofs.Finding.{found, Found}
+use Rattle.hub_core.specs.Steps.{HeldBy, MayBeTaken, Judged, word_of, is_new, sitting_holds, sits_on}
+use Rattle.hub_core.proofs.Finding.{found}
 use Rattle.hub_core.proofs.Telling.{mark_len_is}
 
 -- known

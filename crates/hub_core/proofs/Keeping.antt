@@ -1,14 +1,13 @@
 -- What a hub's call does is a call of a seat's desk, with what a stop may leave of it.
-use Rattle.std.proofs.Common.{◌≡◌, ◌≢◌, ◌⊎◌, ℕ, ◌<◌, ◌≤◌, Bool, true, false, List, [], ◌∷◌, Option, Some, None, refl, sym, ◌∙◌, ap, subst, inl, inr, arith, option_map, nat_lt}
+use Rattle.std.proofs.Common.{◌≡◌, ◌⊎◌, ℕ, ◌<◌, ◌≤◌, Bool, true, false, [], Option, Some, None, refl, sym, ◌∙◌, ap, subst, inl, inr, arith, option_map, nat_lt}
 use Rattle.std.proofs.lemmas.Bool.Decides.{Decides-ltb}
 use borrow.Author.Tests.{ltb-false}
 use Rattle.node_model.specs.Durable.{Durable}
-use Rattle.node_model.specs.Node.{Node}
-use Rattle.node_model.specs.Calls.{Call, Queue_call, Knock_call, Open_call, Offer_call, Read_call, Got_call, Skip_call, File_call, Data_call, Leave_call, Act_call, Give_call, StandBeside, Made_row, Answer, Caused, KnownStep, Knows, Passes, Tells, Counts_alone, Counts, counts_of}
+use Rattle.node_model.specs.Calls.{Call, Queue_call, Knock_call, Open_call, Offer_call, Read_call, Got_call, Skip_call, File_call, Data_call, Leave_call, Act_call, Give_call, StandBeside, Made_row, Answer, Caused, KnownStep, Counts, counts_of}
 use Rattle.node_model.specs.Images.{Kept, OpensTo, Settles, IsState, KnownPasses}
-use Rattle.node_model.specs.Stores.{Shelf, Stored, StoreState, StoreStand, IsShelf, OpensShelf, shelf_of}
+use Rattle.node_model.specs.Stores.{Shelf, Stored, StoreState, StoreStand, IsShelf, OpensShelf}
 use Rattle.node_model.proofs.Drifting.{drift_none}
-use Rattle.hub_core.specs.Hubs.{HubState, node_with, knows_over, hub_stand, seen, state_of, IsSettled}
+use Rattle.hub_core.specs.Hubs.{HubState, knows_over, hub_stand, seen, state_of, IsSettled}
 use Rattle.hub_core.specs.Steps.{Leaves}
 use Rattle.hub_core.specs.HubCalls.{ShelfPasses}
 

@@ -1,25 +1,23 @@
 -- A caller comes, or is turned away: a step of the hub's node.
-use Rattle.std.proofs.Common.{◌≡◌, ◌≢◌, ◌⊎◌, ℕ, zero, suc, ◌+◌, ◌<◌, ◌≤◌, Bool, true, false, cond, ◌&&◌, nat_le, count_by, List, [], ◌∷◌, Option, Some, None, map, length, option_map, refl, sym, ◌∙◌, ap, subst, inl, inr, arith}
+use Rattle.std.proofs.Common.{◌≡◌, ◌≢◌, ◌⊎◌, ℕ, ◌+◌, ◌<◌, Bool, true, false, cond, ◌&&◌, nat_le, count_by, List, Option, Some, None, map, option_map, refl, sym, ◌∙◌, ap, subst, inl, inr, arith}
 use borrow.Author.Tests.{leb-false, leb-true}
 use Rattle.ftn_addr.specs.Counts.{next_count}
 use Rattle.node_model.specs.declared.words.Role.{Role}
 use Rattle.node_model.specs.declared.words.Role.TheVariants.{Calls, Answers}
-use Rattle.node_model.specs.Items.{MarkOf}
-use Rattle.node_model.specs.Node.{Node, Session, Seat, seat_in, put_seat}
-use Rattle.node_model.specs.Rows.{answers, is_answering, answering_sessions, one_busy_more, MayCome, KnockCome, KnockBusy}
-use Rattle.node_model.specs.Calls.{Call, Answer, Knock_call, Let_in, Busy, NodeStep, Caused}
+use Rattle.node_model.specs.Node.{Seat, put_seat}
+use Rattle.node_model.specs.Rows.{answers, is_answering, answering_sessions, one_busy_more, MayCome}
+use Rattle.node_model.specs.Calls.{Knock_call, Let_in, Busy, NodeStep}
 use Rattle.node_model.specs.Stocks.{Stock}
 use Rattle.node_model.specs.Stores.{Stored, StoreState, StoreStand}
 use Rattle.node_model.proofs.StepSound.{step_sound}
-use Rattle.hub_core.specs.Hubs.{Sitting, Chair, HubState, HubFits, SittingFits, chair_in, put_chair, busier, sitting_at, session_over, seat_over, node_with, sitting_part, seat_part}
+use Rattle.hub_core.specs.Hubs.{Sitting, Chair, HubState, chair_in, busier, sitting_at, session_over, seat_over, node_with, sitting_part}
 use Rattle.hub_core.specs.HubCalls.{HasTurn, Does}
 use Rattle.hub_core.specs.HubLaws.{seat_of}
 use Rattle.hub_core.specs.Steps.{chair_answers, sitting_answers}
 use Rattle.hub_core.proofs.Chairs.{fold_map}
-use Rattle.hub_core.proofs.Nodes.{map_put, chair_at, chair_apart, node_eq}
+use Rattle.hub_core.proofs.Nodes.{map_put, chair_at, chair_apart}
 use Rattle.hub_core.proofs.Keeping.{leaves_none}
 use Rattle.hub_core.proofs.Ends.{same_content}
-use Rattle.hub_core.proofs.Stepping.{Stepped}
 use Rattle.hub_core.proofs.Sittings.{chairs_put}
 use Rattle.hub_core.proofs.Turning.{fitted_now, made_does}
 use Rattle.node_model.proofs.Lists.{decide_line}

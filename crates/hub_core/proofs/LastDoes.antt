@@ -1,34 +1,31 @@
 -- The last data of a held file comes at a hub's desk: the node has the receipt, and the hold has ended.
-use Rattle.std.proofs.Common.{◌≡◌, ◌≢◌, ◌⊎◌, ℕ, ◌+◌, ◌-◌, ◌<◌, ◌≤◌, Bool, true, false, ◌==◌, List, [], ◌∷◌, ◌++◌, Option, Some, None, map, length, option_map, refl, sym, ◌∙◌, ap, subst, inl, inr, arith, length-append}
+use Rattle.std.proofs.Common.{◌≡◌, ◌≢◌, ℕ, ◌+◌, ◌-◌, Bool, true, false, ◌==◌, List, [], ◌∷◌, ◌++◌, Option, Some, None, length, option_map, refl, sym, ◌∙◌, ap, subst, inl, arith}
 use Rattle.std.proofs.lemmas.List.{append-nil}
 use Rattle.ftn_addr.specs.Address.{Address}
-use Rattle.ftn_addr.specs.Files.{is_same}
-use Rattle.ftn_addr.specs.Key.{Key}
 use Rattle.node_model.specs.declared.store.StoreFault.{StoreFault}
 use Rattle.node_model.specs.declared.store.StoreFault.TheVariants as D
-use Rattle.node_model.specs.Items.{EntryOf, Mark, MarkOf, Receipt}
-use Rattle.node_model.specs.Lists.{Member, Each, without}
-use Rattle.node_model.specs.Durable.{Durable, with_receipt}
-use Rattle.node_model.specs.Node.{Hold, Session, Node, Logged, Received_record}
+use Rattle.node_model.specs.Items.{EntryOf, Mark, MarkOf}
+use Rattle.node_model.specs.Lists.{Member, without}
+use Rattle.node_model.specs.Durable.{with_receipt}
+use Rattle.node_model.specs.Node.{Received_record}
 use Rattle.node_model.specs.Rows.{by, DataWhole, released, receipt_of, received_record}
-use Rattle.node_model.specs.Calls.{Call, Answer, Data_call, Whole_now, Refused, Disk, NodeStep, Counts, After_it}
+use Rattle.node_model.specs.Calls.{Data_call, Whole_now, Refused, NodeStep, Counts, After_it}
 use Rattle.node_model.specs.Sound.{Sound}
-use Rattle.node_model.specs.Stocks.{Stock, Sizes, StockOf, sizes, part_in, by_part, by_some, part_committed, receipt_from, body_of}
-use Rattle.node_model.specs.Stores.{Shelf, Stored, StoreState, StoreStand, StoreTied, stored_after, with_bytes}
-use Rattle.node_model.proofs.Lists.{Each-without, Each-append}
+use Rattle.node_model.specs.Stocks.{Stock, Sizes, part_in, by_part, by_some, part_committed, receipt_from, body_of}
+use Rattle.node_model.specs.Stores.{Stored, StoreState, StoreStand, StoreTied, stored_after, with_bytes}
 use Rattle.node_model.proofs.StepSound.{step_sound}
 use Rattle.node_model.proofs.StockMaps.{by_part-map, part_committed-map}
 use Rattle.hub_core.specs.Hubs.{Taking, Sitting, HubState, HubFits, SittingFits, IfClaimed, IfHeld, PartFits, with_sitting, sitting_at, session_over, hold_over, hold_places_of, node_with, taken_part}
 use Rattle.hub_core.specs.HubCalls.{HasTurn, Does}
 use Rattle.hub_core.specs.HubLaws.{HeldTold, held_part}
-use Rattle.hub_core.specs.Steps.{Leaves, StaysSettled, OneOf, BrokeBy, is_part, part_under, whole_taking, hold_received, put_received, fault_in}
+use Rattle.hub_core.specs.Steps.{Leaves, StaysSettled, OneOf, BrokeBy, is_part, part_under, put_received, fault_in}
 use Rattle.hub_core.proofs.Breaking.{same_but}
-use Rattle.hub_core.proofs.Data.{put_stored, parts_apart, put_told, put_body, put_sizes, fits_same, put_from}
+use Rattle.hub_core.proofs.Data.{put_stored, parts_apart, put_sizes, fits_same, put_from}
 use Rattle.hub_core.proofs.DataSteps.{TakesData, data_held, data_told, node_hold}
 use Rattle.hub_core.proofs.Ends.{unheld_sitting}
 use Rattle.hub_core.proofs.FileDoes.{placed_at}
 use Rattle.hub_core.proofs.FileFails.{given_as}
-use Rattle.hub_core.proofs.FileSteps.{busy_put, reads_put, map_twice}
+use Rattle.hub_core.proofs.FileSteps.{busy_put, reads_put}
 use Rattle.hub_core.proofs.Finding.{left_there}
 use Rattle.hub_core.proofs.Keeping.{leaves_as}
 use Rattle.hub_core.proofs.MoreDoes.{takes_data, data_passes, data_away, data_part}

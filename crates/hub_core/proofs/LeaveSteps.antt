@@ -1,30 +1,28 @@
 -- Leaving: a session ends at its store, which is a step of the hub's node.
 use Rattle.std.proofs.Common.{◌≡◌, ◌≢◌, ◌⊎◌, ℕ, ◌+◌, ◌-◌, ◌≤◌, ◌<◌, List, [], ◌∷◌, ◌++◌, Option, Some, None, map, length, option_map, refl, sym, ◌∙◌, ap, subst, inl, inr, arith}
 use Rattle.ftn_addr.specs.Address.{Address}
-use Rattle.node_model.specs.Items.{MarkOf, Mark}
-use Rattle.node_model.specs.Lists.{Member}
-use Rattle.node_model.specs.Node.{Node, Session, Seat}
-use Rattle.node_model.specs.Rows.{released, left_by, LeaveRow, LeaveOpen}
+use Rattle.node_model.specs.Items.{Mark}
+use Rattle.node_model.specs.Node.{Node}
+use Rattle.node_model.specs.Rows.{left_by, LeaveRow}
 use Rattle.node_model.specs.declared.store.StoreFault.{StoreFault}
 use Rattle.node_model.specs.declared.store.StoreFault.TheVariants as D
-use Rattle.node_model.specs.Calls.{Call, Leave_call, Settled, Refused, NodeStep, Counts, After_it}
-use Rattle.node_model.specs.Sound.{Sound}
-use Rattle.node_model.specs.Stocks.{Stock, StockOf, part_in, by_part, part_marked, sizes}
+use Rattle.node_model.specs.Calls.{Leave_call, Settled, Refused, NodeStep, Counts, After_it}
+use Rattle.node_model.specs.Stocks.{part_in}
 use Rattle.node_model.specs.Stores.{Shelf, Stored, StoreState, StoreStand, StoreTied, IsShelf, stored_after}
 use Rattle.node_model.specs.Stores as T
 use Rattle.node_model.proofs.StepSound.{step_sound}
-use Rattle.hub_core.specs.Hubs.{Taking, Sitting, Chair, HubState, HubFits, SittingFits, PartFits, chair_in, put_chair, with_sitting, sitting_at, session_over, node_with, hold_places_of, claim_places_of, sitting_part}
+use Rattle.hub_core.specs.Hubs.{Taking, Sitting, Chair, HubState, SittingFits, chair_in, with_sitting, sitting_at, session_over, node_with, hold_places_of, claim_places_of, sitting_part}
 use Rattle.node_model.specs.Desks.{part_after}
 use Rattle.hub_core.specs.HubCalls.{ShelfPasses, HasTurn, Does}
-use Rattle.hub_core.specs.Steps.{Leaves, StaysSettled, OneOf, BrokeBy, loses_none, fault_in, ended, left_state, part_under}
+use Rattle.hub_core.specs.Steps.{Leaves, StaysSettled, OneOf, BrokeBy, loses_none, fault_in, left_state, part_under}
 use Rattle.hub_core.proofs.Keeping.{leaves_as, leaves_none}
-use Rattle.hub_core.proofs.Breaking.{SameBut, same_but}
+use Rattle.hub_core.proofs.Breaking.{same_but}
 use Rattle.hub_core.proofs.Sittings.{given_still}
 use Rattle.hub_core.proofs.Turning.{fitted_now, sits_now, before_passes, made_does, broken_does}
 use Rattle.hub_core.proofs.Nodes.{seats_put, session_same, session_is, node_eq, sittings_put, OthersStay, chair_at, sits_at}
-use Rattle.hub_core.proofs.Ends.{Sits, unheld_sitting, marked_stored, ended_stored, ended_content, ended_counts, same_content, released_is}
+use Rattle.hub_core.proofs.Ends.{Sits, marked_stored, ended_stored, ended_content, ended_counts, same_content, released_is}
 use Rattle.hub_core.proofs.Marking.{by_part_parts, ended_fits, ended_parts, ended_queue, sitting_stays}
-use Rattle.hub_core.proofs.Stepping.{Stepped, counted, passes_by}
+use Rattle.hub_core.proofs.Stepping.{Stepped, passes_by}
 use Rattle.hub_core.specs.HubLaws.{session_of}
 
 pub ended_stored_parts : (a : Stored) (s : StoreState) (from : Address) (o : Option Taking) → (ended_stored from o s a).stock.parts ≡ a.stock.parts

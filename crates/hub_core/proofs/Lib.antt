@@ -30,6 +30,7 @@ pub mod OfferSteps
 pub mod OpenParts
 pub mod Opening
 pub mod Putting
+pub mod QueuedStores
 pub mod ReadSteps
 pub mod Ready
 pub mod Receiving

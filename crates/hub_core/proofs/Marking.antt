@@ -1,12 +1,11 @@
 -- What fits a store goes on to fit it once a part was marked.
-use Rattle.std.proofs.Common.{◌≡◌, ◌≢◌, ◌⊎◌, ℕ, Bool, true, false, if◌then◌else◌, ◌==◌, List, [], ◌∷◌, ◌++◌, Option, Some, None, map, length, option_map, refl, sym, ◌∙◌, ap, subst, arith}
+use Rattle.std.proofs.Common.{◌≡◌, ℕ, Bool, true, false, ◌==◌, List, Option, Some, None, length, refl, sym, ◌∙◌, ap, subst}
 use Rattle.ftn_addr.specs.Address.{Address}
 use Rattle.ftn_addr.specs.Files.{is_same}
 use Rattle.ftn_addr.specs.Key.{Key}
-use Rattle.node_model.specs.Items.{EntryOf, Mark, MarkOf, Receipt}
-use Rattle.node_model.specs.Lists.{Member, Each}
+use Rattle.node_model.specs.Items.{EntryOf, Mark, MarkOf}
+use Rattle.node_model.specs.Lists.{Member}
 use Rattle.node_model.specs.Durable.{Durable, with_mark, unmarked}
-use Rattle.node_model.specs.Node.{Node, Session}
 use Rattle.node_model.specs.Rows.{released}
 use Rattle.node_model.specs.Sound.{Sound}
 use Rattle.node_model.specs.Stocks.{Stock, Sizes, StockOf, sizes, part_in, part_of, by_part, part_marked}
@@ -17,7 +16,7 @@ use Rattle.node_model.proofs.Marks.{Each-placed}
 use Rattle.node_model.proofs.Seats.{fits, sound}
 use Rattle.node_model.proofs.Leaving.{released_fits}
 use Rattle.node_model.proofs.StockMaps.{by_part-map, part_marked-map}
-use Rattle.hub_core.specs.Hubs.{Taking, Sitting, HubState, IfClaimed, IfHeld, HoldFits, SittingFits, PartFits, HubFits, Fitted, with_sitting, sitting_at, session_over, node_with}
+use Rattle.hub_core.specs.Hubs.{Taking, Sitting, HubState, IfClaimed, IfHeld, SittingFits, PartFits, HubFits, with_sitting, session_over, node_with}
 use Rattle.hub_core.specs.Steps.{part_under, ended}
 use Rattle.hub_core.proofs.Finding.{found}
 use Rattle.hub_core.proofs.OpenParts.{one_part}

@@ -1,28 +1,25 @@
 -- Data comes at a hub's desk, and more is to come: what the call is told by.
-use Rattle.std.proofs.Common.{◌≡◌, ◌≢◌, ◌⊎◌, ℕ, ◌+◌, ◌-◌, ◌<◌, ◌≤◌, Bool, true, false, ◌==◌, List, [], ◌∷◌, ◌++◌, Option, Some, None, map, length, option_map, refl, sym, ◌∙◌, ap, subst, inl, inr, arith, ⊎_elim, length-append}
+use Rattle.std.proofs.Common.{◌≡◌, ◌≢◌, ℕ, ◌+◌, ◌-◌, ◌<◌, Bool, true, false, ◌==◌, List, [], ◌∷◌, Option, Some, None, length, option_map, refl, sym, ◌∙◌, ap, subst, inl, inr, arith}
 use Rattle.ftn_addr.specs.Address.{Address}
-use Rattle.ftn_addr.specs.Key.{Key}
 use Rattle.node_model.specs.declared.store.StoreFault.{StoreFault}
 use Rattle.node_model.specs.declared.store.StoreFault.TheVariants as D
-use Rattle.node_model.specs.Items.{EntryOf, Mark, MarkOf}
+use Rattle.node_model.specs.Items.{EntryOf, MarkOf}
 use Rattle.node_model.specs.Lists.{Member}
-use Rattle.node_model.specs.Node.{Hold, Session, Node, session_at, hold_in}
-use Rattle.node_model.specs.Rows.{DataMore, grown, at_stride, holding_more}
+use Rattle.node_model.specs.Rows.{DataMore, grown}
 use Rattle.node_model.specs.Calls.{Call, Answer, Data_call, More, Refused, Disk, NodeStep, Counts, After_it}
 use Rattle.node_model.specs.Desks.{part_after, less}
-use Rattle.node_model.specs.Talk.{Part}
 use Rattle.node_model.specs.Sound.{Sound}
-use Rattle.node_model.specs.Stocks.{Stock, sizes, part_in}
+use Rattle.node_model.specs.Stocks.{Stock, part_in}
 use Rattle.node_model.specs.Stores.{Shelf, Stored, StoreState, StoreStand, StoreTied, IsShelf, with_bytes}
 use Rattle.node_model.proofs.StepSound.{step_sound}
-use Rattle.hub_core.specs.Hubs.{Taking, Sitting, Chair, HubState, HubFits, SittingFits, HoldFits, IfClaimed, IfHeld, PartFits, with_sitting, sitting_at, session_over, hold_over, node_with, seat_part, sitting_part, taken_part, unless_dropped}
+use Rattle.hub_core.specs.Hubs.{Taking, Sitting, HubState, HubFits, SittingFits, IfClaimed, IfHeld, PartFits, with_sitting, sitting_at, session_over, hold_over, node_with, seat_part, sitting_part, taken_part, unless_dropped}
 use Rattle.hub_core.specs.HubCalls.{ShelfPasses, HasTurn, Does}
 use Rattle.hub_core.specs.HubLaws.{HeldTold}
 use Rattle.hub_core.specs.Steps.{Leaves, StaysSettled, OneOf, BrokeBy, is_part, part_under, more_taking, reaches, put_marked, fault_in}
 use Rattle.hub_core.proofs.Breaking.{OthersApart, same_but}
 use Rattle.hub_core.proofs.Data.{put_stored, parts_apart, put_told, put_sizes, put_marked_is, stride_is, fits_same, put_from}
 use Rattle.hub_core.proofs.DataSteps.{TakesData, data_held, data_told, node_hold, more_stored, grown_taking, grown_sitting, more_node, more_at}
-use Rattle.hub_core.proofs.Ends.{Sits, marked_by, marked_stored, marked_content, stock_marked}
+use Rattle.hub_core.proofs.Ends.{marked_by, marked_stored, marked_content, stock_marked}
 use Rattle.hub_core.proofs.FileSteps.{busy_put, reads_put, map_twice}
 use Rattle.hub_core.proofs.FileFails.{given_as}
 use Rattle.hub_core.proofs.Finding.{found}

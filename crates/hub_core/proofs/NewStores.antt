@@ -1,5 +1,5 @@
 -- A new store in memory fits a new hub.
-use Rattle.std.proofs.Common.{None, refl, subst, sym}
+use Rattle.std.proofs.Common.{refl, subst, sym}
 use Rattle.node_model.specs.Node.{Settings, blank}
 use Rattle.node_model.specs.Stores.{OpensShelf, IsShelf}
 use Rattle.node_model.proofs.Lives.{blank_sound}

@@ -1,12 +1,9 @@
 -- The node of a hub, part by part: its seats over another stock, and a node with other parts.
 use Rattle.std.proofs.Common.{◌≡◌, ◌≢◌, ℕ, zero, suc, ◌<◌, List, [], ◌∷◌, Option, Some, None, map, length, option_map, refl, sym, ◌∙◌, ap, subst, slice_set, arith, ⊎_elim}
 use Rattle.node_model.proofs.Lists.{decide_line}
-use Rattle.ftn_addr.specs.Address.{Address}
-use Rattle.node_model.specs.Durable.{Durable}
-use Rattle.node_model.specs.Node.{Hold, Session, Seat, Settings, Node, Logged, empty_seat, seat_in, put_seat, session_at}
-use Rattle.node_model.specs.Stocks.{Stock, body_of, part_in, bytes_of_part}
+use Rattle.node_model.specs.Node.{Hold, Session, Seat, Node, empty_seat, seat_in, put_seat, session_at}
+use Rattle.node_model.specs.Stocks.{Stock, part_in, bytes_of_part}
 use Rattle.node_model.specs.Stores.{Stored, StoreState}
-use Rattle.node_model.specs.Items.{Mark}
 use Rattle.hub_core.specs.declared.places.Place.{Place}
 use Rattle.hub_core.specs.Hubs.{Taking, Sitting, Chair, HubState, chair_of, chair_in, put_chair, with_sitting, sitting_at, hold_over, session_over, seat_over, node_with}
 use Rattle.hub_core.specs.HubLaws.{seat_of, session_of}

@@ -1,21 +1,21 @@
 -- The number under which a part is opened is its file's own, or one that nothing has.
-use Rattle.std.proofs.Common.{◌≡◌, ◌≢◌, ◌⊎◌, ℕ, ◌+◌, ◌<◌, ◌≤◌, Bool, true, false, cond, ◌==◌, List, [], ◌∷◌, ◌++◌, Option, Some, None, map, length, option_map, refl, sym, ◌∙◌, ap, subst, inl, inr, arith, ⊎_elim}
+use Rattle.std.proofs.Common.{◌≡◌, ◌≢◌, ℕ, ◌+◌, ◌≤◌, Bool, true, false, cond, ◌==◌, List, [], ◌∷◌, Option, Some, None, length, option_map, refl, sym, ◌∙◌, ap, subst, inl, inr, arith, ⊎_elim}
 use Rattle.ftn_addr.specs.Address.{Address}
 use Rattle.ftn_addr.specs.Files.{is_same}
 use Rattle.ftn_addr.specs.Key.{Key}
 use Rattle.ftn_addr.specs.declared.limits.TheConstants.{MAX_NUMBER}
 use Rattle.node_model.specs.Items.{Mark, MarkOf, Receipt}
 use Rattle.node_model.specs.Lists.{Member, Each, first_that}
-use Rattle.node_model.specs.Durable.{Durable, mark_of, mark_map, unmarked}
-use Rattle.node_model.specs.Node.{Hold, Session, Node, session_at, hold_in}
+use Rattle.node_model.specs.Durable.{mark_of, mark_map, unmarked}
+use Rattle.node_model.specs.Node.{Hold, Node, session_at, hold_in}
 use Rattle.node_model.specs.Rows.{PartNumber}
-use Rattle.node_model.specs.Stocks.{StockOf, Sizes, sizes, part_in, part_of, next_part, part_number, part_opened, begins_with}
+use Rattle.node_model.specs.Stocks.{StockOf, part_in, part_of, next_part, part_number, part_opened, begins_with}
 use Rattle.node_model.specs.Stores.{Stored, StoreState, StoreTied}
-use Rattle.node_model.proofs.Lists.{is_same_true, is_same_at, is_same_refl, decide_line}
-use Rattle.hub_core.specs.Hubs.{Taking, Sitting, HubState, HubFits, PartFits, IfHeld, sitting_at, session_over, hold_over, node_with}
-use Rattle.hub_core.specs.HubLaws.{session_of, parts_are}
+use Rattle.node_model.proofs.Lists.{is_same_true, is_same_at, decide_line}
+use Rattle.hub_core.specs.Hubs.{Taking, Sitting, HubState, HubFits, IfHeld, sitting_at, session_over, hold_over, node_with}
+use Rattle.hub_core.specs.HubLaws.{session_of}
 use Rattle.hub_core.specs.Steps.{part_under, is_file}
-use Rattle.hub_core.proofs.Finding.{found, Found, first-none, first-push_own, left_there}
+use Rattle.hub_core.proofs.Finding.{found, first-none, first-push_own, left_there}
 use Rattle.hub_core.proofs.OpenParts.{one_part, same_number, number_apart}
 use Rattle.hub_core.proofs.Telling.{marks_are}
 use Rattle.hub_core.proofs.Breaking.{OthersApart}

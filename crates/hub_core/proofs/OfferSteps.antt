@@ -1,5 +1,5 @@
 -- Offering: the next entry is claimed, which is a step of the hub's node, or there is none.
-use Rattle.std.proofs.Common.{◌≡◌, ◌≢◌, ◌⊎◌, ℕ, ◌+◌, ◌<◌, ◌≤◌, Bool, true, false, List, [], ◌∷◌, Option, Some, None, map, length, option_map, refl, sym, ◌∙◌, ap, subst, inl, inr, arith, Ok}
+use Rattle.std.proofs.Common.{◌≡◌, ℕ, ◌+◌, false, List, [], ◌∷◌, Option, Some, None, option_map, refl, sym, ◌∙◌, ap, subst, inl, Ok}
 use Rattle.ftn_addr.specs.Key.{Key, key_of}
 use Rattle.ftn_addr.specs.Limits.{IsKey}
 use Rattle.node_model.specs.declared.desk.Offer.{Offer}
@@ -8,15 +8,15 @@ use Rattle.node_model.specs.declared.store.StoreFault.{StoreFault}
 use Rattle.node_model.specs.declared.store.StoreFault.TheVariants as D
 use Rattle.node_model.specs.Items.{MarkOf, Entry}
 use Rattle.node_model.specs.Desks.{Claim, part_after, offer_answer}
-use Rattle.node_model.specs.Node.{Node, Session, with_session}
-use Rattle.node_model.specs.SendRows.{OfferFile, OfferNothing, OfferFull}
-use Rattle.node_model.specs.Calls.{Call, Answer, Offer_call, Offered, Nothing, Refused, Full, No_memory, NodeStep, Counts, Logs}
+use Rattle.node_model.specs.Node.{with_session}
+use Rattle.node_model.specs.SendRows.{OfferNothing, OfferFull}
+use Rattle.node_model.specs.Calls.{Offer_call, Offered, Nothing, Refused, Full, No_memory, NodeStep, Counts, Logs}
 use Rattle.node_model.specs.Stocks.{part_in}
-use Rattle.node_model.specs.Stores.{Shelf, Stored, StoreState, StoreStand, StoreCall, Reserve, StoreAnswer, Staged_as, Slots, Part_opened, Came, Well, Refuses, StoreDoes, StoreMade, StorePasses, Before_it, After_it, BreaksStore, PartsStay, MayLose, TellsOn, IsShelf, shelf_of}
+use Rattle.node_model.specs.Stores.{Shelf, Stored, StoreState, StoreStand, StoreCall, Reserve, StoreAnswer, Staged_as, Copied_as, Slots, Part_opened, Came, Gave_so, Acted_on, Well, Refuses, StoreDoes, StoreMade, StorePasses, Before_it, Source_first, After_it, BreaksStore, PartsStay, MayLose, TellsOn, IsShelf, shelf_of}
 use Rattle.node_model.proofs.StepSound.{step_sound}
 use Rattle.hub_core.specs.Hubs.{Sitting, Chair, HubState, HubFits, SittingFits, chair_in, with_sitting, sitting_at, session_over, node_with, sitting_part, seat_part}
 use Rattle.hub_core.specs.HubCalls.{HasTurn, Does}
-use Rattle.hub_core.specs.Sending.{NextOf, OffersFile, OffersNothing, Offers, OffersFull, claimed_sitting}
+use Rattle.hub_core.specs.Sending.{OffersFile, OffersNothing, Offers, OffersFull, claimed_sitting}
 use Rattle.hub_core.specs.Steps.{Leaves, StaysSettled, OneOf, RefusedBy, Broke, Stays, LacksOne, loses_none, fault_in, counted_full, reserved_more}
 use Rattle.hub_core.proofs.BeginSteps.{full_fits, full_caused, one_passes}
 use Rattle.hub_core.proofs.Breaking.{same_but}
@@ -50,10 +50,14 @@ reserved_content s new n (Staged_as number) does = absurd does
 reserved_content s new n (Slots slots) does = absurd does
 reserved_content s new n (Part_opened number len) does = absurd does
 reserved_content s new n (Came bytes) does = absurd does
+reserved_content s new n (Copied_as staged) does = absurd does
+reserved_content s new n (Gave_so gave) does = absurd does
+reserved_content s new n (Acted_on number) does = absurd does
 reserved_content s new n (Refuses fault) does = absurd does
 
 reserve_passes : (s : StoreState) (n : ℕ) (d : Shelf) → StorePasses s (Reserve n) d → OneOf (s.content ∷ []) d
 reserve_passes s n d (Before_it is) = inl is
+reserve_passes s n d (Source_first first) = absurd first
 reserve_passes s n d (After_it answer new does is) =
     inl (subst (λ (c : Option Stored). IsShelf c d) (reserved_content s new n answer does) is)
 

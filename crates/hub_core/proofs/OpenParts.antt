@@ -1,17 +1,15 @@
 -- Open parts after another part was opened, put to, marked, closed or refused.
-use Rattle.std.proofs.Common.{◌≡◌, ◌≢◌, ◌⊎◌, ℕ, ◌+◌, ◌≤◌, Bool, true, false, not, cond, ◌==◌, List, [], ◌∷◌, ◌++◌, Option, Some, None, refl, sym, ◌∙◌, ap, subst, inl, inr, ⊎_elim, arith, map, length, option_map}
+use Rattle.std.proofs.Common.{◌≡◌, ◌≢◌, ℕ, Bool, true, false, ◌==◌, List, [], Some, refl, sym, ◌∙◌, ap, subst, length}
 use Rattle.std.proofs.lemmas.Bool.Decides.{Decides-eqb}
 use Rattle.ftn_addr.specs.Address.{Address}
 use Rattle.ftn_addr.specs.Files.{is_same}
 use Rattle.ftn_addr.specs.Key.{Key}
 use Rattle.node_model.specs.Items.{Mark, MarkOf}
-use Rattle.node_model.specs.Lists.{Member, without, first_that}
+use Rattle.node_model.specs.Lists.{Member}
 use Rattle.node_model.specs.Durable.{mark_map, unmarked}
-use Rattle.node_model.specs.Stocks.{StockOf, Sizes, Stock, sizes, part_in, part_of, part_opened}
+use Rattle.node_model.specs.Stocks.{StockOf, sizes, part_in, part_opened}
 use Rattle.node_model.specs.Stores.{Stored, StoreState, StoreTied}
-use Rattle.node_model.proofs.Lists.{decide_line}
-use Rattle.node_model.proofs.StockMaps.{part_in-map, first-map}
-use Rattle.hub_core.proofs.Finding.{first-without, first-push_other, first-push_own, first-none, found, member_map}
+use Rattle.hub_core.proofs.Finding.{first-without, first-push_other, member_map}
 use Rattle.hub_core.specs.HubLaws.{parts_are}
 
 pub same_number : (m n : ℕ) → (m == n) ≡ true → m ≡ n

@@ -1,20 +1,20 @@
 -- A part is opened for a session: the node of its hub holds the file.
-use Rattle.std.proofs.Common.{◌≡◌, ◌≢◌, ◌⊎◌, ℕ, ◌+◌, ◌<◌, ◌≤◌, max, Bool, true, false, ◌==◌, List, [], ◌∷◌, ◌++◌, Option, Some, None, map, length, option_map, refl, sym, ◌∙◌, ap, subst, inl, inr, arith}
+use Rattle.std.proofs.Common.{◌≡◌, ◌≢◌, ◌⊎◌, ℕ, ◌+◌, Bool, true, false, ◌==◌, List, [], Option, Some, None, length, refl, sym, ◌∙◌, ap, subst, inl, inr, arith}
 use Rattle.std.proofs.lemmas.List.{append-nil}
 use Rattle.ftn_addr.specs.Address.{Address}
 use Rattle.ftn_addr.specs.Files.{is_same}
 use Rattle.ftn_addr.specs.Key.{Key}
-use Rattle.node_model.specs.Items.{Mark, MarkOf, Receipt}
-use Rattle.node_model.specs.Lists.{Member, Each}
+use Rattle.node_model.specs.Items.{Mark, MarkOf}
+use Rattle.node_model.specs.Lists.{Member}
 use Rattle.node_model.specs.Durable.{Durable, marked, mark_of, unmarked}
-use Rattle.node_model.specs.Node.{Hold, Session, Seat, Node, session_at, hold_in}
+use Rattle.node_model.specs.Node.{Hold, Session, session_at, hold_in}
 use Rattle.node_model.specs.Rows.{holding, hold_from}
 use Rattle.node_model.specs.Sound.{Sound}
-use Rattle.node_model.specs.Stocks.{Stock, Sizes, sizes, part_in, part_number, part_opened, body_of, bytes_of_part, begins_with}
-use Rattle.node_model.specs.Stores.{Stored, StoreState, StoreTied, stored_after}
+use Rattle.node_model.specs.Stocks.{Sizes, sizes, part_in, part_number, part_opened, body_of, bytes_of_part}
+use Rattle.node_model.specs.Stores.{Stored, StoreState, stored_after}
 use Rattle.node_model.proofs.StockMaps.{part_opened-map}
-use Rattle.hub_core.specs.Hubs.{Taking, Sitting, Chair, HubState, HubFits, SittingFits, PartFits, HoldFits, IfHeld, with_sitting, sitting_at, session_over, hold_over, node_with}
-use Rattle.hub_core.specs.Steps.{opened_under, taken_up, part_under, mark_len, is_file}
+use Rattle.hub_core.specs.Hubs.{Taking, Sitting, HubState, HubFits, SittingFits, PartFits, IfHeld, with_sitting, sitting_at, session_over, node_with}
+use Rattle.hub_core.specs.Steps.{opened_under, taken_up, part_under, is_file}
 use Rattle.hub_core.proofs.Finding.{found, pushed, left_there}
 use Rattle.hub_core.proofs.OpenParts.{other_opened, one_part, number_of}
 use Rattle.hub_core.proofs.Nodes.{seats_put, session_same, session_is, node_eq, sittings_put, OthersStay, sits_at}

@@ -1,5 +1,5 @@
 -- Parts and failures once bytes were put behind a part.
-use Rattle.std.proofs.Common.{◌≡◌, ◌≢◌, ◌⊎◌, ℕ, ◌+◌, ◌≤◌, Bool, true, false, cond, ◌==◌, List, [], ◌∷◌, ◌++◌, Option, Some, None, refl, sym, ◌∙◌, ap, subst, inl, inr, length, map, option_map}
+use Rattle.std.proofs.Common.{◌≡◌, ◌≢◌, ℕ, ◌+◌, ◌≤◌, Bool, true, false, cond, ◌==◌, List, [], ◌∷◌, ◌++◌, Option, Some, None, refl, sym, ◌∙◌, ap, subst, inl, inr, length, map, option_map}
 use Rattle.std.proofs.lemmas.List.{append-nil}
 use Rattle.node_model.specs.declared.store.StoreFault.{StoreFault}
 use Rattle.node_model.specs.declared.store.StoreFault.TheVariants as D
@@ -7,7 +7,7 @@ use Rattle.node_model.specs.Items.{MarkOf}
 use Rattle.node_model.specs.Lists.{Member, first_that}
 use Rattle.node_model.specs.Node.{Logged}
 use Rattle.node_model.specs.Calls.{Logs}
-use Rattle.node_model.specs.Stocks.{StockOf, part_in, part_put, put_part}
+use Rattle.node_model.specs.Stocks.{part_in, part_put, put_part}
 use Rattle.node_model.specs.Stores.{Shelf, Stored, StoreState, TellsOn, IsShelf, shelf_of, stored_after, with_bytes}
 use Rattle.hub_core.specs.Steps.{Broke, BrokeBy, OneOf, Stays, is_part, Holds, whole_taking, hold_received, put_received, put_marked, reaches, marked_if, loses_none, more_taking, part_under}
 use Rattle.hub_core.specs.Hubs.{Taking}

@@ -1,33 +1,31 @@
 -- Reading: bytes of the claimed entry are read, or the read fails, which its seat counts.
-use Rattle.std.proofs.Common.{◌≡◌, ◌≢◌, ◌⊎◌, ℕ, suc, ◌+◌, ◌-◌, ◌<◌, ◌≤◌, min, Bool, true, false, ◌==◌, List, [], ◌∷◌, Option, Some, None, map, length, option_map, slice_index_or, take, drop, refl, sym, ◌∙◌, ap, subst, inl, inr, arith, Ok, Err}
+use Rattle.std.proofs.Common.{◌≡◌, ◌≢◌, ◌⊎◌, ℕ, suc, ◌<◌, true, false, ◌==◌, List, [], ◌∷◌, Option, Some, None, map, length, option_map, slice_index_or, take, drop, refl, sym, ◌∙◌, ap, subst, inl, inr}
 use Rattle.std.specs.Vec.{with_item}
-use Rattle.ftn_addr.specs.Counts.{Increased, next_count}
+use Rattle.ftn_addr.specs.Counts.{next_count}
 use Rattle.ftn_addr.specs.Key.{Key}
-use Rattle.node_model.specs.declared.store.StoreFault.{StoreFault}
 use Rattle.node_model.specs.declared.store.StoreFault.TheVariants as D
-use Rattle.node_model.specs.Items.{BodyOf, Body, Live, Done, Entry, EntryOf}
+use Rattle.node_model.specs.Items.{Live, Entry, EntryOf}
 use Rattle.node_model.specs.Lists.{Member, Each}
 use Rattle.node_model.specs.Durable.{body_map, entry_map}
-use Rattle.node_model.specs.Desks.{Claim, HasClaim, size_in, number_in}
-use Rattle.node_model.specs.Node.{Node, Session, Seat, seat_in, put_seat, session_at, claim_in}
+use Rattle.node_model.specs.Desks.{Claim, HasClaim, size_in}
+use Rattle.node_model.specs.Node.{Seat, put_seat, claim_in}
 use Rattle.node_model.specs.SendRows.{ReadRow}
-use Rattle.node_model.specs.Calls.{Call, Answer, Read_call, Came, Refused, Disk, Read, NodeStep, KnownStep, Counts, Caused, one_read_more}
+use Rattle.node_model.specs.Calls.{Read_call, Came, Refused, Disk, Read, NodeStep, KnownStep, Counts, one_read_more}
 use Rattle.node_model.specs.Sound.{FitsKey, ClaimOk}
-use Rattle.node_model.specs.Stocks.{Sizes, sizes}
+use Rattle.node_model.specs.Stocks.{Sizes}
 use Rattle.node_model.specs.StoreWords.{KeyOf}
 use Rattle.node_model.specs.StoreWords as W
-use Rattle.node_model.specs.Stores.{Shelf, Stored, StoreState, StoreStand, StoreCall, Read_source, IfTold, IsLive, Source, StoreAnswer, Staged_as, Slots, Part_opened, Well, Refuses, StoreDoes, StoreMade, StorePasses, Before_it, After_it, IsShelf}
-use Rattle.node_model.specs.Stores as T
+use Rattle.node_model.specs.Stores.{Stored, StoreState, StoreStand, IfTold, IsLive, Source}
 use Rattle.node_model.proofs.Lists.{Each-member, off}
 use Rattle.node_model.proofs.Distinct.{find_none}
 use Rattle.node_model.proofs.StepSound.{step_sound}
 use Rattle.hub_core.specs.declared.places.Place.{Place}
 use Rattle.hub_core.specs.declared.places.Seats.{Seats}
-use Rattle.hub_core.specs.Hubs.{Sitting, Chair, HubState, HubFits, Fitted, SittingFits, IfClaimed, IsSettled, chair_of, chair_in, put_chair, hub_state, sitting_at, session_over, seat_over, node_with, knows_over, sitting_part, seat_part}
+use Rattle.hub_core.specs.Hubs.{Sitting, Chair, HubState, HubFits, Fitted, IfClaimed, chair_of, chair_in, put_chair, hub_state, sitting_at, session_over, seat_over, node_with, knows_over, sitting_part, seat_part}
 use Rattle.hub_core.specs.HubCalls.{HasTurn, Does}
-use Rattle.hub_core.specs.HubLaws.{session_of, seat_of}
+use Rattle.hub_core.specs.HubLaws.{seat_of}
 use Rattle.hub_core.specs.Sending.{ReadsBytes, ReadFailed, ReadRefused, read_once_more, claimed_at, number_of}
-use Rattle.hub_core.specs.Steps.{Leaves, StaysSettled, OneOf, Broke, loses_none}
+use Rattle.hub_core.specs.Steps.{Leaves, StaysSettled, OneOf, loses_none}
 use Rattle.hub_core.proofs.BeginSteps.{one_passes}
 use Rattle.hub_core.proofs.Breaking.{same_but}
 use Rattle.hub_core.proofs.Candidates.{one_entry, entry_told}
@@ -38,7 +36,6 @@ use Rattle.hub_core.proofs.Keeping.{leaves_as}
 use Rattle.hub_core.proofs.Marking.{sitting_stays}
 use Rattle.hub_core.proofs.Nodes.{put_is_set, map_put, session_is, chair_at, chair_apart}
 use Rattle.hub_core.proofs.OpenParts.{same_number, number_same}
-use Rattle.hub_core.proofs.OfferSteps.{breaks_to}
 use Rattle.hub_core.proofs.Sittings.{chairs_put}
 use Rattle.hub_core.proofs.Stepping.{Stepped}
 use Rattle.hub_core.proofs.Turning.{fitted_now, made_does, broken_does}

@@ -1,13 +1,13 @@
 -- What a ready desk knows of its session: what it holds is open with places reserved, as the store's calls want it.
 use Rattle.std.proofs.Common.{◌≡◌, ◌≢◌, ℕ, zero, suc, ◌+◌, ◌-◌, ◌<◌, ◌≤◌, List, [], ◌∷◌, Option, Some, None, length, map, refl, sym, ◌∙◌, ap, subst, arith}
 use Rattle.ftn_addr.specs.Address.{Address}
-use Rattle.node_model.specs.Node.{Hold, Session, Seat, Node, seat_in, session_at, hold_in}
-use Rattle.node_model.specs.Sound.{Sound, places_of, places_in, all_places}
-use Rattle.node_model.specs.Stores.{Stored, StoreState, StoreStand, StoreTied}
+use Rattle.node_model.specs.Node.{Hold, Seat, Node, seat_in, session_at}
+use Rattle.node_model.specs.Sound.{places_of, places_in, all_places}
+use Rattle.node_model.specs.Stores.{Stored, StoreState, StoreTied}
 use Rattle.hub_core.specs.Hubs.{Taking, Sitting, HubState, HubFits, Fitted, IfHeld, HoldFits, IsReady, sitting_at, session_over, node_with, claim_places_of, hold_places_of}
 use Rattle.hub_core.specs.Steps.{Holds, IfHolds, ended}
 use Rattle.hub_core.proofs.Nodes.{session_is}
-use Rattle.hub_core.proofs.Ends.{Sits, ended_stored, released_is}
+use Rattle.hub_core.proofs.Ends.{Sits, released_is}
 use Rattle.hub_core.specs.HubLaws.{held_told}
 
 -- a seat's places are among all

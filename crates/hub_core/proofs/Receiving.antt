@@ -1,27 +1,27 @@
 -- A file whose mark has all its bytes is received: the node of its hub has the receipt.
-use Rattle.std.proofs.Common.{◌≡◌, ◌≢◌, ◌⊎◌, ℕ, ◌+◌, ◌-◌, ◌<◌, ◌≤◌, max, Bool, true, false, ◌==◌, List, [], ◌∷◌, ◌++◌, Option, Some, None, map, length, option_map, refl, sym, ◌∙◌, ap, subst, inl, inr, arith, ⊎_elim}
+use Rattle.std.proofs.Common.{◌≡◌, ◌≢◌, ◌⊎◌, ℕ, ◌+◌, ◌-◌, max, Bool, true, false, ◌==◌, List, [], ◌∷◌, ◌++◌, Option, Some, None, length, option_map, refl, sym, ◌∙◌, ap, subst, inl, inr, arith, ⊎_elim}
 use Rattle.std.proofs.lemmas.List.{append-nil}
 use Rattle.ftn_addr.specs.Address.{Address}
 use Rattle.ftn_addr.specs.Files.{is_same}
 use Rattle.ftn_addr.specs.Key.{Key}
 use Rattle.node_model.specs.Items.{EntryOf, Mark, MarkOf, Receipt}
-use Rattle.node_model.specs.Lists.{Member, Each, without}
+use Rattle.node_model.specs.Lists.{Member, without}
 use Rattle.node_model.specs.Durable.{Durable, marked, mark_of, unmarked, with_receipt}
-use Rattle.node_model.specs.Node.{Hold, Session, Seat, Node, Logged, Received_record}
+use Rattle.node_model.specs.Node.{Received_record}
 use Rattle.node_model.specs.Rows.{by, receipt_of, received_record}
 use Rattle.node_model.specs.Sound.{Sound}
-use Rattle.node_model.specs.Stocks.{Stock, Sizes, StockOf, sizes, part_in, part_number, part_opened, part_closed, part_committed, by_part, by_some, receipt_from, begins_with}
-use Rattle.node_model.specs.Stores.{Stored, StoreState, StoreTied, stored_after}
+use Rattle.node_model.specs.Stocks.{Stock, Sizes, part_in, part_number, part_committed, by_part, by_some, receipt_from, begins_with}
+use Rattle.node_model.specs.Stores.{Stored, StoreState, stored_after}
 use Rattle.node_model.proofs.Lists.{Each-without, Each-append, decide_line}
 use Rattle.node_model.proofs.StockMaps.{by_part-map, part_committed-map}
-use Rattle.hub_core.specs.Hubs.{Taking, Sitting, Chair, HubState, HubFits, SittingFits, PartFits, IfClaimed, IfHeld, chair_in, sitting_at, session_over, node_with}
-use Rattle.hub_core.specs.Steps.{OpensWhole, opened_under, received_whole, whole_under, mark_len, is_file, is_part, part_under}
+use Rattle.hub_core.specs.Hubs.{Taking, Sitting, HubState, HubFits, PartFits, IfClaimed, IfHeld, chair_in, sitting_at, session_over, node_with}
+use Rattle.hub_core.specs.Steps.{OpensWhole, opened_under, received_whole, whole_under, is_file, part_under}
 use Rattle.hub_core.proofs.Finding.{first-without, pushed, left_there}
 use Rattle.hub_core.proofs.OpenParts.{same_number, number_apart, number_same}
 use Rattle.hub_core.proofs.Nodes.{all_same, session_same, node_eq}
 use Rattle.hub_core.proofs.Numbers.{IsFree, number_new, own_opened}
 use Rattle.hub_core.proofs.Opening.{opened_stored, opened_sizes, opened_new, other_sizes, held_is, held_there}
-use Rattle.hub_core.proofs.OpenParts.{other_opened, number_of, one_part}
+use Rattle.hub_core.proofs.OpenParts.{other_opened, number_of}
 use Rattle.hub_core.proofs.Telling.{begins_is}
 
 abbrev pub received_stored : Address → Key → ℕ → Bool → StoreState → Stored → Stored

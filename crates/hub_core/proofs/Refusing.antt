@@ -1,19 +1,19 @@
 -- A file is refused: the node of its hub has the refusal.
-use Rattle.std.proofs.Common.{◌≡◌, ◌≢◌, ◌⊎◌, ℕ, ◌+◌, ◌-◌, ◌<◌, ◌≤◌, Bool, true, false, ◌==◌, List, [], ◌∷◌, ◌++◌, Option, Some, None, map, length, option_map, refl, sym, ◌∙◌, ap, subst, inl, inr, arith, ⊎_elim}
+use Rattle.std.proofs.Common.{◌≡◌, ◌≢◌, ℕ, ◌+◌, ◌-◌, true, false, ◌==◌, List, [], ◌∷◌, ◌++◌, Option, Some, None, length, refl, sym, ◌∙◌, ap, subst, arith, ⊎_elim}
 use Rattle.ftn_addr.specs.Address.{Address}
 use Rattle.ftn_addr.specs.Files.{is_same}
 use Rattle.ftn_addr.specs.Key.{Key}
-use Rattle.node_model.specs.Items.{Mark, MarkOf, Receipt, Refusal}
-use Rattle.node_model.specs.Lists.{Member, Each}
-use Rattle.node_model.specs.Durable.{Durable, unmarked, with_refusal}
-use Rattle.node_model.specs.Node.{Hold, Session, Seat, Node, Logged, Refused_record}
+use Rattle.node_model.specs.Items.{Mark, MarkOf, Refusal}
+use Rattle.node_model.specs.Lists.{Member}
+use Rattle.node_model.specs.Durable.{unmarked, with_refusal}
+use Rattle.node_model.specs.Node.{Refused_record}
 use Rattle.node_model.specs.Rows.{by}
 use Rattle.node_model.specs.Sound.{Sound}
-use Rattle.node_model.specs.Stocks.{Stock, Sizes, StockOf, sizes, part_in, file_refused}
-use Rattle.node_model.specs.Stores.{Stored, StoreState, StoreTied, stored_after}
+use Rattle.node_model.specs.Stocks.{Sizes, part_in, file_refused}
+use Rattle.node_model.specs.Stores.{Stored, StoreState, stored_after}
 use Rattle.node_model.proofs.Lists.{Each-without, decide_line}
 use Rattle.node_model.proofs.StockMaps.{file_refused-map}
-use Rattle.hub_core.specs.Hubs.{Taking, Sitting, Chair, HubState, HubFits, SittingFits, PartFits, IfHeld, chair_in, sitting_at, session_over, node_with}
+use Rattle.hub_core.specs.Hubs.{Taking, Sitting, HubState, HubFits, IfHeld, chair_in, sitting_at, session_over, node_with}
 use Rattle.hub_core.specs.Steps.{file_refused_under, is_file, part_under}
 use Rattle.hub_core.proofs.Finding.{first-without, left_there}
 use Rattle.hub_core.proofs.OpenParts.{same_number, number_of, one_part}

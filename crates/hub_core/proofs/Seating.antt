@@ -1,6 +1,6 @@
 -- A seat more changes nothing of what a hub's sessions do.
-use Rattle.std.proofs.Common.{◌≡◌, ℕ, zero, suc, ◌+◌, ◌<◌, ◌≤◌, List, [], ◌∷◌, ◌++◌, Option, Some, None, map, length, IfOk, OnOk, Result, Ok, Err, refl, sym, ◌∙◌, ap, subst, arith}
-use Rattle.node_model.specs.Node.{Hold, Session, Seat, Node, empty_seat, seat_in, session_at, hold_in, claim_in}
+use Rattle.std.proofs.Common.{◌≡◌, ℕ, zero, suc, ◌+◌, ◌<◌, ◌≤◌, List, [], ◌∷◌, ◌++◌, Some, map, length, IfOk, OnOk, Result, Ok, Err, refl, sym, ◌∙◌, ap, subst, arith}
+use Rattle.node_model.specs.Node.{Seat, Node, empty_seat, seat_in, session_at, hold_in, claim_in}
 use Rattle.node_model.specs.Sound.{Sound, SoundSessions, SoundClaims, SoundHolds, SoundParts, SoundPlaces, all_places}
 use Rattle.node_model.specs.Stocks.{Stock}
 use Rattle.node_model.specs.Stores.{Stored, StoreState, StoreStand}

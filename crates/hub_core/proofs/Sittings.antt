@@ -1,5 +1,5 @@
 -- Another session at a place of the code is another session at that seat.
-use Rattle.std.proofs.Common.{◌≡◌, ◌≢◌, ℕ, zero, suc, ◌<◌, List, [], ◌∷◌, Option, Some, None, map, length, option_map, refl, sym, ◌∙◌, ap, subst, slice_set, slice_index_or, arith}
+use Rattle.std.proofs.Common.{◌≡◌, ℕ, zero, suc, ◌<◌, List, [], ◌∷◌, Option, None, map, length, option_map, refl, sym, ◌∙◌, ap, subst, slice_index_or, arith}
 use Rattle.std.specs.Vec.{with_item}
 use Rattle.hub_core.specs.declared.places.Place.{Place}
 use Rattle.hub_core.specs.declared.places.Open.{Open}

@@ -1,12 +1,10 @@
 -- A hub that fits what its store keeps, or may keep, makes a step of its node: then its desk's call is told so, whether the
 -- store tells or not.
-use Rattle.std.proofs.Common.{◌≡◌, ◌⊎◌, ℕ, ◌<◌, List, [], ◌∷◌, Option, Some, None, length, option_map, refl, sym, ◌∙◌, ap, subst, inl, inr}
+use Rattle.std.proofs.Common.{◌≡◌, ℕ, ◌<◌, Option, Some, None, length, option_map, sym, ◌∙◌, ap, subst}
 use Rattle.node_model.specs.Calls.{Call, Answer, NodeStep, KnownStep, SeatCounted, SeatCounts, Passes}
 use Rattle.node_model.specs.Stores.{Shelf, Stored, StoreState, StoreStand, IfTold, IsShelf}
-use Rattle.hub_core.specs.Hubs.{Chair, HubState, HubFits, Fitted, IsReady, chair_in, node_with, knows_over, IsSettled}
-use Rattle.hub_core.specs.HubCalls.{ShelfPasses, HasTurn, Does}
-use Rattle.hub_core.specs.Steps.{OneOf}
-use Rattle.hub_core.proofs.Keeping.{leaves_as}
+use Rattle.hub_core.specs.Hubs.{HubState, HubFits, Fitted, IsReady, chair_in, node_with, knows_over, IsSettled}
+use Rattle.hub_core.specs.HubCalls.{ShelfPasses}
 
 -- what a seat counts, without its node
 abbrev pub counted : StoreState → HubState → ℕ → SeatCounts

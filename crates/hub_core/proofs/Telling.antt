@@ -1,20 +1,17 @@
 -- What a store tells with the bytes, where it is known without them: a held part, and how long a mark is.
-use Rattle.std.proofs.Common.{◌≡◌, ◌≢◌, ◌⊎◌, ℕ, ◌≤◌, Bool, true, false, ◌==◌, List, [], ◌∷◌, Option, Some, None, map, length, option_map, nat_lt, refl, sym, ◌∙◌, ap, subst}
+use Rattle.std.proofs.Common.{◌≡◌, [], Option, Some, None, length, option_map, nat_lt, refl, sym, ◌∙◌, ap}
 use Rattle.ftn_addr.specs.Address.{Address}
 use Rattle.ftn_addr.specs.Key.{Key}
-use Rattle.node_model.specs.Items.{Mark, MarkOf}
-use Rattle.node_model.specs.Durable.{Durable, DurableOf, durable_map, mark_map, mark_of, marked, bytes_of_mark}
+use Rattle.node_model.specs.Items.{Mark}
+use Rattle.node_model.specs.Durable.{Durable, durable_map, mark_map, mark_of, marked, bytes_of_mark}
 use Rattle.node_model.specs.Node.{Hold}
-use Rattle.node_model.specs.Rows.{is_ahead, mark_for}
-use Rattle.node_model.specs.Stocks.{Sizes, sizes, part_in, body_of, begins_with, bytes_of_part}
+use Rattle.node_model.specs.Rows.{is_ahead}
+use Rattle.node_model.specs.Stocks.{Sizes, sizes, begins_with}
 use Rattle.node_model.specs.Stores.{Stored, StoreState}
 use Rattle.node_model.specs.Stores as T
-use Rattle.node_model.proofs.StockMaps.{mark_of-map, part_in-map, begins_with-map}
-use Rattle.hub_core.specs.Hubs.{Taking, hold_over, session_over}
+use Rattle.node_model.proofs.StockMaps.{mark_of-map, begins_with-map}
+use Rattle.hub_core.specs.Hubs.{Taking}
 use Rattle.hub_core.specs.Steps.{part_under, mark_len}
-use Rattle.hub_core.proofs.OpenParts.{same_number}
-use Rattle.hub_core.proofs.Finding.{found}
-use Rattle.hub_core.specs.HubLaws.{HeldTold, held_part, held_told, parts_are}
 
 begins_marked : (m : Option Mark) → begins_with [] m ≡ bytes_of_mark m
 begins_marked None = refl

@@ -1,12 +1,11 @@
 -- What a desk's call is told by, made or refused, and where the call began.
-use Rattle.std.proofs.Common.{◌≡◌, ◌⊎◌, ℕ, ◌<◌, Bool, true, false, List, [], ◌∷◌, Option, Some, None, length, option_map, refl, sym, ◌∙◌, ap, subst, inl, inr}
+use Rattle.std.proofs.Common.{◌≡◌, ℕ, ◌<◌, Bool, true, [], ◌∷◌, Option, Some, None, length, refl, sym, ◌∙◌, ap, subst, inl, inr}
 use Rattle.node_model.specs.Items.{MarkOf}
-use Rattle.node_model.specs.Node.{Node}
-use Rattle.node_model.specs.Calls.{Call, Answer, Refused, Disk, Caused, Counts, IsSkip, KnownStep, Passes, Before_it}
+use Rattle.node_model.specs.Calls.{Call, Answer, Refused, Disk, Caused, Counts, IsSkip, KnownStep, Before_it}
 use Rattle.node_model.specs.Desks.{part_after}
-use Rattle.node_model.specs.Images.{Kept, Settles}
+use Rattle.node_model.specs.Images.{Kept}
 use Rattle.node_model.specs.Stores.{Shelf, Stored, StoreState, StoreStand, StoreTied, IfTold, IsShelf}
-use Rattle.hub_core.specs.Hubs.{Sitting, HubState, HubFits, Fitted, IsReady, sitting_at, node_with, knows_over, hub_stand, seat_part, IsSettled}
+use Rattle.hub_core.specs.Hubs.{Sitting, HubState, Fitted, IsReady, sitting_at, knows_over, hub_stand, seat_part, IsSettled}
 use Rattle.hub_core.specs.HubCalls.{ShelfPasses, HasTurn, Does}
 use Rattle.hub_core.specs.Steps.{Leaves, StaysSettled, OneOf, Broke}
 use Rattle.hub_core.proofs.Keeping.{kept_of, leaves_as, leaves_then}

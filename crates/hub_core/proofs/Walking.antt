@@ -1,12 +1,12 @@
 -- Walking the live entries of an address, and the first of several addresses.
-use Rattle.std.proofs.Common.{◌≡◌, ◌≢◌, ◌⊎◌, ℕ, zero, suc, Bool, true, false, cond, ◌&&◌, ◌||◌, ◌==◌, nat_lt, ◌+◌, ◌<◌, ◌≤◌, List, [], ◌∷◌, ◌++◌, Option, Some, None, refl, sym, ◌∙◌, ap, subst, inl, inr, ⊎_elim, arith}
+use Rattle.std.proofs.Common.{◌≡◌, ◌≢◌, ◌⊎◌, ℕ, Bool, true, false, cond, ◌&&◌, ◌||◌, ◌==◌, nat_lt, ◌+◌, ◌<◌, ◌≤◌, List, [], ◌∷◌, ◌++◌, Option, Some, None, refl, sym, ◌∙◌, ap, subst, inl, inr, ⊎_elim, arith}
 use Rattle.std.proofs.lemmas.Bool.Decides.{Decides-eqb, Decides-ltb}
 use Rattle.ftn_addr.specs.Address.{Address}
 use Rattle.node_model.specs.declared.words.Flavour.{Flavour}
 use Rattle.node_model.specs.Items.{EntryOf}
 use Rattle.node_model.specs.Lists.{Member}
 use Rattle.node_model.specs.SendRows.{rank}
-use Rattle.node_model.specs.Stocks.{is_live, IsBehind, IsOffered, FirstOffered, NextLive}
+use Rattle.node_model.specs.Stocks.{is_live, IsBehind, IsOffered, NextLive}
 use Rattle.node_model.proofs.Lists.{Member-append, Member-append_right, Member-append_cases, off}
 use Rattle.hub_core.specs.Sending.{Comes, EarlierOf, place_of, IsFree, FirstFree, NextFree}
 

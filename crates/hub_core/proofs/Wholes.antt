@@ -1,12 +1,10 @@
 -- The disk failed while a part that was opened became a receipt.
-use Rattle.std.proofs.Common.{◌≡◌, ◌≢◌, ◌⊎◌, ℕ, Bool, false, true, ◌==◌, List, [], ◌∷◌, ◌++◌, Option, Some, None, refl, sym, ◌∙◌, ap, subst, inl, inr, arith, ◌≤◌}
+use Rattle.std.proofs.Common.{◌≡◌, ◌⊎◌, ℕ, Bool, List, [], ◌∷◌, ◌++◌, Option, Some, None, refl, sym, ◌∙◌, ap, subst, inl, inr, ◌≤◌}
 use Rattle.ftn_addr.specs.declared.limits.TheConstants.{MAX_NUMBER}
 use Rattle.std.proofs.Common.{length, option_map}
 use Rattle.std.proofs.lemmas.List.{append-nil}
 use Rattle.ftn_addr.specs.Address.{Address}
-use Rattle.ftn_addr.specs.Counts.{Increased}
 use Rattle.ftn_addr.specs.Key.{Key}
-use Rattle.ftn_addr.specs.Files.{is_same}
 use Rattle.node_model.specs.declared.store.StoreFault.{StoreFault}
 use Rattle.node_model.specs.declared.store.StoreFault.TheVariants as D
 use Rattle.node_model.specs.Items.{MarkOf}
@@ -15,8 +13,8 @@ use Rattle.node_model.specs.Calls.{Logs}
 use Rattle.node_model.specs.Node.{Logged}
 use Rattle.node_model.specs.Durable.{unmarked}
 use Rattle.node_model.specs.Stocks.{sizes, part_in, part_number, part_opened}
-use Rattle.node_model.specs.Stores.{Shelf, Stored, StoreState, StoreTied, IfTold, TellsOn, IsShelf, shelf_of, StoreCall, StoreAnswer, Commit, Well, Refuses, StoreDoes, StoreMade, StorePasses, Before_it, After_it, BreaksStore, PartsStay, Staged_as, Slots, Part_opened, Came, committed, stored_after}
-use Rattle.hub_core.specs.Steps.{Broke, RefusedBy, OneMade, MayOpen, Stays, is_file, OpensFull, OpensUnder, OpensWhole, opened_under, received_whole, whole_under, mark_len}
+use Rattle.node_model.specs.Stores.{Shelf, Stored, StoreState, StoreTied, IfTold, TellsOn, IsShelf, shelf_of, StoreAnswer, Commit, Well, Refuses, StoreDoes, StoreMade, StorePasses, Before_it, Source_first, After_it, BreaksStore, PartsStay, Staged_as, Copied_as, Slots, Part_opened, Came, Gave_so, Acted_on, committed, stored_after}
+use Rattle.hub_core.specs.Steps.{Broke, RefusedBy, OneMade, MayOpen, Stays, is_file, OpensFull, OpensUnder, OpensWhole, opened_under, received_whole, whole_under}
 use Rattle.hub_core.proofs.Finding.{there_left}
 use Rattle.hub_core.proofs.OpenParts.{stays_opened, number_apart}
 
@@ -36,6 +34,9 @@ commits mid part session secure (Staged_as number) new p is does = absurd does
 commits mid part session secure (Slots slots) new p is does = absurd does
 commits mid part session secure (Part_opened number len) new p is does = absurd does
 commits mid part session secure (Came bytes) new p is does = absurd does
+commits mid part session secure (Copied_as staged) new p is does = absurd does
+commits mid part session secure (Gave_so gave) new p is does = absurd does
+commits mid part session secure (Acted_on number) new p is does = absurd does
 commits mid part session secure (Refuses fault) new p is does = absurd does
 
 -- it is not refused but by the disk
@@ -60,6 +61,7 @@ whole_broken' old new from key session secure tied w may b = record {
 
     passes : (d : Shelf) → StorePasses mid (Commit number session secure) d → IsShelf mid.content d ⊎ IsShelf (received_whole from key session secure old).content d
     passes d (Before_it is) = inl is
+    passes d (Source_first first) = absurd first
     passes d (After_it answer last does is) =
         inr (subst (λ (s : StoreState). IsShelf s.content d) (commits mid number session secure answer last (whole_under from key number old) w.found does) is)
 

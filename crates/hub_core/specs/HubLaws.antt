@@ -1,5 +1,5 @@
 -- What is told of a hub's seats: the session that is read, the bytes of what it holds, and its desk's part.
-use Rattle.std.proofs.Common.{◌≡◌, ℕ, zero, suc, ◌-◌, Bool, true, false, List, [], ◌∷◌, Option, Some, None, map, length, option_map, refl, sym, ◌∙◌, ap, subst, inl, inr}
+use Rattle.std.proofs.Common.{◌≡◌, ℕ, zero, suc, ◌-◌, Bool, List, [], ◌∷◌, Option, Some, None, map, length, option_map, refl, sym, ◌∙◌, ap, subst, inl, inr}
 use Rattle.std.specs.Option.{is_some}
 use Rattle.ftn_addr.specs.Address.{Address}
 use Rattle.node_model.specs.Items.{EntryOf, Mark, MarkOf}
@@ -8,11 +8,11 @@ use Rattle.node_model.specs.StoreWords.{KeyOf}
 use Rattle.node_model.specs.Durable.{mark_map, entry_map}
 use Rattle.node_model.specs.Node.{Session, Seat, seat_in, session_at, hold_in, claim_in}
 use Rattle.node_model.specs.Desks.{Claim, IsClaimed, PartTold, IsPartAt}
-use Rattle.node_model.specs.Talk.{Part, part_of}
+use Rattle.node_model.specs.Talk.{part_of}
 use Rattle.node_model.specs.Stocks.{Stock, Sizes, sizes, part_in, body_of, bytes_of_part}
 use Rattle.node_model.specs.Stores.{Stored, StoreState, StoreStand, IfTold}
 use Rattle.node_model.proofs.StockMaps.{part_in-map}
-use Rattle.hub_core.specs.Hubs.{Taking, Sitting, Chair, HubState, HubFits, Fitted, IfClaimed, IfHeld, IsReady, SittingFits, chair_in, knows_over, node_with, hold_over, session_over, seat_over, seat_part, sitting_part, sitting_at, taken_part, unless_dropped}
+use Rattle.hub_core.specs.Hubs.{Taking, Sitting, Chair, HubState, HubFits, IfClaimed, IfHeld, IsReady, SittingFits, chair_in, knows_over, node_with, hold_over, session_over, seat_over, seat_part, sitting_part, sitting_at, taken_part, unless_dropped}
 use Rattle.hub_core.specs.Steps.{part_under}
 
 -- the seat that is read

@@ -1,11 +1,10 @@
 -- What contracts see of a hub over a store, and the node that it tells (own).
-use Rattle.std.specs.Prelude.{◌≡◌, ◌≢◌, zero, suc, ℕ, Bool, true, false, ◌==◌, ◌-◌, ◌<◌, ◌≤◌, List, [], ◌∷◌, Option, Some, None, map, option_map, length, slice_index_or}
+use Rattle.std.specs.Prelude.{◌≡◌, ◌≢◌, zero, suc, ℕ, Bool, true, false, ◌-◌, ◌<◌, List, [], ◌∷◌, Option, Some, None, map, option_map, length, slice_index_or}
 use Rattle.ftn_addr.specs.Address.{Address, address}
 use Rattle.ftn_addr.specs.Counts.{next_count}
 use Rattle.ftn_addr.specs.Files.{is_same}
 use Rattle.ftn_addr.specs.Key.{Key, key_of}
 use Rattle.ftn_addr.specs.Limits.{IsAddress}
-use Rattle.ftn_addr.specs.declared.byte_list.Bytes.{Bytes}
 use Rattle.node_model.specs.declared.words.Role.{Role}
 use Rattle.node_model.specs.Items.{EntryOf, Receipt, Mark, MarkOf}
 use Rattle.node_model.specs.Lists.{Member, Each}

@@ -1,9 +1,9 @@
 -- A hub as it is opened over its store, and its seats as they are given (own).
-use Rattle.std.specs.Prelude.{◌≡◌, ◌<◌, ℕ, List, [], ◌∷◌, ◌++◌, Option, Some, None, length}
+use Rattle.std.specs.Prelude.{◌≡◌, ℕ, [], ◌∷◌, ◌++◌, None}
 use Rattle.ftn_addr.specs.Address.{Address}
 use Rattle.node_model.specs.Node.{Settings}
 use Rattle.node_model.specs.Stores.{StoreStand}
-use Rattle.hub_core.specs.Hubs.{Sitting, Chair, HubState, empty_chair, Fitted, IsReady, IsSettled}
+use Rattle.hub_core.specs.Hubs.{Sitting, HubState, empty_chair, Fitted, IsSettled}
 
 -- no seat was given yet
 abbrev pub no_seats : Settings → HubState

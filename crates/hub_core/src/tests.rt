@@ -1,42 +1,64 @@
 //! Two seats over a store in memory. A call whose conditions aren't met isn't made, and answers [`DeskFault::Full`] here.
-ghost use Rattle.std.specs.Prelude.{◌≡◌, ◌≤◌, ◌<◌, IfOk, IsTrue, length};
+ghost use Rattle.std.specs.Prelude.{◌≡◌, ◌==◌, ◌≤◌, ◌<◌, ◌∷◌, [], ℕ, List, None, IfOk, IsTrue, length, nat_lt, position};
+ghost use Rattle.std.specs.List.{list_all};
 ghost use Rattle.ftn_addr.specs.Address.{address};
 ghost use Rattle.ftn_addr.specs.Key.{key_of};
 ghost use Rattle.ftn_addr.specs.Limits.{IsAddress, IsKey};
 ghost use Rattle.node_model.specs.Node.{Settings};
-ghost use Rattle.node_model.specs.Desks.{Fits};
+ghost use Rattle.node_model.specs.Desks.{Fits, HasClaim};
+ghost use Rattle.node_model.specs.Items.{Entry};
+ghost use Rattle.node_model.specs.Stocks.{StagedOf};
+ghost use Rattle.node_model.specs.StoreWords.{FitsQueue, IsNewBatch, entry_of};
 ghost use Rattle.list_store.specs.ListStates.{stand_of};
-ghost use Rattle.hub_core.specs.Hubs.{IsReady, chair_of, hub_state, seat_part, sitting_part};
+ghost use Rattle.hub_core.specs.Hubs.{IsReady, chair_of, hub_state, seat_part, settings_of, sitting_part};
 ghost use Rattle.hub_core.specs.Opening.{IsWhole, no_seats};
 
+mod receiving;
+mod sending;
+
 use crate::places::Place;
-use crate::{DataIn, Desk, DeskFault, FileIn, Hub, HubConf, HubDesk, Knock};
-use ftn_addr::{Addr, Bytes, FileKey, NoMemory};
-use list_store::ListStore;
-use node_model::Role;
+use crate::{DataIn, Desk, DeskFault, FileIn, Hub, HubConf, HubDesk, Knock, Offer};
+use ftn_addr::{Action, Addr, Bytes, FileKey, NoMemory};
+use list_store::{ListStore, QueuedFile, StagedFile};
+use node_model::{Flavour, NewFile, Role, Store, StoreFault};
 use std::alloc::Global;
 use std::test::Fail;
 
-fn sender(alloc: Global) -> Result<Addr, NoMemory>
+fn node(alloc: Global, node: u16) -> Result<Addr, NoMemory>
+    requires { node ≤ 32767 }
     ensures { IfOk result (λ addr. IsAddress (address addr)) }
 {
     Ok(Addr {
         zone: 2,
         net: 5020,
-        node: 1042,
+        node,
         point: 0,
         domain: Bytes::from_slice(alloc, b"fidonet")?,
+    })
+}
+
+fn sender(alloc: Global) -> Result<Addr, NoMemory>
+    ensures { IfOk result (λ addr. IsAddress (address addr)) }
+{
+    node(alloc, 1042)
+}
+
+fn named(alloc: Global, name: &[u8], size: u64) -> Result<FileKey, NoMemory>
+    requires some { 0 < length name.now }
+    requires short { length name.now ≤ 200 }
+    ensures { IfOk result (λ key. IsKey (key_of key)) }
+{
+    Ok(FileKey {
+        name: Bytes::from_slice(alloc, name)?,
+        size,
+        time: 1_000_000_000,
     })
 }
 
 fn key(alloc: Global, size: u64) -> Result<FileKey, NoMemory>
     ensures { IfOk result (λ key. IsKey (key_of key)) }
 {
-    Ok(FileKey {
-        name: Bytes::from_slice(alloc, b"a.txt")?,
-        size,
-        time: 1_000_000_000,
-    })
+    named(alloc, b"a.txt", size)
 }
 
 // Settings that let so many sessions answer, and refuse files above that size.
@@ -48,13 +70,29 @@ fn conf(alloc: Global, max_servers: u16, refuse_over: u64) -> HubConf {
     }
 }
 
-// The second seat of a hub over a store with nothing in it, whose call of that number fails.
+// A store with nothing in it, whose call of that number fails.
 #[tactic(auto, using(crate::proofs::NewStores::new_fits))]
-fn new_desk(alloc: Global, conf: HubConf, fails: u64) -> Result<HubDesk<ListStore>, NoMemory>
-    ensures { IfOk result (λ desk. IsReady (stand_of desk.hub.store) (hub_state desk.hub.seats) desk.seat) }
+fn new_store(alloc: Global, fails: u64) -> Result<ListStore, NoMemory>
+    ensures { IfOk result (λ store. (settings : Settings) → IsWhole (stand_of store) (no_seats settings)) }
 {
     let mut store = ListStore::new(alloc);
     store.fail_at(fails)?;
+    Ok(store)
+}
+
+// The second seat of a hub over a store with nothing in it, whose call of that number fails.
+fn new_desk(alloc: Global, conf: HubConf, fails: u64) -> Result<HubDesk<ListStore>, NoMemory>
+    ensures { IfOk result (λ desk. IsReady (stand_of desk.hub.store) (hub_state desk.hub.seats) desk.seat) }
+{
+    let store = new_store(alloc, fails)?;
+    desk_over(alloc, conf, store)
+}
+
+// The second seat of a hub over that store.
+fn desk_over(alloc: Global, conf: HubConf, store: ListStore) -> Result<HubDesk<ListStore>, NoMemory>
+    requires { IsWhole (stand_of store) (no_seats (settings_of conf)) }
+    ensures { IfOk result (λ desk. IsReady (stand_of desk.hub.store) (hub_state desk.hub.seats) desk.seat) }
+{
     let mut hub = Hub::new(alloc, store, conf);
     let _first = hub.seat()?;
     let seat = hub.seat()?;
@@ -145,85 +183,120 @@ fn data(desk: &mut HubDesk<ListStore>, bytes: &[u8]) -> Result<DataIn, DeskFault
     desk.data_in(bytes)
 }
 
-#[test]
-fn busy_while_the_last_server_answers(rt: HostRuntime) -> Result<(), Fail> {
-    let alloc = rt.alloc();
-    let mut desk = new_desk(alloc, conf(alloc, 1, 100), 0)?;
-    assert_eq!(rt; desk.knock(Role::Answers)?, Knock::Come);
-    assert_eq!(rt; begin(alloc, &mut desk, sender(alloc)?)?, 1);
-    turn(&mut desk, 0);
-    assert_eq!(rt; desk.knock(Role::Answers)?, Knock::Busy);
-    assert_eq!(rt; desk.knock(Role::Calls)?, Knock::Come);
-    turn(&mut desk, 1);
-    desk.leave()?;
-    turn(&mut desk, 0);
-    assert_eq!(rt; desk.knock(Role::Answers)?, Knock::Come);
-    assert_eq!(rt; begin(alloc, &mut desk, sender(alloc)?)?, 2);
-    Ok(())
-}
-
-#[test]
-fn held_elsewhere_then_resumed(rt: HostRuntime) -> Result<(), Fail> {
-    let alloc = rt.alloc();
-    let file = key(alloc, 5)?;
-    let mut desk = new_desk(alloc, conf(alloc, 2, 100), 0)?;
-    begin(alloc, &mut desk, sender(alloc)?)?;
-    assert_eq!(rt; offer(alloc, &mut desk, &file, 0)?, FileIn::Go);
-    assert_eq!(rt; data(&mut desk, b"he")?, DataIn::More);
-    turn(&mut desk, 0);
-    begin(alloc, &mut desk, sender(alloc)?)?;
-    assert_eq!(rt; offer(alloc, &mut desk, &file, 0)?, FileIn::Elsewhere);
-    // The other session leaves what it has to this one.
-    turn(&mut desk, 1);
-    desk.leave()?;
-    turn(&mut desk, 0);
-    assert_eq!(rt; offer(alloc, &mut desk, &file, 0)?, FileIn::From(2));
-    assert_eq!(rt; data(&mut desk, b"llo"), Err(DeskFault::Full));
-    assert_eq!(rt; offer(alloc, &mut desk, &file, 0)?, FileIn::Late);
-    assert_eq!(rt; offer(alloc, &mut desk, &file, 2)?, FileIn::Go);
-    assert_eq!(rt; data(&mut desk, b"llo")?, DataIn::Whole);
-    assert_eq!(rt; offer(alloc, &mut desk, &file, 0)?, FileIn::Have);
-    desk.leave()?;
-    let store = desk.hub.into_store();
-    assert_eq!(rt; store.reserved(), 0);
-    match store.receipts() {
-        [receipt] => {
-            assert_eq!(rt; receipt.content(), b"hello".as_slice());
-            assert_eq!(rt; receipt.number, 1);
-        }
-        _ => assert!(rt; false),
+// Whether the session of a place has claimed nothing.
+fn is_free_at(place: &Place) -> bool
+    ensures { IsTrue result → (sitting_part (chair_of place.now).sitting).claim ≡ None }
+{
+    match &place.session {
+        Some(session) => session.offers.claim.is_none(),
+        None => true,
     }
-    Ok(())
 }
 
-#[test]
-fn refused_above_the_size(rt: HostRuntime) -> Result<(), Fail> {
-    let alloc = rt.alloc();
-    let mut desk = new_desk(alloc, conf(alloc, 1, 5), 0)?;
-    begin(alloc, &mut desk, sender(alloc)?)?;
-    assert_eq!(rt;
-        offer(alloc, &mut desk, &key(alloc, 6)?, 0)?,
-        FileIn::Refuse
-    );
-    assert_eq!(rt; offer(alloc, &mut desk, &key(alloc, 6)?, 0)?, FileIn::Have);
-    assert_eq!(rt; offer(alloc, &mut desk, &key(alloc, 5)?, 0)?, FileIn::Go);
-    let store = desk.hub.into_store();
-    assert_eq!(rt; store.refusals().len(), 1);
-    Ok(())
+// Whether the session of the seat has claimed nothing.
+fn is_free(desk: &HubDesk<ListStore>) -> bool
+    ensures { IsTrue result → (seat_part (hub_state desk.now.hub.seats) desk.now.seat).claim ≡ None }
+{
+    match desk.hub.seats.places.get(desk.seat as usize) {
+        Some(place) => is_free_at(place),
+        None => false,
+    }
 }
 
-#[test]
-fn broken_by_a_failed_call(rt: HostRuntime) -> Result<(), Fail> {
-    let alloc = rt.alloc();
-    let file = key(alloc, 5)?;
-    let mut desk = new_desk(alloc, conf(alloc, 2, 100), 3)?;
-    begin(alloc, &mut desk, sender(alloc)?)?;
-    assert_eq!(rt; offer(alloc, &mut desk, &file, 0)?, FileIn::Go);
-    assert_eq!(rt; data(&mut desk, b"hello"), Err(DeskFault::Disk(1)));
-    assert_eq!(rt; offer(alloc, &mut desk, &file, 0), Err(DeskFault::Disk(1)));
-    turn(&mut desk, 0);
-    assert_eq!(rt; desk.knock(Role::Answers), Err(DeskFault::Disk(1)));
-    let store = desk.hub.into_store();
-    assert_eq!(rt; store.receipts().len(), 0);
-    Ok(())
+// Whether the session of a place has claimed an entry.
+fn has_claim_at(place: &Place) -> bool
+    ensures { IsTrue result → HasClaim (sitting_part (chair_of place.now).sitting) }
+{
+    let Some(session) = &place.session else {
+        return false;
+    };
+    match &session.offers.claim {
+        Some(_claim) => true,
+        None => false,
+    }
+}
+
+// Whether the session of the seat has claimed an entry.
+fn has_claim(desk: &HubDesk<ListStore>) -> bool
+    ensures { IsTrue result → HasClaim (seat_part (hub_state desk.now.hub.seats) desk.now.seat) }
+{
+    match desk.hub.seats.places.get(desk.seat as usize) {
+        Some(place) => has_claim_at(place),
+        None => false,
+    }
+}
+
+// Where the first staged file with that number stands, if there is one.
+fn position_staged(staged: &[StagedFile], number: u32) -> Option<usize>
+    ensures { result ≡ position (λ (s : StagedOf (List ℕ)). s.number == number) staged.now }
+{
+    staged.iter().position(|file| file.number() == number)
+}
+
+// Whether all of these have lesser numbers.
+fn is_above(queue: &[QueuedFile], number: u32) -> bool
+    ensures { result ≡ list_all (λ (e : Entry). nat_lt e.number number) queue.now }
+{
+    queue.iter().all(|entry| entry.number() < number)
+}
+
+// Whether a staged file may be queued alone.
+fn is_batch(store: &ListStore, file: &NewFile) -> bool
+    requires { FitsQueue (entry_of file.now) }
+    ensures { IsTrue result → IsNewBatch None None (entry_of file.now ∷ []) (stand_of store.now).state }
+{
+    let staged = store.staged();
+    let Some(place) = position_staged(staged, file.number) else {
+        return false;
+    };
+    if staged[place].content().len() as u64 != file.key.size {
+        return false;
+    }
+    is_above(store.entries(), file.number)
+}
+
+// The store with a file more in its queue.
+fn queued(
+    alloc: Global,
+    store: ListStore,
+    dest: Addr,
+    key: FileKey,
+    flavour: Flavour,
+    bytes: &[u8],
+) -> Result<ListStore, StoreFault>
+    requires address_limits { IsAddress (address dest) }
+    requires key_limits { IsKey (key_of key) }
+    requires whole { (settings : Settings) → IsWhole (stand_of store) (no_seats settings) }
+    ensures { IfOk result (λ more. (settings : Settings) → IsWhole (stand_of more) (no_seats settings)) }
+{
+    let mut store = store;
+    if store.broken().is_some() {
+        return Err(StoreFault::Full);
+    }
+    let number = store.stage(alloc, bytes)?;
+    let file = NewFile {
+        number,
+        dest,
+        key,
+        source: Bytes::new(alloc),
+        action: Action::Leave,
+        flavour,
+    };
+    queued_staged(alloc, store, file)
+}
+
+// The store with a staged file queued.
+fn queued_staged(alloc: Global, store: ListStore, file: NewFile) -> Result<ListStore, StoreFault>
+    requires limits { FitsQueue (entry_of file) }
+    requires drawn { file.number ≤ (stand_of store).state.staged }
+    requires whole { (settings : Settings) → IsWhole (stand_of store) (no_seats settings) }
+    ensures { IfOk result (λ more. (settings : Settings) → IsWhole (stand_of more) (no_seats settings)) }
+{
+    let mut store = store;
+    if store.broken().is_some() || !is_batch(&store, &file) {
+        return Err(StoreFault::Full);
+    }
+    let files = [file];
+    let _slots = store.queue_all(alloc, None, None, &files)?;
+    Ok(store)
 }

@@ -1,15 +1,13 @@
-use Rattle.std.proofs.Common.{◌≡◌, sym, subst}
+use Rattle.std.proofs.Common.{sym, subst}
 use Rattle.ftn_addr.specs.Key.{key_of}
 use Rattle.node_model.specs.Calls.{File_call, Refused, Fault}
-use Rattle.node_model.specs.Desks.{fault_of}
-use Rattle.hub_core.specs.Hubs.{Sitting, HubState, hub_state, sitting_of, with_sitting}
+use Rattle.hub_core.specs.Hubs.{hub_state, sitting_of, with_sitting}
 use Rattle.hub_core.specs.HubCalls.{Does}
 use Rattle.std.proofs.Common.{Some}
 use Rattle.hub_core.proofs.Ends.{unheld_sitting}
 use Rattle.hub_core.proofs.FileDoes.{Offers, file_does}
 use Rattle.hub_core.proofs.FileFails.{file_refused, end_broken}
 use Rattle.hub_core.proofs.FileNeeds.{may_answer, turn_address, turn_holds, turn_number}
-use Rattle.hub_core.proofs.Filing.{Offered}
 use Rattle.hub_core.proofs.Nodes.{sits_at}
 use Rattle.hub_core.proofs.Turning.{sits_now}
 use Rattle.hub_core.proofs.files.offer_file.Goals as goal

@@ -1,8 +1,8 @@
-use Rattle.std.proofs.Common.{◌≡◌, ◌≢◌, ◌⊎◌, ℕ, ◌<◌, ◌≤◌, Bool, true, false, sym, ◌∙◌, ap, subst, inl, inr, map, length, arith, ⊎_elim}
+use Rattle.std.proofs.Common.{◌≡◌, ◌≢◌, ℕ, ◌<◌, ◌≤◌, true, false, sym, ◌∙◌, ap, map, length, arith, ⊎_elim}
 use Rattle.ftn_addr.specs.Address.{address}
 use Rattle.ftn_addr.specs.Key.{key_of}
 use Rattle.node_model.proofs.Lists.{decide_line}
-use Rattle.hub_core.specs.Hubs.{Chair, chair_of, chair_in}
+use Rattle.hub_core.specs.Hubs.{chair_of, chair_in}
 use Rattle.hub_core.specs.Steps.{chair_holds, HeldBy}
 use Rattle.hub_core.proofs.Chairs.{chair_in-map, chair_in-end, below_or}
 use Rattle.hub_core.proofs.judging.is_held_elsewhere.Goals as goal

@@ -1,4 +1,3 @@
-use Rattle.std.proofs.Common.{length}
 use Rattle.ftn_addr.specs.Address.{address}
 use Rattle.hub_core.specs.Hubs.{taking_of}
 use Rattle.hub_core.proofs.Putting.{put_holds}

@@ -1,5 +1,4 @@
-use Rattle.std.proofs.Common.{◌≡◌, ◌+◌, ◌-◌, ◌<◌, ◌≤◌, ℕ, Bool, Option, Some, true, false, length, option_map, refl, sym, ◌∙◌, ap, subst, arith}
-use Rattle.ftn_addr.specs.Address.{address}
+use Rattle.std.proofs.Common.{◌≡◌, ◌+◌, ◌-◌, ◌<◌, ℕ, Bool, Option, Some, true, false, length, option_map, refl, sym, ◌∙◌, ap, subst, arith}
 use Rattle.node_model.specs.Calls.{Data_call, Refused, Fault}
 use Rattle.hub_core.specs.Hubs.{Sitting, Taking, hub_state, sitting_of, taking_of, with_sitting}
 use Rattle.node_model.specs.Desks.{fault_of}

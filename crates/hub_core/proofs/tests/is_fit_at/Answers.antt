@@ -1,4 +1,4 @@
-use Rattle.std.proofs.Common.{◌≡◌, ◌∙◌, ◌-◌, ◌≤◌, Some, ap, option_map, arith}
+use Rattle.std.proofs.Common.{◌∙◌, ◌-◌, ◌≤◌, ap, option_map, arith}
 use Rattle.std.proofs.lemmas.Bool.{leb-true}
 use Rattle.ftn_addr.specs.Key.{key_of}
 use Rattle.node_model.specs.Talk.{Part}

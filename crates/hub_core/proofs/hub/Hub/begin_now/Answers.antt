@@ -1,10 +1,9 @@
-use Rattle.std.proofs.Common.{◌≡◌, ◌<◌, ◌+◌, ℕ, sym, ◌∙◌, ap, subst, map, arith}
+use Rattle.std.proofs.Common.{◌<◌, ◌+◌, sym, subst, map, arith}
 use Rattle.ftn_addr.specs.Address.{address}
 use Rattle.node_model.specs.Calls.{Open_call, Begun, Refused, Fault}
-use Rattle.node_model.specs.Desks.{fault_of}
 use Rattle.hub_core.specs.Hubs.{HubState, hub_state, sitting_of}
 use Rattle.hub_core.specs.HubCalls.{Does}
-use Rattle.hub_core.proofs.BeginSteps.{begin_does, begin_no_memory, begin_refused}
+use Rattle.hub_core.proofs.BeginSteps.{begin_does, begin_refused}
 use Rattle.hub_core.proofs.hub.Hub.begin_now.Goals as goal
 
 pub returns-in-Ok : goal.returns-in-Ok

@@ -1,4 +1,4 @@
-use Rattle.std.proofs.Common.{◌≡◌, ◌<◌, Option, Some, None, length, sym, ◌∙◌, ap, subst}
+use Rattle.std.proofs.Common.{◌<◌, Option, Some, None, length, sym, ◌∙◌, ap, subst}
 use Rattle.node_model.specs.Calls.{Data_call}
 use Rattle.node_model.specs.Desks.{Fits, data_answer}
 use Rattle.hub_core.specs.Hubs.{Sitting, HubState, hub_state, sitting_of, sitting_part, with_sitting}

@@ -1,4 +1,4 @@
-use Rattle.std.proofs.Common.{◌≡◌, ◌<◌, Some, None, length, sym, ◌∙◌, ap, subst}
+use Rattle.std.proofs.Common.{◌<◌, Some, None, length, sym, ◌∙◌, ap, subst}
 use Rattle.ftn_addr.specs.Key.{key_of}
 use Rattle.node_model.specs.Calls.{File_call}
 use Rattle.node_model.specs.Desks.{file_answer}

@@ -1,4 +1,4 @@
-use Rattle.std.proofs.Common.{◌≡◌, sym, ◌∙◌, subst}
+use Rattle.std.proofs.Common.{sym, subst}
 use Rattle.node_model.specs.Calls.{Knock_call, Busy}
 use Rattle.hub_core.specs.Hubs.{HubState, hub_state}
 use Rattle.hub_core.specs.HubCalls.{Does}

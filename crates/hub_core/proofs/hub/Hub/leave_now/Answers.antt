@@ -1,7 +1,7 @@
-use Rattle.std.proofs.Common.{◌≡◌, ◌<◌, length, Option, Some, None, sym, ◌∙◌, ap, subst}
+use Rattle.std.proofs.Common.{◌≡◌, ◌<◌, length, Some, None, sym, ◌∙◌, ap, subst}
 use Rattle.node_model.specs.Calls.{Leave_call, Settled, Refused, Fault}
 use Rattle.node_model.specs.Desks.{fault_of}
-use Rattle.hub_core.specs.Hubs.{HubState, Sitting, hub_state, sitting_of, sitting_at, with_sitting}
+use Rattle.hub_core.specs.Hubs.{HubState, hub_state, sitting_of, sitting_at, with_sitting}
 use Rattle.hub_core.specs.HubCalls.{Does}
 use Rattle.hub_core.proofs.LeaveSteps.{leave_does, leave_broken, leave_nothing}
 use Rattle.hub_core.proofs.Ready.{sits_hold, claim_reserved}

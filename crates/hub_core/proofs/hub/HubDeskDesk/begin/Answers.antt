@@ -1,4 +1,4 @@
-use Rattle.std.proofs.Common.{refl, sym, map, Ok}
+use Rattle.std.proofs.Common.{refl, sym, map}
 use Rattle.node_model.specs.Calls.{Open_call, Refused, Disk}
 use Rattle.ftn_addr.specs.Address.{address}
 use Rattle.node_model.specs.Desks.{begin_answer}

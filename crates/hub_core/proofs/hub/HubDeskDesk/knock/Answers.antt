@@ -1,4 +1,4 @@
-use Rattle.std.proofs.Common.{refl, sym, map, Ok}
+use Rattle.std.proofs.Common.{refl, sym, Ok}
 use Rattle.node_model.specs.Calls.{Knock_call, Refused, Disk}
 use Rattle.node_model.specs.Desks.{knock_answer}
 use Rattle.hub_core.specs.Hubs.{hub_state}

@@ -1,4 +1,4 @@
-use Rattle.std.proofs.Common.{refl, sym, ◌∙◌}
+use Rattle.std.proofs.Common.{refl, sym}
 use Rattle.node_model.specs.Calls.{Leave_call, Refused, Disk}
 use Rattle.node_model.specs.Desks.{settled_answer}
 use Rattle.hub_core.specs.Hubs.{hub_state}

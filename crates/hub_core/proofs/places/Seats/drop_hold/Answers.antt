@@ -1,4 +1,4 @@
-use Rattle.std.proofs.Common.{◌≡◌, ◌<◌, Option, None, length, option_map, sym, ◌∙◌, ap, subst}
+use Rattle.std.proofs.Common.{◌<◌, Option, None, length, option_map, sym, ◌∙◌, ap, subst}
 use Rattle.hub_core.specs.Hubs.{Sitting, HubState, hub_state, dropped_sitting, sitting_at, with_sitting}
 use Rattle.hub_core.proofs.Sittings.{sit_twice, given_still}
 use Rattle.hub_core.proofs.places.Seats.drop_hold.Goals as goal

@@ -1,4 +1,4 @@
-use Rattle.std.proofs.Common.{◌≡◌, ◌∙◌, sym, ap, subst, ℕ, List, nat_le, count_by, map, ◌&&◌}
+use Rattle.std.proofs.Common.{◌≡◌, ◌∙◌, sym, ap, ℕ, List, nat_le, count_by, map, ◌&&◌}
 use Rattle.node_model.specs.declared.words.Role.{Role}
 use Rattle.node_model.specs.Rows.{is_answering}
 use Rattle.hub_core.specs.declared.places.Place.{Place}
