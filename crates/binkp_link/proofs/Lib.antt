@@ -1,3 +1,4 @@
+pub mod AllBytes
 pub mod Plays
 pub mod PlaysWrites
 pub mod Pushes

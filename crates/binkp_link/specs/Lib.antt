@@ -1,7 +1,14 @@
+pub mod Callers
 pub mod Fronts
+pub mod LineSources
 pub mod Lines
+pub mod MemLineSources
 pub mod MemLines
 pub mod MemSinks
+pub mod Pipes
+pub mod Repeats
 pub mod Scripts
 pub mod StdLines
+pub mod StdSinks
+pub mod Streams
 pub mod Tallies

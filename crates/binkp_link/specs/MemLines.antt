@@ -1,5 +1,5 @@
 -- What a line in memory tells (own).
-use Rattle.std.specs.Prelude.{ℕ, false, List, [], Option, Some, option_map}
+use Rattle.std.specs.Prelude.{ℕ, false, List, [], Option, Some, None, option_map}
 use Rattle.binkp_link.specs.Lines.{LineState, LineBytes}
 use Rattle.binkp_link.specs.Scripts.{script_bytes}
 use Rattle.binkp_link.specs.Tallies.{counted}
@@ -18,3 +18,13 @@ new_line coming =
 -- the bytes sent on a line that tells them
 abbrev pub sent_on : LineState → Option (List ℕ)
 sent_on line = option_map (λ (bytes : LineBytes). bytes.sent) line.bytes
+
+-- the bytes still to come on a line that tells them
+abbrev pub coming_on : Option LineBytes → List ℕ
+coming_on None = []
+coming_on (Some bytes) = bytes.coming
+
+-- the bytes taken from a line that tells them
+abbrev pub taken_on : Option LineBytes → List ℕ
+taken_on None = []
+taken_on (Some bytes) = bytes.taken

@@ -1,8 +1,13 @@
-//! What a session talks over: a line to a peer, and a sink for text.
+//! What a session talks over, and where the program gets it: lines to peers, a sink for text, a clock, random bytes.
 //!
-//! [`Line`] and [`Sink`] are the traits. A line says by counts what it answered, and, where it tells them,
-//! which bytes it took and gave. [`MemLine`] plays scripts of [`ReadAct`] and [`WriteAct`], and [`MemSink`]
-//! keeps what was put: both are for tests. [`StdLine`] is the line over standard input and output; it tells
+//! [`Line`] and [`Sink`] are the traits of a session. A line says by counts what it answered, and, where it tells them,
+//! which bytes it took and gave. [`Lines`] gives the lines of many sessions: callers, and hosts that are dialled.
+//! [`Clock`] and [`Dice`] give moments and random bytes.
+//!
+//! In memory, for tests: [`MemLine`] plays scripts of [`ReadAct`] and [`WriteAct`]; [`MemPipe`] is one end of a line, and
+//! [`MemPipe::carry`] takes what it wrote to the other end; [`MemLines`] plays a script of [`NextAct`] and keeps the lines
+//! that are handed back; [`MemClock`] and [`MemDice`] give the items of a list; [`MemSink`] keeps what was put. Over the
+//! system: [`StdLine`] is the line over standard input and output, and [`StdSink`] the sink over standard error; they tell
 //! no bytes.
 //!
 //! ```
@@ -19,16 +24,31 @@
 #![tactic(auto)]
 
 mod acts;
+mod callers;
 mod counting;
+mod line_source;
 mod link;
 mod mem_line;
+mod mem_line_source;
+mod mem_pipe;
 mod mem_sink;
+mod mem_sources;
 mod read_script;
+mod sources;
 mod std_line;
+mod std_sink;
+mod stream;
 mod write_script;
 
 pub use acts::{ReadAct, WriteAct};
+pub use callers::NextAct;
+pub use line_source::{Dialled, LineCounts, Lines, NextLine};
 pub use link::{Line, ReadAnswer, Sink, WriteAnswer};
 pub use mem_line::MemLine;
+pub use mem_line_source::MemLines;
+pub use mem_pipe::MemPipe;
 pub use mem_sink::MemSink;
+pub use mem_sources::{MemClock, MemDice};
+pub use sources::{Clock, Dice};
 pub use std_line::StdLine;
+pub use std_sink::StdSink;

@@ -2,14 +2,14 @@
 ghost use Rattle.std.specs.Prelude.{◌≡◌, ◌<◌, ◌++◌, false, [], length, map, Some, IfOk};
 ghost use Rattle.binkp_link.specs.Lines.{IsRead, IsWrite, MayWrite, came, went};
 ghost use Rattle.binkp_link.specs.Scripts.{AllGiveSome, AllTakeSome, PlaysRead, PlaysWrite, act_of, read_turn, script_bytes};
-ghost use Rattle.binkp_link.specs.MemLines.{mem_state, new_line, sent_on};
+ghost use Rattle.binkp_link.specs.MemLines.{coming_on, mem_state, new_line, sent_on, taken_on};
 
 use crate::acts::{ReadAct, WriteAct};
 use crate::counting::Tally;
 use crate::read_script::ReadScript;
 use crate::write_script::WriteScript;
 use crate::{Line, ReadAnswer, WriteAnswer};
-use ftn_addr::Bytes;
+use ftn_addr::{Bytes, NoMemory};
 use std::alloc::Global;
 
 /// A line whose reads and writes are scripts. It tells its bytes.
@@ -43,6 +43,13 @@ impl MemLine {
         ensures { sent_on (mem_state self.now) ≡ Some result.now }
     {
         self.written.as_slice()
+    }
+
+    /// The bytes that were taken and those that are still to come.
+    pub(crate) fn all_bytes(&self, alloc: Global) -> Result<Bytes, NoMemory>
+        ensures { IfOk result (λ all. taken_on (mem_state self.now).bytes ++ coming_on (mem_state self.now).bytes ≡ all.list) }
+    {
+        self.reads.all_bytes(alloc)
     }
 
     /// Keeps the bytes that the script lets a write take.

@@ -1,11 +1,13 @@
 //! A script of reads, as it is played.
-ghost use Rattle.std.specs.Prelude.{◌≡◌, ◌<◌, ◌≤◌, ◌++◌, [], length, map, take, drop, IsSome, min};
+ghost use Rattle.std.specs.Prelude.{◌≡◌, ◌<◌, ◌≤◌, ◌++◌, [], length, map, take, drop, IfOk, IsSome, min};
 ghost use Rattle.binkp_link.specs.Lines.{MayRead, came};
 ghost use Rattle.binkp_link.specs.Scripts.{AllGiveSome, PlaysRead, act_of, first_act, first_bytes, heeded, past_not_yet, place_on, played, read_turn, script_bytes, turn_at};
 ghost use Rattle.binkp_link.specs.Fronts.{front_act};
 
 use crate::ReadAnswer;
 use crate::acts::ReadAct;
+use ftn_addr::{Bytes, NoMemory};
+use std::alloc::Global;
 use std::marker::Model;
 
 /// A script of reads: its acts, how many of them are over, and how many bytes the next one gave.
@@ -148,5 +150,16 @@ impl ReadScript {
             self.pass_not_yet();
         }
         self.play_next(out, wait)
+    }
+
+    /// The bytes of all its acts: those that it gave and those that it has left.
+    pub fn all_bytes(&self, alloc: Global) -> Result<Bytes, NoMemory>
+        ensures { IfOk result (λ all. self.now.taken ++ script_bytes self.now.left ≡ all.list) }
+    {
+        let mut all = Bytes::new(alloc);
+        for act in &self.acts {
+            all.push_slice(act.bytes())?;
+        }
+        Ok(all)
     }
 }
