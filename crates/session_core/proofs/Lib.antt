@@ -1,4 +1,6 @@
 pub mod Writings
 pub mod Dids
+pub mod Early
 pub mod Heard
 pub mod Gives
+pub mod Logins

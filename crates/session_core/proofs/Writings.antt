@@ -1,14 +1,19 @@
 -- What was written of what a row says.
-use Rattle.std.proofs.Common.{◌≡◌, ◌<◌, ℕ, List, [], ◌∷◌, ◌++◌, codes, ◌∙◌, length, arith, append_assoc, ap, refl, sym, inl, inr}
+use Rattle.std.proofs.Common.{◌≡◌, ◌⊎◌, ◌<◌, ℕ, List, [], ◌∷◌, ◌++◌, codes, ◌∙◌, length, arith, append_assoc, ap, refl, sym, inl, inr}
 use Rattle.std.proofs.lemmas.List.{append-nil}
-use Rattle.session_core.specs.Takings.{Took}
-use Rattle.session_core.specs.Takings as T
-use Rattle.session_core.specs.Ends as E
-use Rattle.binkp_args.specs.Command.{CommandText, Error, Bsy, Accept}
+use Rattle.binkp_args.specs.Command.{CommandText, Pwd, Error, Bsy, Accept}
+use Rattle.session_recv.specs.Replies.{command_bytes}
 use Rattle.session_core.specs.declared.ending.Cause.{Cause}
 use Rattle.session_core.specs.declared.ending.Cause.TheVariants as C
-use Rattle.session_core.specs.Sessions.{Said, command_bytes, broken_frame, offset_again, disk_fault, ledger_full, too_many, welcome}
-use Rattle.session_core.specs.Replies.{Writes, IfMore, cause_bytes}
+use Rattle.session_core.specs.Ends.{End}
+use Rattle.session_core.specs.Ends as E
+use Rattle.session_core.specs.Givings.{Gave}
+use Rattle.session_core.specs.Givings as G
+use Rattle.session_core.specs.Takings.{Took}
+use Rattle.session_core.specs.Takings as T
+use Rattle.session_core.specs.Says.{broken_frame, offset_again, not_called, bad_password, no_password, disk_fault, ledger_full, too_many, welcome, cause_bytes}
+use Rattle.session_core.specs.Sessions.{Said, Gives}
+use Rattle.session_core.specs.Replies.{Writes, WritesTurn, IfMore, IfOn}
 
 -- all of it
 pub wrote_all : (old new output : List ℕ) (goal : Took) → new ≡ old ++ output → Writes old new output goal goal
@@ -55,6 +60,18 @@ pub some_again : 0 < length offset_again
 unfolding offset_again
 some_again = some_command (Error (codes "offset again"))
 
+pub some_not_called : 0 < length not_called
+unfolding not_called
+some_not_called = some_command (Error (codes "not the called address"))
+
+pub some_bad_password : 0 < length bad_password
+unfolding bad_password
+some_bad_password = some_command (Error (codes "bad password"))
+
+pub some_password : 0 < length no_password
+unfolding no_password
+some_password = some_command (Pwd (codes "-"))
+
 pub some_disk : 0 < length disk_fault
 unfolding disk_fault
 some_disk = some_command (Error (codes "disk fault"))
@@ -75,8 +92,48 @@ pub some_cause : (cause : Cause) → 0 < length (cause_bytes cause)
 some_cause C.Late = some_again
 some_cause (C.Arg fault) = some_broken
 some_cause C.OutOfTurn = some_broken
+some_cause C.NotCalled = some_not_called
 some_cause C.TooMuch = some_broken
 
 pub some_first : (xs ys : List ℕ) → 0 < length xs → 0 < length (xs ++ ys)
 some_first [] ys h = absurd (omega (arith, h))
 some_first (x ∷ xs) ys h = omega arith
+
+-- The same of an own turn.
+
+pub if_on : (gave : Gave) (P : Type 0) → P → IfOn gave P
+if_on G.Sent P p = p
+if_on G.Waits P p = p
+if_on (G.Ended end) P p = tt
+
+pub gave_all : (old new output : List ℕ) (goal : Gave) → new ≡ old ++ output → WritesTurn old new output goal goal
+gave_all old new output goal e = record { written = output; said = inl (refl, refl); grew = e }
+
+pub gave_nothing : (out : List ℕ) (goal : Gave) → WritesTurn out out [] goal goal
+gave_nothing out goal = gave_all out out [] goal (sym (append-nil out))
+
+pub gave_none : (old new output : List ℕ) (goal : Gave) → 0 < length output → new ≡ old → WritesTurn old new output goal (G.Ended E.NoMemory)
+gave_none old new output goal some e = record { written = []; said = inr (refl, (output, some, refl)); grew = e ∙ sym (append-nil old) }
+
+-- the end of a session is that of its own turn
+same_end : (a b : End) → T.Ended a ≡ T.Ended b → G.Ended a ≡ G.Ended b
+same_end a b e = cc
+
+pub as_turn : (old new output : List ℕ) (goal end : End) → Writes old new output (T.Ended goal) (T.Ended end) → WritesTurn old new output (G.Ended goal) (G.Ended end)
+as_turn old new output goal end w = record { written = w.written; said = over w.said; grew = w.grew }
+  where
+    over : Said output (T.Ended goal) w.written (T.Ended end) → Gives output (G.Ended goal) w.written (G.Ended end)
+    over (inl did) = inl (same_end end goal did.0, did.1)
+    over (inr did) = inr (same_end end E.NoMemory did.0, did.1)
+
+-- nothing was to be said, and no memory was left
+pub gave_up : (mid out' : List ℕ) (took : Took) → Writes mid out' [] (T.Ended E.NoMemory) took → (took ≡ T.Ended E.NoMemory) × (out' ≡ mid)
+gave_up mid out' took w = go w.said
+  where
+    nothing : (xs ys : List ℕ) → [] ≡ xs ++ ys → xs ≡ []
+    nothing [] ys e = refl
+    nothing (x ∷ xs) ys e = absurd (let clash : [] ≡ x ∷ (xs ++ ys) = e in cc)
+
+    go : ((took ≡ T.Ended E.NoMemory) × (w.written ≡ [])) ⊎ ((took ≡ T.Ended E.NoMemory) × ((rest : List ℕ) × (0 < length rest) × ([] ≡ w.written ++ rest))) → (took ≡ T.Ended E.NoMemory) × (out' ≡ mid)
+    go (inl d) = (d.0, w.grew ∙ ap (λ (x : List ℕ). mid ++ x) d.1 ∙ append-nil mid)
+    go (inr d) = (d.0, w.grew ∙ ap (λ (x : List ℕ). mid ++ x) (nothing w.written d.1.0 d.1.2) ∙ append-nil mid)

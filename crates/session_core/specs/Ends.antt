@@ -1,11 +1,14 @@
 -- How a session ends, without where its parts lie in memory.
-use Rattle.std.specs.Prelude.{ℕ}
+use Rattle.std.specs.Prelude.{ℕ, List}
 use Rattle.session_core.specs.declared.ending.Cause.{Cause}
 use Rattle.session_core.specs.declared.ending.End.{End as EndCode}
 use Rattle.session_core.specs.declared.ending.End.TheVariants as V
 
 pub data End : Type 0 where
   Finished : End
+  PeerError : (text : List ℕ) → End
+  PeerBusy : End
+  BadPassword : (wanted given : List ℕ) → End
   Broke : (cause : Cause) (frame : ℕ) → End
   Dropped : End
   LineFault : End
@@ -18,6 +21,9 @@ pub data End : Type 0 where
 
 abbrev pub end_text : EndCode → End
 end_text V.Finished = Finished
+end_text (V.PeerError text) = PeerError text.list
+end_text V.PeerBusy = PeerBusy
+end_text (V.BadPassword wanted given) = BadPassword wanted.list given.list
 end_text (V.Broke cause frame) = Broke cause frame
 end_text V.Dropped = Dropped
 end_text V.LineFault = LineFault

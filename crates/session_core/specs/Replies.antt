@@ -1,79 +1,85 @@
 -- How the code's rows stand to the session's: what was asked of the desk, and what was written.
-use Rattle.std.specs.Prelude.{◌≡◌, ◌≢◌, ◌⊎◌, ◌<◌, ℕ, length, Bool, true, false, List, [], ◌∷◌, ◌++◌, map, Option, Some, None, Result, Ok, Err}
+use Rattle.std.specs.Prelude.{◌≡◌, ◌≢◌, ◌⊎◌, ℕ, Bool, List, [], ◌++◌, map, option_map}
 use Rattle.ftn_addr.specs.Address.{address}
-use Rattle.ftn_addr.specs.Key.{key_of}
-use Rattle.ftn_addr.specs.Limits.{IsKey}
-use Rattle.binkp_args.specs.Limits.{AreAddresses}
 use Rattle.binkp_args.specs.declared.fault.ArgFault.{ArgFault}
 use Rattle.binkp_args.specs.declared.fault.ArgFault.TheVariants.{NoMemory}
 use Rattle.node_model.specs.Calls.{Event, Turned, asked_of}
 use Rattle.node_model.specs.Images.{Stand, RanAt}
-use Rattle.node_model.specs.Talk.{Message, Talk, Part, Too_late, Too_much, Refused_by, Outcome, Goes_on, Ends, Verdict}
-use Rattle.node_model.specs.declared.desk.DeskFault.{DeskFault}
-use Rattle.node_model.specs.declared.desk.DeskFault.TheVariants as D
-use Rattle.session_core.specs.declared.ending.Cause.{Cause}
+use Rattle.node_model.specs.Desks.{DeskPart}
+use Rattle.node_model.specs.Talk.{Talk, Verdict, AfterSend, Empty}
+use Rattle.session_send.specs.Senders.{sending_of}
+use Rattle.session_recv.specs.Replies.{held_of}
 use Rattle.session_core.specs.declared.ending.Cause.TheVariants as C
 use Rattle.session_core.specs.Ends as E
 use Rattle.session_core.specs.Givings.{Gave}
 use Rattle.session_core.specs.Givings as G
 use Rattle.session_core.specs.Takings.{Took}
 use Rattle.session_core.specs.Takings as T
-use Rattle.session_core.specs.declared.holding.Receiver.{Receiver}
-use Rattle.session_core.specs.declared.holding.Receiver.TheVariants as R
-use Rattle.session_core.specs.declared.hearing.Heard.{Heard as CodeHeard}
-use Rattle.session_core.specs.declared.hearing.Heard.TheVariants as H
-use Rattle.session_core.specs.declared.receiver.RecvStep.{RecvStep}
-use Rattle.session_core.specs.declared.receiver.RecvStep.TheVariants as S
+use Rattle.session_core.specs.declared.login.Login.{Login as CodeLogin}
+use Rattle.session_core.specs.declared.session.Session.{Session}
+use Rattle.session_core.specs.declared.side.Side.{Side as CodeSide}
+use Rattle.session_core.specs.declared.side.Side.TheVariants as S
 use Rattle.session_core.specs.declared.stage.Stage.{Stage as CodeStage}
 use Rattle.session_core.specs.declared.stage.Stage.TheVariants as K
 use Rattle.session_core.specs.declared.stage.Talking.{Talking}
+use Rattle.session_core.specs.declared.tally.Tally.{Tally as CodeTally}
 use Rattle.session_core.specs.declared.terms.Setting.{Setting as CodeSetting}
-use Rattle.node_model.specs.Desks.{DeskPart, fault_of}
-use Rattle.session_core.specs.Sessions.{Heard, Passed, Addresses, Password, Offers, Ends_batch, Unbuilt, Setting, Stage, IsSound, desk_part, Awaits_address, Awaits_password, Talks, Reply, Turn, Said, GiveRow, unreadable, broken_frame, offset_again, said_bytes, held_along}
+use Rattle.session_core.specs.Stages.{Side, Answers, Calls, Setting, Stage, Awaits_address, Awaits_login, Talks, desk_part, Login, Tally, nothing_yet, tally_along, Told, told_along}
+use Rattle.session_core.specs.Says.{said_bytes}
+use Rattle.session_core.specs.Sessions.{Reply, Turn, Said, Gives, OwesFile, breaks, outcome_gave}
 
 -- Views.
 
-abbrev pub setting_of : CodeSetting → Setting
-setting_of s = record { home = address s.home; moment = s.moment; limit = s.limit }
+abbrev pub side_of : CodeSide → Side
+side_of S.Answers = Answers
+side_of (S.Calls called) = Calls (address called)
 
-abbrev pub held_of : Receiver → Option Part
-held_of R.Idle = None
-held_of (R.Dropping held) = Some (record { key = key_of held.key; left = held.left; taking = false })
-held_of (R.Taking held) = Some (record { key = key_of held.key; left = held.left; taking = true })
+abbrev pub setting_of : CodeSide → CodeSetting → Setting
+setting_of side s = record { side = side_of side; home = address s.home; moment = s.moment; limit = s.limit; block = s.block }
 
 abbrev pub talk_of : Talking → Talk
-talk_of t = record { role = t.role; sending = None; own_end = t.own_end; peer_end = t.peer_end }
+talk_of t = record { role = t.role; sending = sending_of t.sender; own_end = t.own_end; peer_end = t.peer_end }
+
+abbrev pub talking_stage : Talking → Stage
+talking_stage t = Talks (talk_of t) (held_of t.receiver)
 
 abbrev pub stage_of : CodeStage → Stage
 stage_of K.AwaitsAddress = Awaits_address
-stage_of (K.AwaitsPassword peers) = Awaits_password (map address peers.items)
-stage_of (K.Talks talking) = Talks (talk_of talking) (held_of talking.receiver)
+stage_of (K.AwaitsLogin peers) = Awaits_login (map address peers.addresses.items)
+stage_of (K.Talks talking) = talking_stage talking
 
-abbrev pub heard_text : CodeHeard → Heard
-heard_text H.Passed = Passed
-heard_text (H.Addresses addresses) = Addresses (map address addresses.items)
-heard_text (H.Password text) = Password text.list
-heard_text (H.Offers key offset) = Offers (key_of key) offset
-heard_text H.EndsBatch = Ends_batch
-heard_text H.Unbuilt = Unbuilt
+abbrev pub login_text : CodeLogin → Login
+login_text l = record { number = l.number; peer = address l.peer }
 
--- addresses and a file within the limits
-abbrev pub IsWithin : Heard → Type 0
-IsWithin (Addresses addresses) = AreAddresses addresses
-IsWithin (Offers key offset) = IsKey key
-IsWithin heard = Unit {0}
+abbrev pub tally_text : CodeTally → Tally
+tally_text t = record { sent = t.sent; received = t.received; skipped = t.skipped }
+
+abbrev pub tally_of : Talking → Tally
+tally_of t = record { sent = t.sender.sent; received = t.receiver.received; skipped = t.sender.skipped }
+
+-- nothing is counted before login
+abbrev pub tally_at : CodeStage → Tally
+tally_at K.AwaitsAddress = nothing_yet
+tally_at (K.AwaitsLogin peers) = nothing_yet
+tally_at (K.Talks talking) = tally_of talking
+
+abbrev pub told_of : Session → Told
+told_of s = record { login = option_map login_text s.login; tally = tally_at s.stage }
+
+abbrev pub setting_in : Session → Setting
+setting_in s = setting_of s.side s.setting
 
 -- What was written.
-
--- the text of the M_ERR that a cause owes
-abbrev pub cause_bytes : Cause → List ℕ
-cause_bytes C.Late = offset_again
-cause_bytes _ = broken_frame
 
 -- a fact of a session that goes on
 abbrev pub IfMore : Took → Type 0 → Type 0
 IfMore T.More P = P
 IfMore (T.Ended end) P = Unit {0}
+
+abbrev pub IfOn : Gave → Type 0 → Type 0
+IfOn G.Sent P = P
+IfOn G.Waits P = P
+IfOn (G.Ended end) P = Unit {0}
 
 -- the output grew by what a row says, or by a front of it for want of memory
 pub record Writes (old new output : List ℕ) (goal took : Took) : Type 0 where
@@ -81,7 +87,13 @@ pub record Writes (old new output : List ℕ) (goal took : Took) : Type 0 where
   pub said : Said output goal written took
   pub grew : new ≡ old ++ written
 
--- a row was made
+pub record WritesTurn (old new output : List ℕ) (goal gave : Gave) : Type 0 where
+  pub written : List ℕ
+  pub said : Gives output goal written gave
+  pub grew : new ≡ old ++ written
+
+-- Rows that were made.
+
 pub record Did (P : List Event → Reply → Type 0) (alone : Bool) (old new : Stand) (stage : Stage) (out out' : List ℕ) (took : Took) : Type 0 where
   pub events : List Turned
   pub reply : Reply
@@ -90,69 +102,94 @@ pub record Did (P : List Event → Reply → Type 0) (alone : Bool) (old new : S
   pub stage_is : IfMore took (stage ≡ reply.stage)
   pub writes : Writes out out' reply.output reply.took took
 
--- a row was made that asks the desk for nothing
+-- one that asks the desk for nothing
 pub record DidPlain (reply : Reply) (stage : Stage) (out out' : List ℕ) (took : Took) : Type 0 where
   pub stage_is : IfMore took (stage ≡ reply.stage)
   pub writes : Writes out out' reply.output reply.took took
 
--- no row was made, for want of memory
-pub record GaveUp (alone : Bool) (old new : Stand) (out out' : List ℕ) (took : Took) : Type 0 where
-  pub ran : RanAt alone old [] new
-  pub out_is : out' ≡ out
-  pub over : took ≡ T.Ended E.NoMemory
+-- one after login, whose calls are counted
+pub record Counts (P : List Event → Reply → Type 0) (alone : Bool) (old new : Stand) (was now : Tally) (stage : Stage) (out out' : List ℕ) (took : Took) : Type 0 where
+  pub did : Did P alone old new stage out out' took
+  pub count_is : now ≡ tally_along was (asked_of did.events)
 
 -- nothing was written for want of memory
 abbrev pub NothingMore : List ℕ → List ℕ → Took → Type 0
 NothingMore out out' took = (took ≡ T.Ended E.NoMemory) × (out' ≡ out)
 
--- a row was made, or none for want of memory
-abbrev pub MadeRow : (List Event → Reply → Type 0) → Bool → Stand → Stand → Stage → List ℕ → List ℕ → Took → Type 0
-MadeRow P alone old new stage out out' took = Did P alone old new stage out out' took ⊎ GaveUp alone old new out out' took
+-- a row was made, and the session tells the login and the counts that its calls leave
+pub record Made (P : List Event → Reply → Type 0) (alone : Bool) (old new : Stand) (was now : Told) (stage : Stage) (out out' : List ℕ) (took : Took) : Type 0 where
+  pub did : Did P alone old new stage out out' took
+  pub told_is : now ≡ told_along was (asked_of did.events)
+
+-- no row was made, for want of memory
+pub record GaveUp (alone : Bool) (old new : Stand) (was now : Told) (out out' : List ℕ) (took : Took) : Type 0 where
+  pub ran : RanAt alone old [] new
+  pub told_is : now ≡ was
+  pub out_is : out' ≡ out
+  pub is : took ≡ T.Ended E.NoMemory
+
+abbrev pub MadeRow : (List Event → Reply → Type 0) → Bool → Stand → Stand → Told → Told → Stage → List ℕ → List ℕ → Took → Type 0
+MadeRow P alone old new was now stage out out' took = Made P alone old new was now stage out out' took ⊎ GaveUp alone old new was now out out' took
 
 -- an argument wasn't read for want of memory, or it can't be read
-abbrev pub RefusesArgument : ℕ → Stage → ArgFault → Stage → List ℕ → List ℕ → Took → Type 0
-RefusesArgument n stage fault stage' out out' took =
-    ((fault ≡ NoMemory) × (took ≡ T.Ended E.NoMemory) × (out' ≡ out))
-    ⊎ ((fault ≢ NoMemory) × DidPlain (unreadable n stage fault) stage' out out' took)
+abbrev pub RefusesArgument : ℕ → Stage → ArgFault → List ℕ → List ℕ → Took → Type 0
+RefusesArgument n stage fault out out' took =
+    ((fault ≡ NoMemory) × NothingMore out out' took) ⊎ ((fault ≢ NoMemory) × DidPlain (breaks n stage (C.Arg fault)) stage out out' took)
+
+-- an own turn was made
+pub record DidTurn (P : List Event → Turn → Type 0) (alone : Bool) (old new : Stand) (stage : Stage) (out out' : List ℕ) (gave : Gave) : Type 0 where
+  pub events : List Turned
+  pub turn : Turn
+  pub row : P (asked_of events) turn
+  pub ran : RanAt alone old events new
+  pub stage_is : IfOn gave (stage ≡ turn.stage)
+  pub writes : WritesTurn out out' turn.output turn.gave gave
+
+-- none was made, for want of memory, where something of the file under way is due
+pub record NoTurn (stage : Stage) (alone : Bool) (old new : Stand) (out out' : List ℕ) (gave : Gave) : Type 0 where
+  pub owes : OwesFile stage
+  pub ran : RanAt alone old [] new
+  pub out_is : out' ≡ out
+  pub is : gave ≡ G.Ended E.NoMemory
+
+abbrev pub MadeTurn : (List Event → Turn → Type 0) → Bool → Stand → Stand → (before after : Stage) → List ℕ → List ℕ → Gave → Type 0
+MadeTurn P alone old new before after out out' gave = DidTurn P alone old new after out out' gave ⊎ NoTurn before alone old new out out' gave
+
+-- Between two frames.
 
 -- a session sits at a desk that is ready for its stage
 pub record Sits (ready : Type 0) (part : DeskPart) (stage : Stage) : Type 0 where
   pub is_ready : ready
   pub part_is : part ≡ desk_part stage
-  pub sound : IsSound stage
 
 -- it sits there still, where the session goes on
 pub record SitsStill (ready : Type 0) (part : DeskPart) (stage : Stage) (took : Took) : Type 0 where
   pub is_ready : ready
-  pub sits : IfMore took (Sits ready part stage)
+  pub part_is : IfMore took (part ≡ desk_part stage)
 
--- A row over a message was made, before its end is told.
+pub record SitsOn (ready : Type 0) (part : DeskPart) (stage : Stage) (gave : Gave) : Type 0 where
+  pub is_ready : ready
+  pub part_is : IfOn gave (part ≡ desk_part stage)
 
-abbrev pub step_outcome : Result RecvStep DeskFault → Outcome
-step_outcome (Ok S.More) = Goes_on
-step_outcome (Ok S.Late) = Ends Too_late
-step_outcome (Ok S.TooMuch) = Ends Too_much
-step_outcome (Err fault) = Ends (Refused_by (fault_of fault))
+-- what a session is lent, and the number of its last frame, stay
+pub record Keeps (old new : Session) : Type 0 where
+  pub setting_is : setting_in new ≡ setting_in old
+  pub frames_is : new.frames ≡ old.frames
 
-abbrev pub WritesStep : List ℕ → List ℕ → Verdict → Result RecvStep DeskFault → Type 0
-WritesStep out out' v step =
-    ((step_outcome step ≡ v.outcome) × (out' ≡ out ++ said_bytes v.said)) ⊎ ((step ≡ Err D.NoMemory) × (0 < length (said_bytes v.said)) × (out' ≡ out))
+-- before login: a row was made that asks the desk for nothing, or none, for want of memory; nothing is open then
+pub record DidEarly (reply : Reply) (old new : Session) (out out' : List ℕ) (took : Took) : Type 0 where
+  pub row : DidPlain reply (stage_of new.stage) out out' took ⊎ NothingMore out out' took
+  pub keeps : Keeps old new
+  pub told_is : told_of new ≡ told_of old
+  pub shut : IfMore took (desk_part (stage_of new.stage) ≡ desk_part Awaits_address)
 
-pub record DidTake (P : List Event → Verdict → Type 0) (alone : Bool) (old new : Stand) (held held' : Option Part) (out out' : List ℕ) (step : Result RecvStep DeskFault) : Type 0 where
-  pub events : List Turned
+-- nothing is offered: the own batch ends, or waits for the end of the peer's
+pub record EndsBatch (old new : Talking) (out out' : List ℕ) (gave : Gave) : Type 0 where
   pub verdict : Verdict
-  pub row : P (asked_of events) verdict
-  pub ran : RanAt alone old events new
-  pub held_is : held' ≡ held_along held (asked_of events)
-  pub writes : WritesStep out out' verdict step
-
--- the own turn was made, or given up for want of memory
-pub record DidGive (old new : Stage) (out out' : List ℕ) (gave : Gave) : Type 0 where
-  pub turn : Turn
-  pub row : GiveRow old turn
-  pub is : ((gave ≡ turn.gave) × (new ≡ turn.stage) × (out' ≡ out ++ turn.output)) ⊎ ((gave ≡ G.Ended E.NoMemory) × (new ≡ old) × (0 < length turn.output) × (out' ≡ out))
-
--- that message was written, or nothing for want of memory
-abbrev pub SaysOnly : Message → List ℕ → List ℕ → Result RecvStep DeskFault → Type 0
-SaysOnly message out out' step =
-    ((step ≡ Ok S.More) × (out' ≡ out ++ said_bytes (message ∷ []))) ⊎ ((step ≡ Err D.NoMemory) × (out' ≡ out))
+  pub row : AfterSend (talk_of old) verdict Empty
+  pub talk_is : IfOn gave (talk_of new ≡ verdict.after)
+  pub sending_is : sending_of new.sender ≡ sending_of old.sender
+  pub held_is : held_of new.receiver ≡ held_of old.receiver
+  pub block_is : new.sender.block ≡ old.sender.block
+  pub tally_is : tally_of new ≡ tally_of old
+  pub writes : WritesTurn out out' (said_bytes verdict.said) (outcome_gave verdict.outcome) gave

@@ -1,20 +1,18 @@
--- The rows of an answering session over frames: its login, and the messages after it (FTS-1026, session stages; the
--- texts of M_OK, M_ERR and VER are own).
-use Rattle.std.specs.Prelude.{◌≡◌, ◌⊎◌, ℕ, ◌-◌, ◌^◌, ◌<◌, min, Bool, true, false, ◌||◌, ◌&&◌, ◌==◌, nat_le, nat_eq, MatchBool, List, [], ◌∷◌, ◌++◌, length, Option, None, Result, Ok, Err, codes}
-use Rattle.std.specs.List.{flat_map}
+-- The rows of a session over frames: its login, the messages after it, and its own turn (FTS-1026, session stages).
+use Rattle.std.specs.Prelude.{◌≡◌, ◌⊎◌, ℕ, ◌-◌, ◌^◌, ◌<◌, min, Bool, false, nat_eq, MatchBool, if◌then◌else◌, List, [], ◌∷◌, ◌++◌, length, Option, None, Result, Ok, Err, codes}
+use Rattle.std.specs.List.{list_any}
 use Rattle.std.specs.Cmp.Lexicographic.{pointwise}
 use Rattle.ftn_addr.specs.Address.{Address, same_address}
-use Rattle.ftn_addr.specs.Key.{Key}
-use Rattle.ftn_addr.specs.Frames.{FrameText, Command as CommandFrame, Data as DataFrame, frame_bytes}
+use Rattle.ftn_addr.specs.Frames.{FrameText, Command as CommandFrame, Data as DataFrame}
 use Rattle.binkp_args.specs.declared.fault.ArgFault.{ArgFault}
 use Rattle.binkp_args.specs.declared.fault.ArgFault.TheVariants.{NoAddress}
 use Rattle.binkp_args.specs.Command.{CommandText, Nul, Adr, Pwd, File as FileCommand, Accept, Eob, Got as GotCommand, Error, Bsy, Get as GetCommand, Skip as SkipCommand, Other, command_of}
-use Rattle.binkp_args.specs.Limits.{AreAddresses}
-use Rattle.binkp_args.specs.Writing.{frame_text_of}
-use Rattle.node_model.specs.declared.words.Role.TheVariants.{Answers}
 use Rattle.node_model.specs.Lists.{without}
 use Rattle.node_model.specs.Calls.{Open_call, Fault, Disk, Read, Full, No_memory, Answer, Let_in, Busy, Begun, Refused, Event, one}
-use Rattle.node_model.specs.Talk.{Message, File, Data, Got, Get, Skip, End as EndMessage, Talk, first_words, Part, RowEnd, Finished, Out_of_turn, Too_late, Too_much, Refused_by, Outcome, Goes_on, Waits, Ends, Verdict, TakeRow, Empty, AfterSend, is_finished, waits as waits_on, ends as ends_by}
+use Rattle.node_model.specs.Talk.{Message, File, Data, Got, Get, Skip, End as EndMessage, Talk, first_words, Part, RowEnd, Finished, Out_of_turn, Too_late, Too_much, Refused_by, Outcome, Goes_on, Waits, Ends, Verdict, TakeRow, TurnRow}
+use Rattle.session_send.specs.Senders.{IsDue, CommandRow as SenderRow}
+use Rattle.session_recv.specs.Replies.{held_along}
+use Rattle.session_core.specs.declared.ending.Cause.{Cause}
 use Rattle.session_core.specs.declared.ending.Cause.TheVariants as C
 use Rattle.session_core.specs.Ends.{End}
 use Rattle.session_core.specs.Ends as E
@@ -22,85 +20,10 @@ use Rattle.session_core.specs.Takings.{Took}
 use Rattle.session_core.specs.Takings as T
 use Rattle.session_core.specs.Givings.{Gave}
 use Rattle.session_core.specs.Givings as G
-use Rattle.node_model.specs.Desks.{DeskPart, held_after}
+use Rattle.session_core.specs.Stages.{Side, Answers, Calls, role_of, Setting, Stage, Awaits_address, Awaits_login, Talks}
+use Rattle.session_core.specs.Says.{said_bytes, filling, greeting, no_password, welcome_of, bad_password, too_many, cause_bytes, fault_bytes, last_words}
 
--- what a session is lent: its own address, the moment, and the most bytes that it takes and writes
-pub record Setting : Type 0 where
-  pub home : Address
-  pub moment : ℕ
-  pub limit : ℕ
-
--- before the peer's addresses, before its password, and after login, with the file that is held
-pub data Stage : Type 0 where
-  Awaits_address : Stage
-  Awaits_password : (peers : List Address) → Stage
-  Talks : (talk : Talk) (held : Option Part) → Stage
-
--- the peer's addresses are within the limits, one at least
-abbrev pub IsSound : Stage → Type 0
-IsSound (Awaits_password peers) = AreAddresses peers
-IsSound stage = Unit {0}
-
--- what the desk has of a session at that stage
-abbrev pub desk_part : Stage → DeskPart
-desk_part Awaits_address = record { open_now = false; claim = None; held = None }
-desk_part (Awaits_password peers) = record { open_now = false; claim = None; held = None }
-desk_part (Talks talk held) = record { open_now = true; claim = None; held = held }
-
--- What is said.
-
-abbrev pub command_bytes : CommandText → List ℕ
-command_bytes command = frame_bytes (frame_text_of command)
-
-abbrev pub message_bytes : Message → List ℕ
-message_bytes (File key offset) = command_bytes (FileCommand key offset)
-message_bytes (Data bytes) = frame_bytes (DataFrame bytes)
-message_bytes (Got key) = command_bytes (GotCommand key)
-message_bytes (Get key offset) = command_bytes (GetCommand key offset)
-message_bytes (Skip key) = command_bytes (SkipCommand key)
-message_bytes EndMessage = command_bytes Eob
-
-abbrev pub said_bytes : List Message → List ℕ
-said_bytes said = flat_map message_bytes said
-
-unfoldable pub version : List ℕ
-version = command_bytes (Nul (codes "VER binkp_mailer/1.0 binkp/1.0"))
-
--- VER alone, and the own address
-abbrev pub greeting : Address → List ℕ
-greeting home = version ++ command_bytes (Adr (home ∷ []))
-
-unfoldable pub welcome : List ℕ
-welcome = command_bytes (Accept (codes "non-secure"))
-
-unfoldable pub broken_frame : List ℕ
-broken_frame = command_bytes (Error (codes "broken frame"))
-
-unfoldable pub offset_again : List ℕ
-offset_again = command_bytes (Error (codes "offset again"))
-
-unfoldable pub disk_fault : List ℕ
-disk_fault = command_bytes (Error (codes "disk fault"))
-
-unfoldable pub ledger_full : List ℕ
-ledger_full = command_bytes (Error (codes "ledger full"))
-
-unfoldable pub too_many : List ℕ
-too_many = command_bytes (Bsy (codes "too many servers"))
-
--- the M_ERR that a refusal owes
-abbrev pub fault_bytes : Fault → List ℕ
-fault_bytes (Disk count) = disk_fault
-fault_bytes (Read count) = disk_fault
-fault_bytes Full = ledger_full
-fault_bytes No_memory = []
-
-abbrev pub last_words : RowEnd → List ℕ
-last_words Finished = []
-last_words Out_of_turn = broken_frame
-last_words Too_late = offset_again
-last_words Too_much = broken_frame
-last_words (Refused_by fault) = fault_bytes fault
+-- Ends.
 
 abbrev pub fault_end : Fault → End
 fault_end (Disk count) = E.DiskFault count
@@ -131,41 +54,100 @@ pub record Reply : Type 0 where
 abbrev pub on : Stage → List ℕ → Reply
 on stage output = record { output = output; took = T.More; stage = stage }
 
-abbrev pub ends : ℕ → Stage → RowEnd → Reply
-ends n stage end = record { output = last_words end; took = T.Ended (end_of n end); stage = stage }
+abbrev pub over : Stage → List ℕ → End → Reply
+over stage output end = record { output = output; took = T.Ended end; stage = stage }
+
+-- the peer's frame with that number is refused
+abbrev pub breaks : ℕ → Stage → Cause → Reply
+breaks n stage cause = over stage (cause_bytes cause) (E.Broke cause n)
 
 -- no call, and this reply
 abbrev pub Plain : Reply → List Event → Reply → Type 0
 Plain reply es r = (es ≡ []) × (r ≡ reply)
 
--- an argument that can't be read
-abbrev pub unreadable : ℕ → Stage → ArgFault → Reply
-unreadable n stage fault = record { output = broken_frame; took = T.Ended (E.Broke (C.Arg fault) n); stage = stage }
+-- Before login.
+
+-- the called address is among the peer's
+abbrev pub is_among : Address → List Address → Bool
+is_among called peers = list_any (same_address called) peers
+
+-- the calling side wants the node that it called, and says its password
+abbrev pub met : Side → ℕ → List Address → Reply
+met Answers n peers = on (Awaits_login peers) []
+met (Calls called) n peers = if is_among called peers then on (Awaits_login peers) no_password else breaks n Awaits_address C.NotCalled
 
 -- the peer's addresses without the own one; none is no address
-abbrev pub named : ℕ → List Address → Reply
-named n [] = unreadable n Awaits_address NoAddress
-named n (first ∷ others) = on (Awaits_password (first ∷ others)) []
+abbrev pub named : Side → ℕ → List Address → Reply
+named side n [] = breaks n Awaits_address (C.Arg NoAddress)
+named side n (first ∷ others) = met side n (first ∷ others)
+
+-- M_PWD before M_ADR
+abbrev pub early_password : Side → ℕ → Reply
+early_password Answers n = breaks n Awaits_address C.OutOfTurn
+early_password (Calls called) n = on Awaits_address []
+
+-- M_OK before the own password
+abbrev pub early_word : Side → ℕ → Reply
+early_word Answers n = on Awaits_address []
+early_word (Calls called) n = breaks n Awaits_address C.OutOfTurn
+
+-- a command before the peer's addresses
+abbrev pub before_address : Setting → ℕ → CommandText → Reply
+before_address s n (Nul text) = on Awaits_address []
+before_address s n (Adr addresses) = named s.side n (without (same_address s.home) addresses)
+before_address s n (Pwd text) = early_password s.side n
+before_address s n (FileCommand key offset) = breaks n Awaits_address C.OutOfTurn
+before_address s n (Accept text) = early_word s.side n
+before_address s n Eob = breaks n Awaits_address C.OutOfTurn
+before_address s n (GotCommand key) = breaks n Awaits_address C.OutOfTurn
+before_address s n (Error text) = over Awaits_address [] (E.PeerError text)
+before_address s n (Bsy text) = over Awaits_address [] E.PeerBusy
+before_address s n (GetCommand key offset) = breaks n Awaits_address C.OutOfTurn
+before_address s n (SkipCommand key) = breaks n Awaits_address C.OutOfTurn
+before_address s n (Other number) = on Awaits_address []
 
 -- the peer is in once the desk has opened its session
-abbrev pub AfterBegin : List Address → Answer → Reply → Type 0
-AfterBegin peers (Begun number) r = r ≡ on (Talks (first_words Answers) None) welcome
-AfterBegin peers (Refused fault) r =
-    r ≡ record { output = welcome ++ fault_bytes fault; took = T.Ended (fault_end fault); stage = Awaits_password peers }
-AfterBegin peers _ r = ⊥
+abbrev pub AfterBegin : Side → List Address → Answer → Reply → Type 0
+AfterBegin side peers (Begun number) r = r ≡ on (Talks (first_words (role_of side)) None) (welcome_of side)
+AfterBegin side peers (Refused fault) r = r ≡ over (Awaits_login peers) (welcome_of side ++ fault_bytes fault) (fault_end fault)
+AfterBegin side peers _ r = ⊥
 
 pub record LoginRow (s : Setting) (peers : List Address) (es : List Event) (r : Reply) : Type 0 where
   pub answer : Answer
-  pub asks : es ≡ one (Open_call Answers peers false s.moment) answer
-  pub follows : AfterBegin peers answer r
+  pub asks : es ≡ one (Open_call (role_of s.side) peers false s.moment) answer
+  pub follows : AfterBegin s.side peers answer r
 
 -- a password of one hyphen is none
 abbrev pub is_none : List ℕ → Bool
 is_none text = pointwise nat_eq text (45 ∷ [])
 
-abbrev pub held_along : Option Part → List Event → Option Part
-held_along held [] = held
-held_along held (e ∷ es) = held_along (held_after held e.call e.answer) es
+-- M_PWD: the answering side wants none
+abbrev pub PasswordRow : Side → Setting → List Address → List ℕ → List Event → Reply → Type 0
+PasswordRow Answers s peers text es r =
+    MatchBool (is_none text) (LoginRow s peers es r) (Plain (over (Awaits_login peers) bad_password (E.BadPassword (codes "-") text)) es r)
+PasswordRow (Calls called) s peers text es r = Plain (on (Awaits_login peers) []) es r
+
+-- M_OK: the calling side is in
+abbrev pub AcceptRow : Side → Setting → List Address → List Event → Reply → Type 0
+AcceptRow Answers s peers es r = Plain (on (Awaits_login peers) []) es r
+AcceptRow (Calls called) s peers es r = LoginRow s peers es r
+
+-- a command between the peer's addresses and the login
+abbrev pub BeforeLogin : Setting → ℕ → List Address → CommandText → List Event → Reply → Type 0
+BeforeLogin s n peers (Nul text) es r = Plain (on (Awaits_login peers) []) es r
+BeforeLogin s n peers (Adr addresses) es r = Plain (on (Awaits_login peers) []) es r
+BeforeLogin s n peers (Pwd text) es r = PasswordRow s.side s peers text es r
+BeforeLogin s n peers (FileCommand key offset) es r = Plain (breaks n (Awaits_login peers) C.OutOfTurn) es r
+BeforeLogin s n peers (Accept text) es r = AcceptRow s.side s peers es r
+BeforeLogin s n peers Eob es r = Plain (breaks n (Awaits_login peers) C.OutOfTurn) es r
+BeforeLogin s n peers (GotCommand key) es r = Plain (breaks n (Awaits_login peers) C.OutOfTurn) es r
+BeforeLogin s n peers (Error text) es r = Plain (over (Awaits_login peers) [] (E.PeerError text)) es r
+BeforeLogin s n peers (Bsy text) es r = Plain (over (Awaits_login peers) [] E.PeerBusy) es r
+BeforeLogin s n peers (GetCommand key offset) es r = Plain (breaks n (Awaits_login peers) C.OutOfTurn) es r
+BeforeLogin s n peers (SkipCommand key) es r = Plain (breaks n (Awaits_login peers) C.OutOfTurn) es r
+BeforeLogin s n peers (Other number) es r = Plain (on (Awaits_login peers) []) es r
+
+-- After login.
 
 abbrev pub outcome_bytes : Outcome → List ℕ
 outcome_bytes Goes_on = []
@@ -187,82 +169,52 @@ pub record TalkRow (n : ℕ) (talk : Talk) (held : Option Part) (message : Messa
   pub row : TakeRow held talk message es verdict
   pub is : r ≡ reply_of n held es verdict
 
--- what a command is to a session: one that is passed over, the peer's addresses, its password, a file that it offers,
--- the end of its batch, or one whose rows come with later work
-pub data Heard : Type 0 where
-  Passed : Heard
-  Addresses : (addresses : List Address) → Heard
-  Password : (text : List ℕ) → Heard
-  Offers : (key : Key) (offset : ℕ) → Heard
-  Ends_batch : Heard
-  Unbuilt : Heard
+-- M_GOT, M_GET and M_SKIP, which the sending half takes
+pub record AnswerRow (n : ℕ) (talk : Talk) (held : Option Part) (command : CommandText) (es : List Event) (r : Reply) : Type 0 where
+  pub verdict : Verdict
+  pub row : SenderRow talk command es verdict
+  pub is : r ≡ reply_of n held es verdict
 
-abbrev pub heard_of : CommandText → Heard
-heard_of (Nul text) = Passed
-heard_of (Other number) = Passed
-heard_of (Adr addresses) = Addresses addresses
-heard_of (Pwd text) = Password text
-heard_of (FileCommand key offset) = Offers key offset
-heard_of Eob = Ends_batch
-heard_of command = Unbuilt
+-- a command after login
+abbrev pub LoggedRow : ℕ → Talk → Option Part → CommandText → List Event → Reply → Type 0
+LoggedRow n talk held (Nul text) es r = Plain (on (Talks talk held) []) es r
+LoggedRow n talk held (Adr addresses) es r = Plain (on (Talks talk held) []) es r
+LoggedRow n talk held (Pwd text) es r = Plain (on (Talks talk held) []) es r
+LoggedRow n talk held (FileCommand key offset) es r = TalkRow n talk held (File key offset) es r
+LoggedRow n talk held (Accept text) es r = Plain (on (Talks talk held) []) es r
+LoggedRow n talk held Eob es r = TalkRow n talk held EndMessage es r
+LoggedRow n talk held (GotCommand key) es r = TalkRow n talk held (Got key) es r
+LoggedRow n talk held (Error text) es r = Plain (over (Talks talk held) [] (E.PeerError text)) es r
+LoggedRow n talk held (Bsy text) es r = Plain (over (Talks talk held) [] E.PeerBusy) es r
+LoggedRow n talk held (GetCommand key offset) es r = TalkRow n talk held (Get key offset) es r
+LoggedRow n talk held (SkipCommand key) es r = TalkRow n talk held (Skip key) es r
+LoggedRow n talk held (Other number) es r = Plain (on (Talks talk held) []) es r
 
--- before the peer's addresses
-abbrev pub before_address : Address → ℕ → Heard → Reply
-before_address home n Passed = on Awaits_address []
-before_address home n (Addresses addresses) = named n (without (same_address home) addresses)
-before_address home n (Password text) = ends n Awaits_address Out_of_turn
-before_address home n (Offers key offset) = ends n Awaits_address Out_of_turn
-before_address home n Ends_batch = ends n Awaits_address Out_of_turn
-before_address home n Unbuilt = ends n Awaits_address Out_of_turn
+-- Frames.
 
--- before the peer's password
-abbrev pub PasswordRow : Setting → ℕ → List Address → Heard → List Event → Reply → Type 0
-PasswordRow s n peers Passed es r = Plain (on (Awaits_password peers) []) es r
-PasswordRow s n peers (Addresses addresses) es r = Plain (on (Awaits_password peers) []) es r
-PasswordRow s n peers (Password text) es r =
-    MatchBool (is_none text) (LoginRow s peers es r) (Plain (ends n (Awaits_password peers) Out_of_turn) es r)
-PasswordRow s n peers (Offers key offset) es r = Plain (ends n (Awaits_password peers) Out_of_turn) es r
-PasswordRow s n peers Ends_batch es r = Plain (ends n (Awaits_password peers) Out_of_turn) es r
-PasswordRow s n peers Unbuilt es r = Plain (ends n (Awaits_password peers) Out_of_turn) es r
-
--- after login
-abbrev pub LoggedRow : ℕ → Talk → Option Part → Heard → List Event → Reply → Type 0
-LoggedRow n talk held Passed es r = Plain (on (Talks talk held) []) es r
-LoggedRow n talk held (Addresses addresses) es r = Plain (on (Talks talk held) []) es r
-LoggedRow n talk held (Password text) es r =
-    MatchBool (is_none text) (Plain (on (Talks talk held) []) es r) (Plain (ends n (Talks talk held) Out_of_turn) es r)
-LoggedRow n talk held (Offers key offset) es r = TalkRow n talk held (File key offset) es r
-LoggedRow n talk held Ends_batch es r = TalkRow n talk held EndMessage es r
-LoggedRow n talk held Unbuilt es r = Plain (ends n (Talks talk held) Out_of_turn) es r
-
-abbrev pub HeardRow : Setting → ℕ → Stage → Heard → List Event → Reply → Type 0
-HeardRow s n Awaits_address heard es r = Plain (before_address s.home n heard) es r
-HeardRow s n (Awaits_password peers) heard es r = PasswordRow s n peers heard es r
-HeardRow s n (Talks talk held) heard es r = LoggedRow n talk held heard es r
-
--- M_OK, and the numbers from M_GOT to M_SKIP; their arguments aren't read
-abbrev pub is_unbuilt : ℕ → Bool
-is_unbuilt number = number == 4 || (nat_le 6 number && nat_le number 10)
+abbrev pub CommandRow : Setting → ℕ → Stage → CommandText → List Event → Reply → Type 0
+CommandRow s n Awaits_address command es r = Plain (before_address s n command) es r
+CommandRow s n (Awaits_login peers) command es r = BeforeLogin s n peers command es r
+CommandRow s n (Talks talk held) command es r = LoggedRow n talk held command es r
 
 abbrev pub ReadRow : Setting → ℕ → Stage → Result CommandText ArgFault → List Event → Reply → Type 0
-ReadRow s n stage (Ok command) es r = HeardRow s n stage (heard_of command) es r
-ReadRow s n stage (Err fault) es r = Plain (unreadable n stage fault) es r
+ReadRow s n stage (Ok command) es r = CommandRow s n stage command es r
+ReadRow s n stage (Err fault) es r = Plain (breaks n stage (C.Arg fault)) es r
 
 abbrev pub DataRow : ℕ → Stage → List ℕ → List Event → Reply → Type 0
 DataRow n (Talks talk held) bytes es r = TalkRow n talk held (Data bytes) es r
-DataRow n stage bytes es r = Plain (ends n stage Out_of_turn) es r
+DataRow n stage bytes es r = Plain (breaks n stage C.OutOfTurn) es r
 
 -- the peer's frame with that number
 abbrev pub Row : Setting → ℕ → Stage → FrameText → List Event → Reply → Type 0
-Row s n stage (CommandFrame number args) es r =
-    MatchBool (is_unbuilt number) (Plain (ends n stage Out_of_turn) es r) (ReadRow s n stage (command_of s.home number args) es r)
+Row s n stage (CommandFrame number args) es r = ReadRow s n stage (command_of s.home number args) es r
 Row s n stage (DataFrame bytes) es r = DataRow n stage bytes es r
 
--- the first turn: the caller knocks, and is greeted or turned away
+-- the first turn: this side knocks at its desk, and greets the peer or turns it away
 abbrev pub AfterKnock : Setting → Answer → Reply → Type 0
 AfterKnock s Let_in r = r ≡ on Awaits_address (greeting s.home)
-AfterKnock s Busy r = r ≡ record { output = too_many; took = T.Ended E.TurnedAway; stage = Awaits_address }
-AfterKnock s (Refused fault) r = r ≡ record { output = fault_bytes fault; took = T.Ended (fault_end fault); stage = Awaits_address }
+AfterKnock s Busy r = r ≡ over Awaits_address too_many E.TurnedAway
+AfterKnock s (Refused fault) r = r ≡ over Awaits_address (fault_bytes fault) (fault_end fault)
 AfterKnock s _ r = ⊥
 
 -- The own turn.
@@ -277,24 +229,32 @@ outcome_gave Goes_on = G.Sent
 outcome_gave Waits = G.Waits
 outcome_gave (Ends end) = G.Ended (end_of 0 end)
 
--- the own turn of a session that offers nothing: it is over, it has said its end and rests, or it goes on as where no
--- file waits
-pub data EmptyTurn (held : Option Part) (talk : Talk) (v : Verdict) : Type 0 where
-  Finishes : is_finished talk held ≡ true → v ≡ ends_by talk Finished → EmptyTurn held talk v
-  Rests : is_finished talk held ≡ false → talk.own_end ≡ true → v ≡ waits_on talk → EmptyTurn held talk v
-  Gives_nothing : talk.own_end ≡ false → AfterSend talk v Empty → EmptyTurn held talk v
+abbrev pub turn_of : Option Part → Verdict → Turn
+turn_of held v =
+    record { output = said_bytes v.said ++ (filling v.filled ++ outcome_bytes v.outcome); gave = outcome_gave v.outcome; stage = Talks v.after held }
 
-pub record TalkTurn (talk : Talk) (held : Option Part) (t : Turn) : Type 0 where
+pub record TalkTurn (block : ℕ) (talk : Talk) (held : Option Part) (es : List Event) (t : Turn) : Type 0 where
   pub verdict : Verdict
-  pub row : EmptyTurn held talk verdict
-  pub is : t ≡ record { output = said_bytes verdict.said; gave = outcome_gave verdict.outcome; stage = Talks verdict.after held }
+  pub row : TurnRow block held talk es verdict
+  pub is : t ≡ turn_of held verdict
 
--- before login it waits; it asks the desk for nothing yet
-abbrev pub GiveRow : Stage → Turn → Type 0
-GiveRow (Talks talk held) t = TalkTurn talk held t
-GiveRow stage t = t ≡ record { output = []; gave = G.Waits; stage = stage }
+-- before login it waits
+abbrev pub GiveRow : Setting → Stage → List Event → Turn → Type 0
+GiveRow s (Talks talk held) es t = TalkTurn s.block talk held es t
+GiveRow s stage es t = (es ≡ []) × (t ≡ record { output = []; gave = G.Waits; stage = stage })
+
+-- the own turn says something of the file under way
+abbrev pub OwesFile : Stage → Type 0
+OwesFile (Talks talk held) = (talk.own_end ≡ false) × IsDue talk.sending
+OwesFile stage = ⊥
 
 -- Want of memory is free: in place of its reply a row that made its calls may write less than all of it, and end.
+
+abbrev pub IsCut : (output written : List ℕ) → Type 0
+IsCut output written = (rest : List ℕ) × (0 < length rest) × (output ≡ written ++ rest)
+
 abbrev pub Said : List ℕ → Took → List ℕ → Took → Type 0
-Said output goal written took =
-    ((took ≡ goal) × (written ≡ output)) ⊎ ((took ≡ T.Ended E.NoMemory) × ((rest : List ℕ) × (0 < length rest) × (output ≡ written ++ rest)))
+Said output goal written took = ((took ≡ goal) × (written ≡ output)) ⊎ ((took ≡ T.Ended E.NoMemory) × IsCut output written)
+
+abbrev pub Gives : List ℕ → Gave → List ℕ → Gave → Type 0
+Gives output goal written gave = ((gave ≡ goal) × (written ≡ output)) ⊎ ((gave ≡ G.Ended E.NoMemory) × IsCut output written)

@@ -1,202 +1,174 @@
 //! A session: what a frame of the peer's does, and the own turn.
-ghost use Rattle.std.specs.Prelude.{◌≡◌, ◌<◌, ◌+◌, ◌-◌, ◌^◌, ◌==◌, ◌||◌, ◌&&◌, min, nat_le, length, Result, Ok};
-ghost use Rattle.ftn_addr.specs.Address.{address};
-ghost use Rattle.ftn_addr.specs.Limits.{IsAddress};
-ghost use Rattle.binkp_args.specs.Command.{command_text, command_of};
-ghost use Rattle.binkp_args.specs.Limits.{HasFile, HasAddresses};
-ghost use Rattle.binkp_frame.specs.Views.{frame_text};
-ghost use Rattle.session_core.specs.Givings.{gave_text};
-ghost use Rattle.session_core.specs.Takings.{took_text};
-ghost use Rattle.session_core.specs.Replies.{Did, DidGive, GaveUp, IsWithin, MadeRow, RefusesArgument, Sits, SitsStill, heard_text, setting_of, stage_of};
-ghost use Rattle.session_core.specs.Sessions.{Awaits_address, IsSound, desk_part, DataRow, HeardRow, ReadRow, Row, is_unbuilt};
-ghost use Rattle.session_core.specs.Givings as G;
+ghost use Rattle.std.specs.Prelude.{◌≡◌};
+ghost use Rattle.session_core.specs.Blocks.{block_at};
 
-use crate::hearing::{Heard, hear};
-use crate::logged::{hear_data, own_turn, take_after_login};
-use crate::login::{take_before_address, take_before_password, unreadable};
-use crate::stage::{Stage, out_of_turn};
+use crate::login::Login;
+use crate::saying::break_off;
+use crate::side::Side;
+use crate::stage::Stage;
 use crate::terms::Setting;
-use crate::{End, Gave, Took};
-use binkp_args::{ArgFault, read_command};
+use crate::{Cause, End, Gave, Took};
+use binkp_args::{ArgFault, Command, read_command};
 use binkp_frame::Frame;
 use ftn_addr::Bytes;
 use node_model::Desk;
 use std::alloc::Global;
 use std::mem;
 
-/// An answering session: how far it has come, and how many frames it took.
+/// A session: its side, what it is lent, how far it has come, how many frames it took, and its login.
 #[derive(Debug, Drop)]
 pub struct Session {
+    pub side: Side,
+    pub setting: Setting,
     pub stage: Stage,
     pub frames: u64,
-}
-
-fn is_unbuilt(number: u8) -> bool
-    ensures { result ≡ is_unbuilt number }
-{
-    number == 4 || (6 <= number && number <= 10)
-}
-
-/// A command that was read.
-fn take_heard<K: Desk>(
-    alloc: Global,
-    number: u64,
-    stage: Stage,
-    heard: Heard,
-    setting: &Setting,
-    desk: &mut K,
-    out: &mut Bytes,
-) -> (Stage, Took)
-    requires within { IsWithin (heard_text heard) }
-    requires sits { Sits (K.ready desk.old) (K.part desk.old) (stage_of stage) }
-    ensures row { MadeRow (HeardRow (setting_of setting.now) number (stage_of stage) (heard_text heard)) K.alone (K.stand desk.old) (K.stand desk.new) (stage_of result.0) out.old.list out.new.list (took_text result.1) }
-    ensures sits { SitsStill (K.ready desk.new) (K.part desk.new) (stage_of result.0) (took_text result.1) }
-{
-    match stage {
-        Stage::AwaitsAddress => take_before_address(alloc, number, heard, &setting.home, out),
-        Stage::AwaitsPassword(peers) => {
-            take_before_password(alloc, number, peers, heard, setting, desk, out)
-        }
-        Stage::Talks(talking) => take_after_login(alloc, number, talking, heard, desk, out),
-    }
-}
-
-/// A data frame.
-fn take_data_frame<K: Desk>(
-    alloc: Global,
-    number: u64,
-    stage: Stage,
-    bytes: &Bytes,
-    desk: &mut K,
-    out: &mut Bytes,
-) -> (Stage, Took)
-    requires { Sits (K.ready desk.old) (K.part desk.old) (stage_of stage) }
-    ensures row { Did (DataRow number (stage_of stage) bytes.now.list) K.alone (K.stand desk.old) (K.stand desk.new) (stage_of result.0) out.old.list out.new.list (took_text result.1) }
-    ensures sits { SitsStill (K.ready desk.new) (K.part desk.new) (stage_of result.0) (took_text result.1) }
-{
-    match stage {
-        Stage::AwaitsAddress => out_of_turn(alloc, Stage::AwaitsAddress, number, out),
-        Stage::AwaitsPassword(peers) => {
-            out_of_turn(alloc, Stage::AwaitsPassword(peers), number, out)
-        }
-        Stage::Talks(talking) => hear_data(alloc, number, talking, bytes.as_slice(), desk, out),
-    }
-}
-
-/// An argument that wasn't read: it can't be, or no memory was left.
-fn refuse_argument(
-    alloc: Global,
-    number: u64,
-    stage: Stage,
-    fault: ArgFault,
-    out: &mut Bytes,
-) -> (Stage, Took)
-    ensures { RefusesArgument number (stage_of stage) fault (stage_of result.0) out.old.list out.new.list (took_text result.1) }
-{
-    match fault {
-        ArgFault::NoMemory => (stage, Took::Ended(End::NoMemory)),
-        _ => unreadable(alloc, stage, number, fault, out),
-    }
-}
-
-/// A command frame that is built: its argument is read.
-fn take_argument<K: Desk>(
-    alloc: Global,
-    number: u64,
-    stage: Stage,
-    code: u8,
-    args: &Bytes,
-    setting: &Setting,
-    desk: &mut K,
-    out: &mut Bytes,
-) -> (Stage, Took)
-    requires home { IsAddress (address setting.now.home) }
-    requires sits { Sits (K.ready desk.old) (K.part desk.old) (stage_of stage) }
-    ensures row { MadeRow (ReadRow (setting_of setting.now) number (stage_of stage) (command_of (address setting.now.home) code args.now.list)) K.alone (K.stand desk.old) (K.stand desk.new) (stage_of result.0) out.old.list out.new.list (took_text result.1) }
-    ensures sits { SitsStill (K.ready desk.new) (K.part desk.new) (stage_of result.0) (took_text result.1) }
-{
-    match read_command(alloc, code, args.as_slice(), &setting.home) {
-        Ok(command) => {
-            let heard = hear(command);
-            take_heard(alloc, number, stage, heard, setting, desk, out)
-        }
-        Err(fault) => refuse_argument(alloc, number, stage, fault, out),
-    }
-}
-
-/// The peer's frame with that number.
-fn take_frame<K: Desk>(
-    alloc: Global,
-    number: u64,
-    stage: Stage,
-    frame: &Frame,
-    setting: &Setting,
-    desk: &mut K,
-    out: &mut Bytes,
-) -> (Stage, Took)
-    requires home { IsAddress (address setting.now.home) }
-    requires sits { Sits (K.ready desk.old) (K.part desk.old) (stage_of stage) }
-    ensures row { MadeRow (Row (setting_of setting.now) number (stage_of stage) (frame_text frame.now)) K.alone (K.stand desk.old) (K.stand desk.new) (stage_of result.0) out.old.list out.new.list (took_text result.1) }
-    ensures sits { SitsStill (K.ready desk.new) (K.part desk.new) (stage_of result.0) (took_text result.1) }
-{
-    match frame {
-        Frame::Command { number: code, args } => {
-            if is_unbuilt(*code) {
-                out_of_turn(alloc, stage, number, out)
-            } else {
-                take_argument(alloc, number, stage, *code, args, setting, desk, out)
-            }
-        }
-        Frame::Data { bytes } => take_data_frame(alloc, number, stage, bytes, desk, out),
-    }
+    /// Once the desk has opened its session.
+    pub login: Option<Login>,
+    pub ghost block: { block_at setting.block stage ≡ setting.block },
 }
 
 impl Session {
-    /// Before the first frame.
-    pub fn new() -> Session
+    ghost use Rattle.std.specs.Prelude.{None, ◌<◌, ◌+◌, ◌-◌, ◌^◌, min, length};
+    ghost use Rattle.binkp_args.specs.Command.{command_text, command_of};
+    ghost use Rattle.binkp_args.specs.Limits.{HasFile, HasAddresses};
+    ghost use Rattle.binkp_frame.specs.Views.{frame_text};
+    ghost use Rattle.ftn_addr.specs.Address.{address};
+    ghost use Rattle.session_core.specs.Givings as G;
+    ghost use Rattle.session_core.specs.Givings.{gave_text};
+    ghost use Rattle.session_core.specs.Takings.{took_text};
+    ghost use Rattle.session_core.specs.Stages.{Awaits_address, untold};
+    ghost use Rattle.session_core.specs.Sessions.{CommandRow, DataRow, GiveRow, ReadRow, Row};
+    ghost use Rattle.session_core.specs.Replies.{Keeps, MadeRow, MadeTurn, RefusesArgument, Sits, SitsOn, SitsStill, told_of, setting_in, setting_of, side_of, stage_of};
+
+    /// Before the first frame. This takes no memory.
+    pub fn new(side: Side, setting: Setting) -> Session
+        ensures setting { setting_in result ≡ setting_of side setting }
         ensures stage { stage_of result.stage ≡ Awaits_address }
         ensures frames { result.frames ≡ 0 }
+        ensures told { told_of result ≡ untold }
     {
         Session {
+            side,
+            setting,
             stage: Stage::AwaitsAddress,
             frames: 0,
+            login: None,
         }
     }
 
-    /// Takes the next frame of the peer's.
+    /// Takes the next frame of the peer's. After an end the session isn't used any more.
     pub fn take<K: Desk>(
         &mut self,
         alloc: Global,
         frame: &Frame,
-        setting: &Setting,
         desk: &mut K,
         out: &mut Bytes,
     ) -> Took
-        requires home { IsAddress (address setting.now.home) }
         requires sits { Sits (K.ready desk.old) (K.part desk.old) (stage_of self.old.stage) }
-        ensures frames { self.new.frames ≡ min (self.old.frames + 1) (2 ^ 64 - 1) }
-        ensures row { MadeRow (Row (setting_of setting.now) self.new.frames (stage_of self.old.stage) (frame_text frame.now)) K.alone (K.stand desk.old) (K.stand desk.new) (stage_of self.new.stage) out.old.list out.new.list (took_text result) }
+        ensures row { MadeRow (Row (setting_in self.old) self.new.frames (stage_of self.old.stage) (frame_text frame.now)) K.alone (K.stand desk.old) (K.stand desk.new) (told_of self.old) (told_of self.new) (stage_of self.new.stage) out.old.list out.new.list (took_text result) }
         ensures sits { SitsStill (K.ready desk.new) (K.part desk.new) (stage_of self.new.stage) (took_text result) }
+        ensures setting { setting_in self.new ≡ setting_in self.old }
+        ensures frames { self.new.frames ≡ min (self.old.frames + 1) (2 ^ 64 - 1) }
     {
         self.frames = self.frames.saturating_add(1);
-        let stage = mem::replace(&mut self.stage, Stage::AwaitsAddress);
-        let (next, took) = take_frame(alloc, self.frames, stage, frame, setting, desk, out);
-        self.stage = next;
-        took
+        match frame {
+            Frame::Command { number, args } => {
+                self.take_argument(alloc, *number, args, desk, out)
+            }
+            Frame::Data { bytes } => self.take_data(alloc, bytes.as_slice(), desk, out),
+        }
     }
 
-    /// Makes the own turn.
-    pub fn give(&mut self, alloc: Global, out: &mut Bytes) -> Gave
-        ensures row { DidGive (stage_of self.old.stage) (stage_of self.new.stage) out.old.list out.new.list (gave_text result) }
-        ensures part { desk_part (stage_of self.new.stage) ≡ desk_part (stage_of self.old.stage) }
-        ensures sound { IsSound (stage_of self.old.stage) → IsSound (stage_of self.new.stage) }
-        ensures frames { self.new.frames ≡ self.old.frames }
+    /// Makes the own turn. After an end the session isn't used any more.
+    pub fn give<K: Desk>(&mut self, alloc: Global, desk: &mut K, out: &mut Bytes) -> Gave
+        requires sits { Sits (K.ready desk.old) (K.part desk.old) (stage_of self.old.stage) }
+        ensures row { MadeTurn (GiveRow (setting_in self.old) (stage_of self.old.stage)) K.alone (K.stand desk.old) (K.stand desk.new) (stage_of self.old.stage) (stage_of self.new.stage) out.old.list out.new.list (gave_text result) }
+        ensures sits { SitsOn (K.ready desk.new) (K.part desk.new) (stage_of self.new.stage) (gave_text result) }
+        ensures keeps { Keeps self.old self.new }
+        ensures told { told_of self.new ≡ told_of self.old }
         ensures sent { gave_text result ≡ G.Sent → 0 < length out.new.list }
     {
         match &mut self.stage {
             Stage::AwaitsAddress => Gave::Waits,
-            Stage::AwaitsPassword(_) => Gave::Waits,
-            Stage::Talks(talking) => own_turn(alloc, talking, out),
+            Stage::AwaitsLogin(_) => Gave::Waits,
+            Stage::Talks(talking) => talking.give(alloc, desk, out),
+        }
+    }
+
+    /// A command frame: its argument is read.
+    fn take_argument<K: Desk>(
+        &mut self,
+        alloc: Global,
+        number: u8,
+        args: &Bytes,
+        desk: &mut K,
+        out: &mut Bytes,
+    ) -> Took
+        requires sits { Sits (K.ready desk.old) (K.part desk.old) (stage_of self.old.stage) }
+        ensures row { MadeRow (ReadRow (setting_in self.old) self.old.frames (stage_of self.old.stage) (command_of (setting_in self.old).home number args.now.list)) K.alone (K.stand desk.old) (K.stand desk.new) (told_of self.old) (told_of self.new) (stage_of self.new.stage) out.old.list out.new.list (took_text result) }
+        ensures sits { SitsStill (K.ready desk.new) (K.part desk.new) (stage_of self.new.stage) (took_text result) }
+        ensures keeps { Keeps self.old self.new }
+    {
+        match read_command(alloc, number, args.as_slice(), &self.setting.home) {
+            Ok(command) => self.take_command(alloc, command, desk, out),
+            Err(fault) => self.refuse_argument(alloc, fault, out),
+        }
+    }
+
+    /// An argument that wasn't read: it can't be, or no memory was left.
+    fn refuse_argument(&self, alloc: Global, fault: ArgFault, out: &mut Bytes) -> Took
+        ensures { RefusesArgument self.now.frames (stage_of self.now.stage) fault out.old.list out.new.list (took_text result) }
+    {
+        match fault {
+            ArgFault::NoMemory => Took::Ended(End::NoMemory),
+            _ => Took::Ended(break_off(alloc, Cause::Arg(fault), self.frames, out)),
+        }
+    }
+
+    /// A command that was read.
+    fn take_command<K: Desk>(
+        &mut self,
+        alloc: Global,
+        command: Command,
+        desk: &mut K,
+        out: &mut Bytes,
+    ) -> Took
+        requires sits { Sits (K.ready desk.old) (K.part desk.old) (stage_of self.old.stage) }
+        requires file { HasFile (command_text command) }
+        requires addresses { HasAddresses (command_text command) }
+        ensures row { MadeRow (CommandRow (setting_in self.old) self.old.frames (stage_of self.old.stage) (command_text command)) K.alone (K.stand desk.old) (K.stand desk.new) (told_of self.old) (told_of self.new) (stage_of self.new.stage) out.old.list out.new.list (took_text result) }
+        ensures sits { SitsStill (K.ready desk.new) (K.part desk.new) (stage_of self.new.stage) (took_text result) }
+        ensures keeps { Keeps self.old self.new }
+    {
+        match mem::replace(&mut self.stage, Stage::AwaitsAddress) {
+            Stage::AwaitsAddress => self.take_before_address(alloc, command, out),
+            Stage::AwaitsLogin(peers) => self.take_before_login(alloc, peers, command, desk, out),
+            Stage::Talks(mut talking) => {
+                let took = talking.take_command(alloc, self.frames, command, desk, out);
+                self.stage = Stage::Talks(talking);
+                took
+            }
+        }
+    }
+
+    /// A data frame.
+    fn take_data<K: Desk>(
+        &mut self,
+        alloc: Global,
+        bytes: &[u8],
+        desk: &mut K,
+        out: &mut Bytes,
+    ) -> Took
+        requires sits { Sits (K.ready desk.old) (K.part desk.old) (stage_of self.old.stage) }
+        ensures row { MadeRow (DataRow self.old.frames (stage_of self.old.stage) bytes.now) K.alone (K.stand desk.old) (K.stand desk.new) (told_of self.old) (told_of self.new) (stage_of self.new.stage) out.old.list out.new.list (took_text result) }
+        ensures sits { SitsStill (K.ready desk.new) (K.part desk.new) (stage_of self.new.stage) (took_text result) }
+        ensures keeps { Keeps self.old self.new }
+    {
+        let number = self.frames;
+        match &mut self.stage {
+            Stage::AwaitsAddress => Took::Ended(break_off(alloc, Cause::OutOfTurn, number, out)),
+            Stage::AwaitsLogin(_) => Took::Ended(break_off(alloc, Cause::OutOfTurn, number, out)),
+            Stage::Talks(talking) => talking.take_data(alloc, number, bytes, desk, out),
         }
     }
 }

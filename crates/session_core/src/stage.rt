@@ -1,21 +1,25 @@
 //! How far a session has come.
-ghost use Rattle.std.specs.Prelude.{◌≡◌};
-ghost use Rattle.node_model.specs.Talk.{Out_of_turn};
-ghost use Rattle.session_core.specs.Takings.{took_text};
-ghost use Rattle.session_core.specs.Replies.{DidPlain, stage_of};
-ghost use Rattle.session_core.specs.Sessions.{ends, is_none};
+ghost use Rattle.std.specs.Prelude.{map};
+ghost use Rattle.ftn_addr.specs.Address.{address};
+ghost use Rattle.binkp_args.specs.Limits.{AreAddresses};
 
-use crate::holding::Receiver;
-use crate::saying::break_off;
-use crate::{Cause, Took};
-use ftn_addr::{Addr, Bytes};
+use ftn_addr::Addr;
 use node_model::Role;
-use std::alloc::Global;
+use session_recv::Receiver;
+use session_send::Sender;
 
-/// A session after login: its side, the file that it holds, and whether each M_EOB has passed.
+/// The peer's addresses without the own one, one at least.
+#[derive(Debug, Drop)]
+pub struct Peers {
+    pub addresses: Vec<Addr>,
+    pub ghost are: { AreAddresses (map address addresses.items) },
+}
+
+/// A session after login: its side, its two halves, and whether each M_EOB has passed.
 #[derive(Debug, Drop)]
 pub struct Talking {
     pub role: Role,
+    pub sender: Sender,
     pub receiver: Receiver,
     pub own_end: bool,
     pub peer_end: bool,
@@ -26,22 +30,7 @@ pub struct Talking {
 pub enum Stage {
     /// Before the peer's addresses.
     AwaitsAddress,
-    /// Before its password, with the peer's addresses.
-    AwaitsPassword(Vec<Addr>),
+    /// With them, and at the calling side with the own password said: before the peer's password, or before its M_OK.
+    AwaitsLogin(Peers),
     Talks(Talking),
-}
-
-/// A password of one hyphen is none.
-pub fn is_none(text: &Bytes) -> bool
-    ensures { result ≡ is_none text.now.list }
-{
-    text.as_slice() == [b'-'].as_slice()
-}
-
-/// Refuses a frame that doesn't belong here.
-pub fn out_of_turn(alloc: Global, stage: Stage, number: u64, out: &mut Bytes) -> (Stage, Took)
-    ensures { DidPlain (ends number (stage_of stage) Out_of_turn) (stage_of result.0) out.old.list out.new.list (took_text result.1) }
-{
-    let took = break_off(alloc, Cause::OutOfTurn, number, out);
-    (stage, took)
 }

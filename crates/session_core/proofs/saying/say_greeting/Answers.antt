@@ -1,7 +1,8 @@
 use Rattle.std.proofs.Common.{[], ◌∷◌, ◌∙◌}
 use Rattle.ftn_addr.specs.Address.{address}
 use Rattle.binkp_args.specs.Command.{Adr}
-use Rattle.session_core.specs.Sessions.{command_bytes, version}
+use Rattle.session_recv.specs.Replies.{command_bytes}
+use Rattle.session_core.specs.Says.{version}
 use Rattle.session_core.specs.Takings as T
 use Rattle.session_core.proofs.Writings.{wrote_front, some_command}
 use Rattle.session_core.proofs.saying.say_greeting.Goals as goal
