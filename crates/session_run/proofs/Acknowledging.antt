@@ -1,14 +1,14 @@
 -- Along a session each M_GOT that is written names a file that its node has.
-use Rattle.std.proofs.Common.{◌≡◌, ◌∙◌, ℕ, Bool, true, false, Some, List, [], ◌∷◌, ◌++◌, Option, None, refl, sym, ap, subst, inl, inr, append_assoc}
+use Rattle.std.proofs.Common.{◌≡◌, ◌⊎◌, ◌≤◌, ◌∙◌, ℕ, Bool, true, false, Some, List, [], ◌∷◌, ◌++◌, Option, None, refl, sym, ap, subst, inl, inr, append_assoc}
 use Rattle.std.specs.Prelude.{nat_le, if◌then◌else◌}
 use Rattle.std.specs.List.{flat_map}
 use Rattle.std.proofs.lemmas.List.{append-nil}
 use Rattle.std.proofs.lemmas.List.Concat.{flat_map-append}
 use Rattle.ftn_addr.specs.Frames.{FrameText, Command, Data, frame_bytes}
 use Rattle.ftn_addr.specs.Key.{Key}
+use Rattle.ftn_addr.specs.declared.limits.TheConstants.{MAX_FRAME_DATA}
 use Rattle.node_model.specs.Lists.{Each}
-use Rattle.node_model.specs.declared.words.Role.TheVariants.{Answers}
-use Rattle.node_model.specs.Calls.{Knows, Tells, Counts_alone, DeskState, Turned, turned, asked_of, Turns, Knock_call, Leave_call}
+use Rattle.node_model.specs.Calls.{Knows, Tells, Counts_alone, DeskState, Turned, turned, asked_of, one, Turns, Knock_call, Offer_call, Nothing, Leave_call}
 use Rattle.node_model.specs.Desks.{DeskPart, PartTold}
 use Rattle.node_model.specs.Node.{Hold, session_at, hold_in}
 use Rattle.node_model.specs.Talk.{part_of}
@@ -23,12 +23,16 @@ use Rattle.session_core.specs.Givings.{Gave}
 use Rattle.session_core.specs.Givings as G
 use Rattle.session_core.specs.Takings.{Took}
 use Rattle.session_core.specs.Takings as T
-use Rattle.session_core.specs.Sessions.{Setting, Said, frame_number}
+use Rattle.session_core.specs.Stages.{Setting, Stage}
+use Rattle.session_core.specs.Sessions.{Said, Gives, frame_number}
 use Rattle.session_run.specs.Acknowledged.{MayStand, Written, CutAt}
+use Rattle.session_run.specs.Settled.{BatchEnded, OffersNone}
 use Rattle.session_run.specs.Machine.{World, Phase, Starting, Taking, Writing, Reading, Over, Draining, Closed, Step, greets, takes_frame, makes_turn, writes, passes_write, reads, gives_up, leaves, drains, closes, Reach, here, next, opening, after_took, after_gave, after_write, after_read, after_drain}
 use Rattle.session_run.proofs.HeldKeys.{key_held, HoldsKnown, chain_key}
 use Rattle.session_run.proofs.Acks.{acknowledged, acknowledged_on}
-use Rattle.session_run.proofs.RowWritings.{IsOwed, Framed, stage_key, row_behind, knock_behind, turn_behind}
+use Rattle.session_run.proofs.FrameWritings.{AllQuiet, EndsBatch, IsOwed, Framed, own_end_at}
+use Rattle.session_run.proofs.RowWritings.{Behind, stage_key, row_behind, knock_behind, turn_behind}
+use Rattle.session_run.proofs.AskedCalls.{asked_last, asked_on}
 
 -- Frames.
 
@@ -40,50 +44,118 @@ each_both : {A : Type 0} (P : A → Type 0) (xs ys : List A) → Each P xs → E
 each_both P [] ys a b = b
 each_both P (x ∷ xs) ys a b = (a.0, each_both P xs ys a.1 b)
 
-stands_on : (alone : Bool) (desk : DeskState) (es more : List Turned) (f : FrameText) → MayStand alone desk es f → MayStand alone desk (es ++ more) f
-stands_on alone desk es more (Data bytes) m = m
-stands_on alone desk es more (Command number args) m = λ six. let x = m six in (x.0, x.1, acknowledged_on alone desk es more x.0 x.2)
+-- Further calls: none of them offers, or no M_EOB was written yet.
 
-owed_stands : (alone : Bool) (desk a b : DeskState) (old es : List Turned) (held : Option Key) → Turns alone desk old a → Turns alone a es b → HoldsKnown a.seat a.knows held → (f : FrameText) → IsOwed held (asked_of es) f → MayStand alone desk (old ++ es) f
-owed_stands alone desk a b old es held before c h (Data bytes) o = o
-owed_stands alone desk a b old es held before c h (Command number args) o =
-    λ six. let x = o six in (x.0, x.1, acknowledged alone desk a b old es held x.0 x.2.0 x.2.1 before c x.2.2 h x.2.3)
+abbrev pub NotEob : FrameText → Type 0
+NotEob (Data bytes) = Unit {0}
+NotEob (Command number args) = number ≡ 5 → ⊥
 
--- more calls, and nothing more is written
-written_on : (alone : Bool) (desk : DeskState) (es more : List Turned) (output cut : List ℕ) → Written alone desk es output cut → Written alone desk (es ++ more) output cut
-written_on alone desk es more output cut w =
-    record { frames = w.frames; spelled = w.spelled; stand = each_weaker (MayStand alone desk es) (MayStand alone desk (es ++ more)) w.frames (stands_on alone desk es more) w.stand }
+quiet_turns : (es : List Turned) → AllQuiet (asked_of es) → Each OffersNone es
+quiet_turns [] q = tt
+quiet_turns (e ∷ es) q = (q.0, quiet_turns es q.1)
 
--- further frames, up to where they are cut off
-written_more : (alone : Bool) (desk : DeskState) (es : List Turned) (output : List ℕ) (frames : List FrameText) (a b : List ℕ) → a ++ b ≡ flat_map frame_bytes frames → Each (MayStand alone desk es) frames → Written alone desk es output [] → Written alone desk es (output ++ a) b
-written_more alone desk es output frames a b e stand w = record {
-  frames = w.frames ++ frames;
-  spelled = append_assoc output a b ∙ ap (λ (x : List ℕ). output ++ x) e ∙ ap (λ (x : List ℕ). x ++ flat_map frame_bytes frames) (sym (append-nil output) ∙ w.spelled) ∙ sym (flat_map-append frame_bytes w.frames frames);
-  stand = each_both (MayStand alone desk es) w.frames frames w.stand stand;
-}
+ended_on : (alone : Bool) (desk : DeskState) (es more : List Turned) → Each OffersNone more → BatchEnded alone desk es → BatchEnded alone desk (es ++ more)
+unfolding asked_on
+ended_on alone desk es more q b = record { nothing = asked_on alone desk es more _ _ b.nothing; last = each_both OffersNone b.nothing.later more b.last q }
 
--- what was written of a row that was made behind these calls
-pub record Wrote (alone : Bool) (desk : DeskState) (es : List Turned) (output : List ℕ) (phase : Phase) : Type 0 where
+stands_on : (alone : Bool) (desk : DeskState) (es more : List Turned) (f : FrameText) → Each OffersNone more ⊎ NotEob f → MayStand alone desk es f → MayStand alone desk (es ++ more) f
+stands_on alone desk es more (Data bytes) q m = m
+stands_on alone desk es more (Command number args) (inl q) m =
+    (λ six. let x = m.0 six in (x.0, x.1, acknowledged_on alone desk es more x.0 x.2), λ five. ended_on alone desk es more q (m.1 five))
+stands_on alone desk es more (Command number args) (inr not) m =
+    (λ six. let x = m.0 six in (x.0, x.1, acknowledged_on alone desk es more x.0 x.2), λ five. absurd (not five))
+
+each_on : (alone : Bool) (desk : DeskState) (es more : List Turned) (frames : List FrameText) → Each OffersNone more ⊎ Each NotEob frames → Each (MayStand alone desk es) frames → Each (MayStand alone desk (es ++ more)) frames
+each_on alone desk es more frames (inl q) a = each_weaker (MayStand alone desk es) (MayStand alone desk (es ++ more)) frames (λ f. stands_on alone desk es more f (inl q)) a
+each_on alone desk es more [] (inr n) a = tt
+each_on alone desk es more (f ∷ frames) (inr n) a = (stands_on alone desk es more f (inr n.0) a.0, each_on alone desk es more frames (inr n.1) a.1)
+
+ended_by : (alone : Bool) (desk a b : DeskState) (old es : List Turned) → Turns alone desk old a → Turns alone a es b → asked_of es ≡ one Offer_call Nothing → BatchEnded alone desk (old ++ es)
+unfolding asked_last
+ended_by alone desk a b old es before c is = go es c is
+  where
+    go : (fs : List Turned) → Turns alone a fs b → asked_of fs ≡ one Offer_call Nothing → BatchEnded alone desk (old ++ fs)
+    go [] d e = absurd (let clash : [] ≡ one Offer_call Nothing = e in cc)
+    go (f ∷ []) d e = record { nothing = asked_last alone desk a b old f Offer_call Nothing tt before d e; last = tt }
+    go (f ∷ g ∷ fs) d e = absurd (let clash : f.asked ∷ (g.asked ∷ asked_of fs) ≡ one Offer_call Nothing = e in cc)
+
+-- the row's one call of the desk found nothing to offer
+ends_stands : (alone : Bool) (desk a b : DeskState) (old es : List Turned) (after : Stage) → Turns alone desk old a → Turns alone a es b → EndsBatch (asked_of es) after → BatchEnded alone desk (old ++ es)
+ends_stands alone desk a b old es after before c ends = ended_by alone desk a b old es before c ends.0
+
+owed_stands : (alone : Bool) (desk a b : DeskState) (old es : List Turned) (held : Option Key) (after : Stage) → Turns alone desk old a → Turns alone a es b → HoldsKnown a.seat a.knows held → (f : FrameText) → IsOwed held (asked_of es) after f → MayStand alone desk (old ++ es) f
+owed_stands alone desk a b old es held after before c h (Data bytes) o = o
+owed_stands alone desk a b old es held after before c h (Command number args) o =
+    (λ six. let x = o.0 six in (x.0, x.1, acknowledged alone desk a b old es held x.0 x.2.0 x.2.1 before c x.2.2 h x.2.3), λ five. ends_stands alone desk a b old es after before c (o.1 five))
+
+-- what is owed is no M_EOB while the batch goes on
+owed_goes_on : (held : Option Key) (es : List Turned) (after : Stage) (f : FrameText) → own_end_at after ≡ false → IsOwed held (asked_of es) after f → NotEob f
+owed_goes_on held es after (Data bytes) on o = tt
+owed_goes_on held es after (Command number args) on o = λ five. let clash : true ≡ false = sym (o.1 five).1 ∙ on in cc
+
+-- what was written of the rows that were made behind these calls
+pub record Wrote (alone : Bool) (desk : DeskState) (es : List Turned) (output : List ℕ) (phase : Phase) (ended : Bool) : Type 0 where
   pub cut : List ℕ
   pub cut_at : CutAt phase cut
-  pub written : Written alone desk es output cut
+  pub frames : List FrameText
+  pub spelled : output ++ cut ≡ flat_map frame_bytes frames
+  pub stand : Each (MayStand alone desk es) frames
+  -- no M_EOB yet, while the batch goes on
+  pub unended : ended ≡ false → Each NotEob frames
+
+-- further frames, up to where they are cut off
+more_frames : (output : List ℕ) (old frames : List FrameText) (a b : List ℕ) → output ++ [] ≡ flat_map frame_bytes old → a ++ b ≡ flat_map frame_bytes frames → (output ++ a) ++ b ≡ flat_map frame_bytes (old ++ frames)
+more_frames output old frames a b w e = append_assoc output a b ∙ ap (λ (x : List ℕ). output ++ x) e ∙ ap (λ (x : List ℕ). x ++ flat_map frame_bytes frames) (sym (append-nil output) ∙ w) ∙ sym (flat_map-append frame_bytes old frames)
 
 whole_cut : (took : Took) → CutAt (after_took took) []
 whole_cut T.More = refl
 whole_cut (T.Ended end) = tt
 
-said_more : (alone : Bool) (desk : DeskState) (es : List Turned) (old : List ℕ) (frames : List FrameText) (output : List ℕ) (goal : Took) (said : List ℕ) (took : Took) → output ≡ flat_map frame_bytes frames → Each (MayStand alone desk es) frames → Written alone desk es old [] → Said output goal said took → Wrote alone desk es (old ++ said) (after_took took)
-said_more alone desk es old frames output goal said took e stand w (inl s) =
-    record { cut = []; cut_at = whole_cut took; written = written_more alone desk es old frames said [] (append-nil said ∙ s.1 ∙ e) stand w }
-said_more alone desk es old frames output goal said took e stand w (inr s) =
-    record { cut = s.1.0; cut_at = subst (λ (t : Took). CutAt (after_took t) s.1.0) (sym s.0) tt; written = written_more alone desk es old frames said s.1.0 (sym s.1.2 ∙ e) stand w }
+gave_cut : (gave : Gave) → CutAt (after_gave gave) []
+gave_cut G.Sent = refl
+gave_cut G.Waits = refl
+gave_cut (G.Ended end) = tt
 
--- a row that was made behind the calls so far
-row_wrote : (alone : Bool) (desk a b : DeskState) (old es : List Turned) (out : List ℕ) (held : Option Key) (output : List ℕ) (goal : Took) (said : List ℕ) (took : Took) → Turns alone desk old a → Turns alone a es b → HoldsKnown a.seat a.knows held → Framed held (asked_of es) output → Written alone desk old out [] → Said output goal said took → Wrote alone desk (old ++ es) (out ++ said) (after_took took)
-row_wrote alone desk a b old es out held output goal said took before c h framed w s =
-    said_more alone desk (old ++ es) out framed.frames output goal said took framed.spelled
-    (each_weaker (IsOwed held (asked_of es)) (MayStand alone desk (old ++ es)) framed.frames (owed_stands alone desk a b old es held before c h) framed.owed)
-    (written_on alone desk old es out [] w) s
+-- a row that was made behind the calls so far: what of its frames was written, and what of them was cut off
+record RowMade (alone : Bool) (desk : DeskState) (es : List Turned) (out said cut : List ℕ) (ended : Bool) : Type 0 where
+  pub frames : List FrameText
+  pub spelled : (out ++ said) ++ cut ≡ flat_map frame_bytes frames
+  pub stand : Each (MayStand alone desk es) frames
+  pub unended : ended ≡ false → Each NotEob frames
+
+row_made : (alone : Bool) (desk a b : DeskState) (old es : List Turned) (out : List ℕ) (p : Phase) (before after : Stage) (output said cut : List ℕ) → Turns alone desk old a → Turns alone a es b → HoldsKnown a.seat a.knows (stage_key before) → Framed (stage_key before) (asked_of es) after output → (own_end_at before ≡ true → own_end_at after ≡ true) → AllQuiet (asked_of es) ⊎ (own_end_at before ≡ false) → (w : Wrote alone desk old out p (own_end_at before)) → w.cut ≡ [] → said ++ cut ≡ output → RowMade alone desk (old ++ es) out said cut (own_end_at after)
+row_made alone desk a b old es out p before after output said cut leads c h framed rises quiet w uncut e = record {
+  frames = w.frames ++ framed.frames;
+  spelled = more_frames out w.frames framed.frames said cut (ap (λ (x : List ℕ). out ++ x) (sym uncut) ∙ w.spelled) (e ∙ framed.spelled);
+  stand = each_both (MayStand alone desk (old ++ es)) w.frames framed.frames (each_on alone desk old es w.frames (on quiet) w.stand)
+      (each_weaker (IsOwed (stage_key before) (asked_of es) after) (MayStand alone desk (old ++ es)) framed.frames (owed_stands alone desk a b old es (stage_key before) after leads c h) framed.owed);
+  unended = λ goes. each_both NotEob w.frames framed.frames (w.unended (not_risen (own_end_at before) (own_end_at after) rises goes))
+      (each_weaker (IsOwed (stage_key before) (asked_of es) after) NotEob framed.frames (λ f. owed_goes_on (stage_key before) es after f goes) framed.owed);
+}
+  where
+    on : AllQuiet (asked_of es) ⊎ (own_end_at before ≡ false) → Each OffersNone es ⊎ Each NotEob w.frames
+    on (inl q) = inl (quiet_turns es q)
+    on (inr f) = inr (w.unended f)
+
+    not_risen : (x y : Bool) → (x ≡ true → y ≡ true) → y ≡ false → x ≡ false
+    not_risen true y up e = absurd (let clash : true ≡ false = sym (up refl) ∙ e in cc)
+    not_risen false y up e = refl
+
+took_wrote : (alone : Bool) (desk a b : DeskState) (old es : List Turned) (out : List ℕ) (p : Phase) (before after : Stage) (output : List ℕ) (goal : Took) (said : List ℕ) (took : Took) → Turns alone desk old a → Turns alone a es b → HoldsKnown a.seat a.knows (stage_key before) → Framed (stage_key before) (asked_of es) after output → (own_end_at before ≡ true → own_end_at after ≡ true) → AllQuiet (asked_of es) ⊎ (own_end_at before ≡ false) → (w : Wrote alone desk old out p (own_end_at before)) → w.cut ≡ [] → Said output goal said took → Wrote alone desk (old ++ es) (out ++ said) (after_took took) (own_end_at after)
+took_wrote alone desk a b old es out p before after output goal said took leads c h framed rises quiet w uncut (inl s) =
+    let r = row_made alone desk a b old es out p before after output said [] leads c h framed rises quiet w uncut (append-nil said ∙ s.1) in
+    record { cut = []; cut_at = whole_cut took; frames = r.frames; spelled = r.spelled; stand = r.stand; unended = r.unended }
+took_wrote alone desk a b old es out p before after output goal said took leads c h framed rises quiet w uncut (inr s) =
+    let r = row_made alone desk a b old es out p before after output said s.1.0 leads c h framed rises quiet w uncut (sym s.1.2) in
+    record { cut = s.1.0; cut_at = subst (λ (t : Took). CutAt (after_took t) s.1.0) (sym s.0) tt; frames = r.frames; spelled = r.spelled; stand = r.stand; unended = r.unended }
+
+gave_wrote : (alone : Bool) (desk a b : DeskState) (old es : List Turned) (out : List ℕ) (p : Phase) (before after : Stage) (output : List ℕ) (goal : Gave) (said : List ℕ) (gave : Gave) → Turns alone desk old a → Turns alone a es b → HoldsKnown a.seat a.knows (stage_key before) → Framed (stage_key before) (asked_of es) after output → (own_end_at before ≡ true → own_end_at after ≡ true) → AllQuiet (asked_of es) ⊎ (own_end_at before ≡ false) → (w : Wrote alone desk old out p (own_end_at before)) → w.cut ≡ [] → Gives output goal said gave → Wrote alone desk (old ++ es) (out ++ said) (after_gave gave) (own_end_at after)
+gave_wrote alone desk a b old es out p before after output goal said gave leads c h framed rises quiet w uncut (inl s) =
+    let r = row_made alone desk a b old es out p before after output said [] leads c h framed rises quiet w uncut (append-nil said ∙ s.1) in
+    record { cut = []; cut_at = gave_cut gave; frames = r.frames; spelled = r.spelled; stand = r.stand; unended = r.unended }
+gave_wrote alone desk a b old es out p before after output goal said gave leads c h framed rises quiet w uncut (inr s) =
+    let r = row_made alone desk a b old es out p before after output said s.1.0 leads c h framed rises quiet w uncut (sym s.1.2) in
+    record { cut = s.1.0; cut_at = subst (λ (t : Gave). CutAt (after_gave t) s.1.0) (sym s.0) tt; frames = r.frames; spelled = r.spelled; stand = r.stand; unended = r.unended }
 
 -- Along a run.
 
@@ -96,7 +168,8 @@ HoldsAt (Reading waits) d key = HoldsKnown d.seat d.knows key
 HoldsAt phase d key = Unit {0}
 
 pub record Acked (alone : Bool) (desk : DeskState) (w : World) : Type 0 where
-  pub wrote : Wrote alone desk w.events w.output w.phase
+  pub small : w.setting.block ≤ MAX_FRAME_DATA
+  pub wrote : Wrote alone desk w.events w.output w.phase (own_end_at w.stage)
   pub leads : Turns alone desk w.events w.desk
   pub holds : HoldsAt w.phase w.desk (stage_key w.stage)
 
@@ -148,80 +221,81 @@ drain_cut (W.Wrote n) calm end cut = tt
 drain_cut W.Quiet calm end cut = cond_cut (nat_le 60 calm) (Closed end) (Draining false end) cut tt tt
 drain_cut W.Failed calm end cut = tt
 
--- nothing is cut off yet
-uncut : (alone : Bool) (desk : DeskState) (es : List Turned) (output : List ℕ) (p : Phase) (w : Wrote alone desk es output p) → w.cut ≡ [] → Written alone desk es output []
-uncut alone desk es output p w e = subst (Written alone desk es output) e w.written
+-- nothing is cut off while the session goes on
+uncut : (alone : Bool) (desk : DeskState) (w : World) (p : Phase) (a : Acked alone desk w) → w.phase ≡ p → (CutAt p a.wrote.cut → a.wrote.cut ≡ []) → a.wrote.cut ≡ []
+uncut alone desk w p a e f = f (subst (λ (q : Phase). CutAt q a.wrote.cut) e a.wrote.cut_at)
 
 -- the same, in another phase
-goes_on : (alone : Bool) (desk : DeskState) (es : List Turned) (output : List ℕ) (p q : Phase) (w : Wrote alone desk es output p) → CutAt q w.cut → Wrote alone desk es output q
-goes_on alone desk es output p q w c = record { cut = w.cut; cut_at = c; written = w.written }
+goes_on : (alone : Bool) (desk : DeskState) (es : List Turned) (output : List ℕ) (p q : Phase) (ended : Bool) (w : Wrote alone desk es output p ended) → CutAt q w.cut → Wrote alone desk es output q ended
+goes_on alone desk es output p q ended w c = record { cut = w.cut; cut_at = c; frames = w.frames; spelled = w.spelled; stand = w.stand; unended = w.unended }
+
+held_as : (alone : Bool) (desk : DeskState) (w : World) (p : Phase) → Acked alone desk w → w.phase ≡ p → HoldsAt p w.desk (stage_key w.stage)
+held_as alone desk w p a e = subst (λ (q : Phase). HoldsAt q w.desk (stage_key w.stage)) e a.holds
 
 step_acked : (alone : Bool) (desk : DeskState) (w v : World) → Acked alone desk w → Step alone w v → Acked alone desk v
 step_acked alone desk w v a (greets s) =
-    let e : Turned = turned (Knock_call Answers) s.answer s.rows_before s.rows_after in
+    let e : Turned = turned (Knock_call s.role) s.answer s.rows_before s.rows_after in
     let chain : Turns alone w.desk (e ∷ []) s.desk = (s.desk, s.call, refl) in
-    let held = subst (λ (p : Phase). HoldsAt p w.desk (stage_key w.stage)) s.phase a.holds in
-    let whole = uncut alone desk w.events w.output w.phase a.wrote (subst (λ (p : Phase). CutAt p a.wrote.cut) s.phase a.wrote.cut_at) in
-    let b = knock_behind w.setting s.answer s.reply s.follows in
+    let held : HoldsKnown w.desk.seat w.desk.knows (stage_key w.stage) = subst (λ (k : Stage). HoldsKnown w.desk.seat w.desk.knows (stage_key k)) (sym s.new) (held_as alone desk w Starting a s.phase) in
+    let whole = uncut alone desk w Starting a s.phase (λ x. x) in
+    let b : Behind w.stage (asked_of (e ∷ [])) s.reply = subst (λ (k : Stage). Behind k (one (Knock_call s.role) s.answer) s.reply) (sym s.new) (knock_behind w.setting s.role s.answer s.reply s.follows) in
     subst (Acked alone desk) (sym s.is) (record {
-      wrote = row_wrote alone desk w.desk s.desk w.events (e ∷ []) w.output None s.reply.output s.reply.took s.output s.took a.leads chain held b.writes whole s.said;
+      small = a.small;
+      wrote = took_wrote alone desk w.desk s.desk w.events (e ∷ []) w.output w.phase w.stage s.reply.stage s.reply.output s.reply.took s.output s.took a.leads chain held b.writes (λ h. b.ends ∙ h) (inl b.quiet) a.wrote whole s.said;
       leads = (joined alone desk w.events w.desk (e ∷ []) s.desk a.leads chain).chain;
-      holds = took_holds s.took s.desk (stage_key s.reply.stage) (subst (HoldsKnown s.desk.seat s.desk.knows) (sym b.holds) (chain_key alone w.desk s.desk (e ∷ []) None chain held));
+      holds = took_holds s.took s.desk (stage_key s.reply.stage) (subst (HoldsKnown s.desk.seat s.desk.knows) (sym b.holds) (chain_key alone w.desk s.desk (e ∷ []) (stage_key w.stage) chain held));
     })
 step_acked alone desk w v a (takes_frame s) =
-    let held = subst (λ (p : Phase). HoldsAt p w.desk (stage_key w.stage)) s.phase a.holds in
-    let whole = uncut alone desk w.events w.output w.phase a.wrote (subst (λ (p : Phase). CutAt p a.wrote.cut) s.phase a.wrote.cut_at) in
+    let held = held_as alone desk w Taking a s.phase in
+    let whole = uncut alone desk w Taking a s.phase (λ x. x) in
     let b = row_behind w.setting (frame_number (w.frames ++ s.frame ∷ [])) w.stage s.frame (asked_of s.events) s.reply s.row in
     subst (Acked alone desk) (sym s.is) (record {
-      wrote = row_wrote alone desk w.desk s.desk w.events s.events w.output (stage_key w.stage) s.reply.output s.reply.took s.output s.took a.leads s.chain held b.writes whole s.said;
+      small = a.small;
+      wrote = took_wrote alone desk w.desk s.desk w.events s.events w.output w.phase w.stage s.reply.stage s.reply.output s.reply.took s.output s.took a.leads s.chain held b.writes (λ h. b.ends ∙ h) (inl b.quiet) a.wrote whole s.said;
       leads = (joined alone desk w.events w.desk s.events s.desk a.leads s.chain).chain;
       holds = took_holds s.took s.desk (stage_key s.reply.stage) (subst (HoldsKnown s.desk.seat s.desk.knows) (sym b.holds) (chain_key alone w.desk s.desk s.events (stage_key w.stage) s.chain held));
     })
 step_acked alone desk w v a (makes_turn s) =
-    let held = subst (λ (p : Phase). HoldsAt p w.desk (stage_key w.stage)) s.phase a.holds in
-    let whole = uncut alone desk w.events w.output w.phase a.wrote (subst (λ (p : Phase). CutAt p a.wrote.cut) s.phase a.wrote.cut_at) in
-    let b = turn_behind w.stage s.turn s.row in
-    let said = row_wrote alone desk w.desk w.desk w.events [] w.output (stage_key w.stage) s.turn.output T.More s.turn.output T.More a.leads refl held b.writes whole (inl (refl, refl)) in
-    let same : Wrote alone desk w.events (w.output ++ s.turn.output) Taking = subst (λ (es : List Turned). Wrote alone desk es (w.output ++ s.turn.output) Taking) (append-nil w.events) said in
+    let held = held_as alone desk w Taking a s.phase in
+    let whole = uncut alone desk w Taking a s.phase (λ x. x) in
+    let b = turn_behind w.setting w.stage (asked_of s.events) s.turn a.small s.row in
     subst (Acked alone desk) (sym s.is) (record {
-      wrote = goes_on alone desk w.events (w.output ++ s.turn.output) Taking (after_gave s.turn.gave) same (any_cut (after_gave s.turn.gave) same.cut same.cut_at);
-      leads = a.leads;
-      holds = gave_holds s.turn.gave w.desk (stage_key s.turn.stage) (subst (HoldsKnown w.desk.seat w.desk.knows) (sym b.holds) held);
+      small = a.small;
+      wrote = gave_wrote alone desk w.desk s.desk w.events s.events w.output w.phase w.stage s.turn.stage s.turn.output s.turn.gave s.output s.gave a.leads s.chain held b.writes b.ends b.quiet a.wrote whole s.said;
+      leads = (joined alone desk w.events w.desk s.events s.desk a.leads s.chain).chain;
+      holds = gave_holds s.gave s.desk (stage_key s.turn.stage) (subst (HoldsKnown s.desk.seat s.desk.knows) (sym b.holds) (chain_key alone w.desk s.desk s.events (stage_key w.stage) s.chain held));
     })
 step_acked alone desk w v a (writes s) =
-    let held = subst (λ (p : Phase). HoldsAt p w.desk (stage_key w.stage)) s.phase a.holds in
-    let cut = subst (λ (p : Phase). CutAt p a.wrote.cut) s.phase a.wrote.cut_at in
     subst (Acked alone desk) (sym s.is) (record {
-      wrote = goes_on alone desk w.events w.output w.phase _ a.wrote (any_cut _ a.wrote.cut cut);
+      small = a.small;
+      wrote = goes_on alone desk w.events w.output w.phase _ _ a.wrote (any_cut _ a.wrote.cut (uncut alone desk w (Writing s.waits) a s.phase (λ x. x)));
       leads = a.leads;
-      holds = write_holds s.answer w.setting.limit _ s.line.calm s.waits w.desk (stage_key w.stage) held;
+      holds = write_holds s.answer w.setting.limit _ s.line.calm s.waits w.desk (stage_key w.stage) (held_as alone desk w (Writing s.waits) a s.phase);
     })
 step_acked alone desk w v a (passes_write s) =
-    let held = subst (λ (p : Phase). HoldsAt p w.desk (stage_key w.stage)) s.phase a.holds in
-    let cut = subst (λ (p : Phase). CutAt p a.wrote.cut) s.phase a.wrote.cut_at in
-    subst (Acked alone desk) (sym s.is) (record { wrote = goes_on alone desk w.events w.output w.phase (Reading s.waits) a.wrote cut; leads = a.leads; holds = held })
+    subst (Acked alone desk) (sym s.is) (record { small = a.small; wrote = goes_on alone desk w.events w.output w.phase (Reading s.waits) _ a.wrote (uncut alone desk w (Writing s.waits) a s.phase (λ x. x)); leads = a.leads; holds = held_as alone desk w (Writing s.waits) a s.phase })
 step_acked alone desk w v a (reads s) =
-    let held = subst (λ (p : Phase). HoldsAt p w.desk (stage_key w.stage)) s.phase a.holds in
-    let cut = subst (λ (p : Phase). CutAt p a.wrote.cut) s.phase a.wrote.cut_at in
     subst (Acked alone desk) (sym s.is) (record {
-      wrote = goes_on alone desk w.events w.output w.phase _ a.wrote (any_cut _ a.wrote.cut cut);
+      small = a.small;
+      wrote = goes_on alone desk w.events w.output w.phase _ _ a.wrote (any_cut _ a.wrote.cut (uncut alone desk w (Reading s.waits) a s.phase (λ x. x)));
       leads = a.leads;
-      holds = read_holds s.answer w.setting.limit _ s.line.calm w.desk (stage_key w.stage) held;
+      holds = read_holds s.answer w.setting.limit _ s.line.calm w.desk (stage_key w.stage) (held_as alone desk w (Reading s.waits) a s.phase);
     })
 step_acked alone desk w v a (gives_up s) =
-    subst (Acked alone desk) (sym s.is) (record { wrote = goes_on alone desk w.events w.output w.phase (Over E.NoMemory) a.wrote tt; leads = a.leads; holds = tt })
+    subst (Acked alone desk) (sym s.is) (record { small = a.small; wrote = goes_on alone desk w.events w.output w.phase (Over E.NoMemory) _ a.wrote tt; leads = a.leads; holds = tt })
 step_acked alone desk w v a (leaves s) =
     let e : Turned = turned Leave_call s.answer s.rows_before s.rows_after in
     let chain : Turns alone w.desk (e ∷ []) s.desk = (s.desk, s.call, refl) in
     subst (Acked alone desk) (sym s.is) (record {
-      wrote = record { cut = a.wrote.cut; cut_at = tt; written = written_on alone desk w.events (e ∷ []) w.output a.wrote.cut a.wrote.written };
+      small = a.small;
+      wrote = record { cut = a.wrote.cut; cut_at = tt; frames = a.wrote.frames; spelled = a.wrote.spelled; stand = each_on alone desk w.events (e ∷ []) a.wrote.frames (inl (λ h. cc, tt)) a.wrote.stand; unended = a.wrote.unended };
       leads = (joined alone desk w.events w.desk (e ∷ []) s.desk a.leads chain).chain;
       holds = tt;
     })
 step_acked alone desk w v a (drains s) =
-    subst (Acked alone desk) (sym s.is) (record { wrote = goes_on alone desk w.events w.output w.phase _ a.wrote (drain_cut s.answer s.line.calm s.end a.wrote.cut); leads = a.leads; holds = drain_holds s.answer s.line.calm s.end w.desk (stage_key w.stage) })
+    subst (Acked alone desk) (sym s.is) (record { small = a.small; wrote = goes_on alone desk w.events w.output w.phase _ _ a.wrote (drain_cut s.answer s.line.calm s.end a.wrote.cut); leads = a.leads; holds = drain_holds s.answer s.line.calm s.end w.desk (stage_key w.stage) })
 step_acked alone desk w v a (closes s) =
-    subst (Acked alone desk) (sym s.is) (record { wrote = goes_on alone desk w.events w.output w.phase (Closed s.end) a.wrote tt; leads = a.leads; holds = tt })
+    subst (Acked alone desk) (sym s.is) (record { small = a.small; wrote = goes_on alone desk w.events w.output w.phase (Closed s.end) _ a.wrote tt; leads = a.leads; holds = tt })
 
 pub run_acked : (alone : Bool) (desk : DeskState) (w v : World) → Acked alone desk w → Reach alone w v → Acked alone desk v
 run_acked alone desk w v a here = a
@@ -236,6 +310,10 @@ pub told_none : (part : DeskPart) (seat : ℕ) (knows : Knows) → part ≡ reco
 told_none part seat (Tells n) e told = λ whole. none_held (hold_in (session_at n seat)) (sym (told whole).held ∙ ap (λ (p : DeskPart). p.held) e)
 told_none part seat (Counts_alone c) e told = tt
 
-pub acked_open : (alone : Bool) (s : Setting) (line : LineState) (desk : DeskState) → HoldsKnown desk.seat desk.knows None → Acked alone desk (opening s line desk)
-acked_open alone s line desk h =
-    record { wrote = record { cut = []; cut_at = refl; written = record { frames = []; spelled = refl; stand = tt } }; leads = refl; holds = h }
+pub acked_open : (alone : Bool) (s : Setting) (line : LineState) (desk : DeskState) → s.block ≤ MAX_FRAME_DATA → HoldsKnown desk.seat desk.knows None → Acked alone desk (opening s line desk)
+acked_open alone s line desk small h =
+    record { small = small; wrote = record { cut = []; cut_at = refl; frames = []; spelled = refl; stand = tt; unended = λ e. tt }; leads = refl; holds = h }
+
+-- what was written in the end
+pub acked_written : (alone : Bool) (desk : DeskState) (w : World) (a : Acked alone desk w) → Written alone desk w.events w.output a.wrote.cut
+acked_written alone desk w a = record { frames = a.wrote.frames; spelled = a.wrote.spelled; stand = a.wrote.stand }

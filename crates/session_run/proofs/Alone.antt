@@ -7,23 +7,24 @@ use Rattle.node_model.proofs.Drifting.{drift_none, drifted_none, drifted_on, ear
 use Rattle.node_model.proofs.Rans.{absorbed}
 use Rattle.session_run.specs.declared.run.Run.{Run}
 use Rattle.session_run.specs.Runs.{Spot, Follows, At, GoesBy, Went}
-use Rattle.session_run.proofs.Runs.{stream_same}
+use Rattle.session_run.proofs.Streams.{stream_same}
 use Rattle.node_model.proofs.Alone.{call_shared, chain_shared, drifted_shared, ran_shared_too}
-use Rattle.node_model.specs.Calls.{Drifts, DeskState, Turned, turned, Knock_call, Leave_call}
-use Rattle.node_model.specs.declared.words.Role.TheVariants.{Answers}
-use Rattle.session_core.specs.Sessions.{Setting}
-use Rattle.session_core.specs.Ends.{End}
+use Rattle.node_model.specs.Calls.{Call, Answer, Drifts, DeskState, Turned, turned, Knock_call, Leave_call}
+use Rattle.session_core.specs.Stages.{Setting}
 use Rattle.binkp_link.specs.Lines.{LineState}
 use Rattle.session_run.specs.Machine.{World, Phase, Starting, Taking, Writing, Reading, Over, Draining, Closed, Step, greets, takes_frame, makes_turn, writes, passes_write, reads, gives_up, leaves, drains, closes, Reach, here, next}
 use Rattle.std.proofs.Common.{ℕ, ◌≡◌}
 use Rattle.session_run.specs.Laws.{Facts, IsSession}
 use Rattle.session_run.specs.Acknowledged.{Acknowledged, MayStand, Written}
+use Rattle.session_run.specs.Reports.{ReportText}
+use Rattle.session_run.specs.Settled.{Asked, MaySettle}
+use Rattle.ftn_addr.specs.Address.{Address}
 use Rattle.session_run.proofs.Acknowledging.{each_weaker}
 
 step_shared : (w v : World) → Step true w v → Step false w v
-step_shared w v (greets s) = greets (record { phase = s.phase; answer = s.answer; desk = s.desk; rows_before = s.rows_before; rows_after = s.rows_after; call = call_shared w.desk (turned (Knock_call Answers) s.answer s.rows_before s.rows_after) s.desk s.call; reply = s.reply; follows = s.follows; output = s.output; took = s.took; said = s.said; is = s.is })
+step_shared w v (greets s) = greets (record { phase = s.phase; new = s.new; role = s.role; side = s.side; answer = s.answer; desk = s.desk; rows_before = s.rows_before; rows_after = s.rows_after; call = call_shared w.desk (turned (Knock_call s.role) s.answer s.rows_before s.rows_after) s.desk s.call; reply = s.reply; follows = s.follows; output = s.output; took = s.took; said = s.said; is = s.is })
 step_shared w v (takes_frame s) = takes_frame (record { phase = s.phase; frame = s.frame; rest = s.rest; next = s.next; events = s.events; reply = s.reply; row = s.row; desk = s.desk; chain = chain_shared w.desk s.events s.desk s.chain; output = s.output; took = s.took; said = s.said; is = s.is })
-step_shared w v (makes_turn s) = makes_turn s
+step_shared w v (makes_turn s) = makes_turn (record { phase = s.phase; rest = s.rest; none = s.none; events = s.events; turn = s.turn; row = s.row; desk = s.desk; chain = chain_shared w.desk s.events s.desk s.chain; output = s.output; gave = s.gave; said = s.said; is = s.is })
 step_shared w v (writes s) = writes s
 step_shared w v (passes_write s) = passes_write s
 step_shared w v (reads s) = reads s
@@ -53,26 +54,44 @@ acknowledged_shared desk es key a = record {
   has = a.has;
 }
 
+asked_shared : (desk : DeskState) (es : List Turned) (call : Call) (answer : Answer) → Asked true desk es call answer → Asked false desk es call answer
+asked_shared desk es call answer a = record {
+  earlier = a.earlier;
+  turn = a.turn;
+  later = a.later;
+  is = a.is;
+  asked = a.asked;
+  asks = a.asks;
+  chain = chain_shared desk a.earlier a.asks a.chain;
+  answers = a.answers;
+  beside = record { seat = a.beside.seat; mid = a.beside.mid; drift = subst (Drifts false a.asks.seat a.asks.knows) (sym a.beside.drift) (drift_none false a.asks.seat a.asks.knows); rows = a.beside.rows };
+  row = a.row;
+}
+
+settled_shared : (desk : DeskState) (es : List Turned) (home : Address) (frames : List FrameText) (e : Turned) → MaySettle true desk es home frames e → MaySettle false desk es home frames e
+settled_shared desk es home frames e m = λ number is. let x = m number is in record { key = x.key; offered = asked_shared desk es _ _ x.offered; heard = x.heard }
+
 stands_shared : (desk : DeskState) (es : List Turned) (f : FrameText) → MayStand true desk es f → MayStand false desk es f
+unfolding asked_shared
 stands_shared desk es (Data bytes) m = m
-stands_shared desk es (Command number args) m = λ six. let x = m six in (x.0, x.1, acknowledged_shared desk es x.0 x.2)
+stands_shared desk es (Command number args) m = (λ six. let x = m.0 six in (x.0, x.1, acknowledged_shared desk es x.0 x.2), λ five. let x = m.1 five in record { nothing = asked_shared desk es _ _ x.nothing; last = x.last })
 
 written_shared : (desk : DeskState) (es : List Turned) (output cut : List ℕ) → Written true desk es output cut → Written false desk es output cut
 written_shared desk es output cut w =
     record { frames = w.frames; spelled = w.spelled; stand = each_weaker (MayStand true desk es) (MayStand false desk es) w.frames (stands_shared desk es) w.stand }
 
-pub session_shared : (s : Setting) (line : LineState) (desk : Stand) (end : End) (taken : ℕ) (line' : LineState) (desk' : Stand) → IsSession true s line desk end taken line' desk' → IsSession false s line desk end taken line' desk'
-session_shared s line desk end taken line' desk' x = record {
+pub session_shared : (s : Setting) (line : LineState) (desk : Stand) (report : ReportText) (line' : LineState) (desk' : Stand) → IsSession true s line desk report line' desk' → IsSession false s line desk report line' desk'
+session_shared s line desk report line' desk' x = record {
   whole = record {
     last = x.whole.last;
     run = reach_shared _ x.whole.last x.whole.run;
-    closed = x.whole.closed;
+    reports = x.whole.reports;
     line_is = x.whole.line_is;
     desk_is = drifted_shared x.whole.last.desk desk'.state x.whole.desk_is;
-    taken_is = x.whole.taken_is;
     facts = facts_shared line desk.state x.whole.last x.whole.facts;
     cut = x.whole.cut;
     written = written_shared desk.state x.whole.last.events x.whole.last.output x.whole.cut x.whole.written;
+    settled = each_weaker _ _ x.whole.last.events (settled_shared desk.state x.whole.last.events s.home x.whole.last.frames) x.whole.settled;
   };
   ran = ran_shared_too desk x.whole.last.events desk' x.ran;
 }
@@ -90,7 +109,7 @@ still w v d t e step = record { desk = d; step = step; drifted = subst (λ (x : 
 replay : (w v : World) (d : DeskState) → Drifted false d w.desk → Step true w v → Replayed w v d
 replay w v d t (greets s) = record {
   desk = s.desk;
-  step = greets (record { phase = s.phase; answer = s.answer; desk = s.desk; rows_before = s.rows_before; rows_after = s.rows_after; call = (earlier false d w.desk t (turned (Knock_call Answers) s.answer s.rows_before s.rows_after) s.desk (call_shared w.desk (turned (Knock_call Answers) s.answer s.rows_before s.rows_after) s.desk s.call)).made; reply = s.reply; follows = s.follows; output = s.output; took = s.took; said = s.said; is = ap (λ (x : World). record x { desk = s.desk }) s.is });
+  step = greets (record { phase = s.phase; new = s.new; role = s.role; side = s.side; answer = s.answer; desk = s.desk; rows_before = s.rows_before; rows_after = s.rows_after; call = (earlier false d w.desk t (turned (Knock_call s.role) s.answer s.rows_before s.rows_after) s.desk (call_shared w.desk (turned (Knock_call s.role) s.answer s.rows_before s.rows_after) s.desk s.call)).made; reply = s.reply; follows = s.follows; output = s.output; took = s.took; said = s.said; is = ap (λ (x : World). record x { desk = s.desk }) s.is });
   drifted = subst (λ (x : World). Drifted false s.desk x.desk) (sym s.is) (drifted_none false s.desk);
 }
 replay w v d t (takes_frame s) =
@@ -105,7 +124,13 @@ replay w v d t (leaves s) = record {
   step = leaves (record { end = s.end; phase = s.phase; answer = s.answer; desk = s.desk; rows_before = s.rows_before; rows_after = s.rows_after; call = (earlier false d w.desk t (turned Leave_call s.answer s.rows_before s.rows_after) s.desk (call_shared w.desk (turned Leave_call s.answer s.rows_before s.rows_after) s.desk s.call)).made; is = ap (λ (x : World). record x { desk = s.desk }) s.is });
   drifted = subst (λ (x : World). Drifted false s.desk x.desk) (sym s.is) (drifted_none false s.desk);
 }
-replay w v d t (makes_turn s) = still w v d t (ap (λ (x : World). x.desk) s.is) (makes_turn (record { phase = s.phase; rest = s.rest; none = s.none; turn = s.turn; row = s.row; is = ap (λ (x : World). record x { desk = d }) s.is }))
+replay w v d t (makes_turn s) =
+    let z = absorbed false d w.desk t s.events s.desk (chain_shared w.desk s.events s.desk s.chain) s.desk (drifted_none false s.desk) in
+    record {
+      desk = z.last;
+      step = makes_turn (record { phase = s.phase; rest = s.rest; none = s.none; events = s.events; turn = s.turn; row = s.row; desk = z.last; chain = z.chain; output = s.output; gave = s.gave; said = s.said; is = ap (λ (x : World). record x { desk = z.last }) s.is });
+      drifted = subst (λ (x : World). Drifted false z.last x.desk) (sym s.is) z.tail;
+    }
 replay w v d t (writes s) = still w v d t (ap (λ (x : World). x.desk) s.is) (writes (record { waits = s.waits; phase = s.phase; left = s.left; unsent = s.unsent; some = s.some; answer = s.answer; line = s.line; step = s.step; is = ap (λ (x : World). record x { desk = d }) s.is }))
 replay w v d t (passes_write s) = still w v d t (ap (λ (x : World). x.desk) s.is) (passes_write (record { waits = s.waits; phase = s.phase; unsent = s.unsent; is = ap (λ (x : World). record x { desk = d }) s.is }))
 replay w v d t (reads s) = still w v d t (ap (λ (x : World). x.desk) s.is) (reads (record { waits = s.waits; phase = s.phase; left = s.left; unsent = s.unsent; answer = s.answer; buffer = s.buffer; room = s.room; line = s.line; step = s.step; is = ap (λ (x : World). record x { desk = d }) s.is }))
@@ -139,11 +164,11 @@ pub goes_shared : (s : Setting) (a b : Spot) (es : List Turned) → GoesBy true 
 goes_shared s a b es g = record {
   goes = λ w at.
       let u : World = record w { desk = a.desk } in
-      let at' : At true s a u = record { setting_is = at.setting_is; line_is = at.line_is; desk_is = drifted_none true a.desk; phase_is = at.phase_is; unsent = at.unsent; taken = at.taken; wrote = at.wrote; follows = follows_same a.phase a.run a.pending w u refl refl refl at.follows } in
+      let at' : At true s a u = record { setting_is = at.setting_is; line_is = at.line_is; desk_is = drifted_none true a.desk; phase_is = at.phase_is; unsent = at.unsent; taken = at.taken; wrote = at.wrote; stood = at.stood; tells = at.tells; follows = follows_same a.phase a.run a.pending w u refl refl refl at.follows } in
       let x = g.goes u at' in
       let y = replay_all u x.0 w.desk at.desk_is x.1 in
       let v : World = record x.0 { desk = y.desk } in
-      (v, y.run, record { setting_is = x.2.setting_is; line_is = x.2.line_is; desk_is = (drifted_on false y.desk x.0.desk b.desk y.drifted (drifted_shared x.0.desk b.desk x.2.desk_is)).all; phase_is = x.2.phase_is; unsent = x.2.unsent; taken = x.2.taken; wrote = x.2.wrote; follows = follows_same b.phase b.run b.pending x.0 v refl refl refl x.2.follows }, x.3);
+      (v, y.run, record { setting_is = x.2.setting_is; line_is = x.2.line_is; desk_is = (drifted_on false y.desk x.0.desk b.desk y.drifted (drifted_shared x.0.desk b.desk x.2.desk_is)).all; phase_is = x.2.phase_is; unsent = x.2.unsent; taken = x.2.taken; wrote = x.2.wrote; stood = x.2.stood; tells = x.2.tells; follows = follows_same b.phase b.run b.pending x.0 v refl refl refl x.2.follows }, x.3);
 }
 
 pub went_shared_too : (s : Setting) (old new : Stand) (a b : Spot) → Went true s old a new b → Went false s old a new b

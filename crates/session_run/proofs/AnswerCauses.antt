@@ -13,7 +13,7 @@ use Rattle.binkp_link.specs.declared.link.WriteAnswer.{WriteAnswer}
 use Rattle.binkp_link.specs.declared.link.WriteAnswer.TheVariants as W
 use Rattle.session_run.specs.Machine.{Draining, Closed, after_took, after_gave, after_drain}
 use Rattle.session_run.specs.Laws.{LastAnswered, AnswerCause, AnswerCauseAt, LeftAt}
-use Rattle.session_run.proofs.Causes.{Plain_end, RowCause, Finished_alone}
+use Rattle.session_run.proofs.Causes.{Met, Plain_end, EndedBy, RowCause, TurnCause}
 
 -- one call was made, behind others
 last_of_one : (old es : List Turned) (call : Call) (answer : Answer) → asked_of es ≡ one call answer → LastAnswered (old ++ es) answer
@@ -29,21 +29,28 @@ by_fault old es call (Read count) is = inr (last_of_one old es call (Refused (Re
 by_fault old es call Full is = last_of_one old es call (Refused Full) is
 by_fault old es call No_memory is = tt
 
-by_itself : (m : ℕ) (end : End) (es : List Turned) → Plain_end m end → AnswerCause end es
+by_itself : (m : Met) (end : End) (es : List Turned) → Plain_end m end → AnswerCause end es
+by_itself m E.Finished es p = tt
+by_itself m (E.PeerError text) es p = tt
+by_itself m E.PeerBusy es p = tt
+by_itself m (E.BadPassword wanted given) es p = tt
 by_itself m (E.Broke cause n) es p = tt
 by_itself m E.NoMemory es p = tt
 by_itself m _ es p = absurd p
 
-pub took_answer : (m : ℕ) (took : Took) (old es : List Turned) → RowCause m took (asked_of es) → AnswerCauseAt (after_took took) (old ++ es)
-took_answer m T.More old es c = tt
-took_answer m (T.Ended end) old es (inl p) = by_itself m end (old ++ es) p
-took_answer m (T.Ended end) old es (inr (inl r)) = subst (λ (x : End). AnswerCause x (old ++ es)) (sym r.3) (by_fault old es r.0 r.1 r.2)
-took_answer m (T.Ended end) old es (inr (inr r)) = subst (λ (x : End). AnswerCause x (old ++ es)) (sym r.2) (last_of_one old es r.0 Busy r.1)
+ended_answer : (m : Met) (end : End) (old es : List Turned) → EndedBy m end (asked_of es) → AnswerCause end (old ++ es)
+ended_answer m end old es (inl p) = by_itself m end (old ++ es) p
+ended_answer m end old es (inr (inl r)) = subst (λ (x : End). AnswerCause x (old ++ es)) (sym r.3) (by_fault old es r.0 r.1 r.2)
+ended_answer m end old es (inr (inr r)) = subst (λ (x : End). AnswerCause x (old ++ es)) (sym r.2) (last_of_one old es r.0 Busy r.1)
 
-pub gave_answer : (gave : Gave) (es : List Turned) → Finished_alone gave → AnswerCauseAt (after_gave gave) es
-gave_answer G.Sent es f = tt
-gave_answer G.Waits es f = tt
-gave_answer (G.Ended end) es f = subst (λ (x : End). AnswerCause x es) (sym f) tt
+pub took_answer : (m : Met) (took : Took) (old es : List Turned) → RowCause m took (asked_of es) → AnswerCauseAt (after_took took) (old ++ es)
+took_answer m T.More old es c = tt
+took_answer m (T.Ended end) old es c = ended_answer m end old es c
+
+pub gave_answer : (m : Met) (gave : Gave) (old es : List Turned) → TurnCause m gave (asked_of es) → AnswerCauseAt (after_gave gave) (old ++ es)
+gave_answer m G.Sent old es c = tt
+gave_answer m G.Waits old es c = tt
+gave_answer m (G.Ended end) old es c = ended_answer m end old es c
 
 pub drain_answer : (answer : WriteAnswer) (end : End) (calm : ℕ) (es : List Turned) → LeftAt end es → AnswerCauseAt (after_drain answer calm end) es
 drain_answer (W.Wrote n) end calm es l = l

@@ -8,7 +8,7 @@ use Rattle.node_model.specs.Desks.{held_after, less}
 use Rattle.node_model.specs.Talk.{Part}
 use Rattle.node_model.proofs.Moves.{put_at, put_apart, offer-moved, got-moved, skip-moved, leave-moved, open-moved, more-moved, whole-moved, released-moved}
 use Rattle.node_model.proofs.SeatSessions.{session_at-with_session}
-use Rattle.session_core.specs.Sessions.{held_along}
+use Rattle.session_recv.specs.Replies.{held_along}
 use Rattle.session_run.proofs.StepCounts.{made_counts}
 
 abbrev pub key_held : Option Hold → Option Key

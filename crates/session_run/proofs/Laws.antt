@@ -2,7 +2,6 @@
 use Rattle.std.proofs.Common.{◌≡◌, ◌∙◌, ℕ, Bool, true, false, List, [], ◌∷◌, ◌++◌, refl, sym, ap, subst, arith, append_assoc}
 use Rattle.std.proofs.lemmas.List.{append-nil}
 use Rattle.node_model.specs.Calls.{one, Counts, counts_of, DeskState, Turned, turned, asked_of, Turns, Knock_call, Leave_call}
-use Rattle.node_model.specs.declared.words.Role.TheVariants.{Answers}
 use Rattle.session_core.specs.Ends.{End}
 use Rattle.session_core.specs.Ends as E
 use Rattle.session_core.specs.Takings.{Took}
@@ -15,32 +14,24 @@ use Rattle.binkp_link.specs.declared.link.WriteAnswer.{WriteAnswer}
 use Rattle.binkp_link.specs.declared.link.WriteAnswer.TheVariants as W
 use Rattle.std.specs.Prelude.{nat_le, if◌then◌else◌}
 use Rattle.binkp_link.specs.Lines.{LineState, Moves, came, went}
-use Rattle.session_core.specs.Sessions.{Setting, frame_number}
+use Rattle.session_core.specs.Stages.{Setting}
+use Rattle.session_core.specs.Sessions.{frame_number}
 use Rattle.session_run.specs.Machine.{World, Phase, Starting, Taking, Writing, Reading, Over, Draining, Closed, MayGiveUp, Step, greets, takes_frame, makes_turn, writes, passes_write, reads, gives_up, leaves, drains, closes, Reach, here, next, opening, after_took, after_gave, after_read, after_write, after_drain}
-use Rattle.session_run.specs.Laws.{Facts, OwnCauseAt, EndCount, EndCountAt, LineCause, LineCauseAt, WholeAt, AnswerCauseAt, DeskCause, DeskCauseAt, Since}
-use Rattle.session_run.proofs.Causes.{RowCause, row_cause, said_cause, knock_cause, Finished_alone, turn_finishes, since_same, since_chain, row_desk}
+use Rattle.session_run.specs.Laws.{Facts, OwnCauseAt, EndCountAt, LineCauseAt, WholeAt, AnswerCauseAt, DeskCause, DeskCauseAt, Since}
+use Rattle.session_run.proofs.Causes.{Met, RowCause, TurnCause, no_frame, own_turn, met_by, said_by, row_cause, said_cause, knock_cause, turn_cause, gives_cause}
+use Rattle.session_run.proofs.SinceCounts.{since_same, since_chain, row_desk}
 use Rattle.session_run.proofs.AnswerCauses.{took_answer, gave_answer, drain_answer}
-use Rattle.session_run.proofs.OwnCauses.{no_broke, took_own, said_broke, gave_own, read_own, write_own, drain_own, leave_own}
-use Rattle.session_run.proofs.LineLaws.{joined-last, moves_on, moves_not, took_ends, took_line, read_ends, read_faults, read_line, write_ends, write_faults, write_line, leave_ends, leave_drain, leave_desk, drain_ends, drain_line, drain_whole, close_line, close_whole, rest_of, sent_on}
+use Rattle.session_run.proofs.OwnCauses.{early_own, took_own, said_broke, gave_own, read_own, write_own, drain_own, leave_own}
+use Rattle.session_run.proofs.LineLaws.{joined-last, moves_on, moves_not, took_ends, took_line, gave_ends, gave_line, read_ends, read_faults, read_line, write_ends, write_faults, write_line, leave_ends, leave_drain, leave_desk, drain_ends, drain_line, drain_whole, close_line, close_whole, rest_of, sent_on}
 
-took_desk : (m : ℕ) (alone : Bool) (before : Counts) (a b : DeskState) (es : List Turned) (took : Took) → Since before (counts_of a.knows) → Turns alone a es b → RowCause m took (asked_of es) → DeskCauseAt (after_took took) before (counts_of b.knows)
+took_desk : (m : Met) (alone : Bool) (before : Counts) (a b : DeskState) (es : List Turned) (took : Took) → Since before (counts_of a.knows) → Turns alone a es b → RowCause m took (asked_of es) → DeskCauseAt (after_took took) before (counts_of b.knows)
 took_desk m alone before a b es T.More s chain cause = tt
 took_desk m alone before a b es (T.Ended end) s chain cause = row_desk alone m before a b es end s chain cause
 
-turn_ends : (gave : Gave) (before now : ℕ) → Finished_alone gave → now ≡ before → EndCountAt (after_gave gave) before now
-turn_ends G.Sent before now f e = e
-turn_ends G.Waits before now f e = e
-turn_ends (G.Ended end) before now f e = subst (λ x. EndCount x before now) (sym f) e
-
-turn_line : (gave : Gave) (before now calm : ℕ) → Finished_alone gave → LineCauseAt (after_gave gave) before now calm
-turn_line G.Sent before now calm f = tt
-turn_line G.Waits before now calm f = tt
-turn_line (G.Ended end) before now calm f = subst (λ x. LineCause x before now calm) (sym f) tt
-
-turn_desk : (gave : Gave) (before now : Counts) → Finished_alone gave → DeskCauseAt (after_gave gave) before now
-turn_desk G.Sent before now f = tt
-turn_desk G.Waits before now f = tt
-turn_desk (G.Ended end) before now f = subst (λ x. DeskCause x before now) (sym f) tt
+gave_desk : (m : Met) (alone : Bool) (before : Counts) (a b : DeskState) (es : List Turned) (gave : Gave) → Since before (counts_of a.knows) → Turns alone a es b → TurnCause m gave (asked_of es) → DeskCauseAt (after_gave gave) before (counts_of b.knows)
+gave_desk m alone before a b es G.Sent s chain cause = tt
+gave_desk m alone before a b es G.Waits s chain cause = tt
+gave_desk m alone before a b es (G.Ended end) s chain cause = row_desk alone m before a b es end s chain cause
 
 took_whole : (took : Took) (before : ℕ) (line : LineState) (output sent : List ℕ) → WholeAt (after_took took) before line output sent
 took_whole T.More before line output sent = tt
@@ -100,6 +91,9 @@ on_desk Taking before now i = tt
 on_desk (Writing waits) before now i = tt
 on_desk (Reading waits) before now i = tt
 on_desk (Over E.Finished) before now i = tt
+on_desk (Over (E.PeerError text)) before now i = tt
+on_desk (Over E.PeerBusy) before now i = tt
+on_desk (Over (E.BadPassword wanted given)) before now i = tt
 on_desk (Over (E.Broke cause n)) before now i = tt
 on_desk (Over E.Dropped) before now i = tt
 on_desk (Over E.LineFault) before now i = tt
@@ -118,6 +112,9 @@ on_answer Taking es i = tt
 on_answer (Writing waits) es i = tt
 on_answer (Reading waits) es i = tt
 on_answer (Over E.Finished) es i = tt
+on_answer (Over (E.PeerError text)) es i = tt
+on_answer (Over E.PeerBusy) es i = tt
+on_answer (Over (E.BadPassword wanted given)) es i = tt
 on_answer (Over (E.Broke cause n)) es i = tt
 on_answer (Over E.Dropped) es i = tt
 on_answer (Over E.LineFault) es i = tt
@@ -141,10 +138,10 @@ drain_desk W.Failed end calm before now d = d
 
 pub keeps : (alone : Bool) (line : LineState) (desk : DeskState) (w v : World) → Facts alone line desk w → Step alone w v → Facts alone line desk v
 keeps alone line desk w v f (greets s) =
-    let e : Turned = turned (Knock_call Answers) s.answer s.rows_before s.rows_after in
+    let e : Turned = turned (Knock_call s.role) s.answer s.rows_before s.rows_after in
     let chain : Turns alone w.desk (e ∷ []) s.desk = (s.desk, s.call, refl) in
-    let cause = said_cause 0 s.reply.output s.reply.took s.output s.took _ (knock_cause 0 w.setting (Knock_call Answers) s.answer s.reply s.follows) s.said in
-    let later = said_cause 1 s.reply.output s.reply.took s.output s.took _ (knock_cause 1 w.setting (Knock_call Answers) s.answer s.reply s.follows) s.said in
+    let m = no_frame w.setting w.stage in
+    let cause = said_cause m s.reply.output s.reply.took s.output s.took _ (knock_cause m w.setting (Knock_call s.role) s.answer s.reply s.follows) s.said in
     subst (Facts alone line desk) (sym s.is) (record {
       pieces = f.pieces;
       moves = f.moves;
@@ -152,16 +149,17 @@ keeps alone line desk w v f (greets s) =
       front = ap (λ x. x ++ s.output) f.front ∙ append_assoc w.sent f.left s.output;
       whole = took_whole s.took _ _ _ _;
       faults = f.faults;
-      ends = took_ends 0 s.took _ line.ends w.line.ends cause (subst (λ p. EndCountAt p line.ends w.line.ends) s.phase f.ends);
-      line_cause = took_line 0 s.took _ _ _ _ cause;
+      ends = took_ends m s.took _ line.ends w.line.ends cause (subst (λ p. EndCountAt p line.ends w.line.ends) s.phase f.ends);
+      line_cause = took_line m s.took _ _ _ _ cause;
       counts = since_chain alone _ w.desk s.desk (e ∷ []) f.counts chain;
-      desk_cause = took_desk 0 alone _ w.desk s.desk (e ∷ []) s.took f.counts chain cause;
-      answer_cause = took_answer 0 s.took w.events (e ∷ []) cause;
-      own_cause = took_own 0 s.took (one (Knock_call Answers) s.answer) w.setting s.reply.stage w.frames w.last_stage w.last_calls w.taken w.sent cause (λ c e. absurd (no_broke c 0 (one (Knock_call Answers) s.answer) (subst (λ (t : Took). RowCause 1 t (one (Knock_call Answers) s.answer)) e later)));
+      desk_cause = took_desk m alone _ w.desk s.desk (e ∷ []) s.took f.counts chain cause;
+      answer_cause = took_answer m s.took w.events (e ∷ []) cause;
+      own_cause = early_own w.setting w.stage s.took (one (Knock_call s.role) s.answer) s.reply.stage w.frames w.last_stage w.last_calls w.taken w.sent cause;
     })
 keeps alone line desk w v f (takes_frame s) =
     let n = frame_number (w.frames ++ s.frame ∷ []) in
-    let cause = said_cause n s.reply.output s.reply.took s.output s.took (asked_of s.events) (row_cause w.setting n w.stage s.frame (asked_of s.events) s.reply s.row) s.said in
+    let m = met_by w.setting n w.stage (said_by w.setting.home s.frame) in
+    let cause = said_cause m s.reply.output s.reply.took s.output s.took (asked_of s.events) (row_cause w.setting n w.stage s.frame (asked_of s.events) s.reply s.row) s.said in
     subst (Facts alone line desk) (sym s.is) (record {
       pieces = f.pieces;
       moves = f.moves;
@@ -169,28 +167,29 @@ keeps alone line desk w v f (takes_frame s) =
       front = ap (λ x. x ++ s.output) f.front ∙ append_assoc w.sent f.left s.output;
       whole = took_whole s.took _ _ _ _;
       faults = f.faults;
-      ends = took_ends n s.took (asked_of s.events) line.ends w.line.ends cause (subst (λ p. EndCountAt p line.ends w.line.ends) s.phase f.ends);
-      line_cause = took_line n s.took (asked_of s.events) _ _ _ cause;
+      ends = took_ends m s.took (asked_of s.events) line.ends w.line.ends cause (subst (λ p. EndCountAt p line.ends w.line.ends) s.phase f.ends);
+      line_cause = took_line m s.took (asked_of s.events) _ _ _ cause;
       counts = since_chain alone _ w.desk s.desk s.events f.counts s.chain;
-      desk_cause = took_desk n alone _ w.desk s.desk s.events s.took f.counts s.chain cause;
-      answer_cause = took_answer n s.took w.events s.events cause;
-      own_cause = took_own n s.took (asked_of s.events) w.setting s.reply.stage (w.frames ++ s.frame ∷ []) w.stage s.events w.taken w.sent cause (λ c e. record { rest = s.rest; begins = s.next; earlier = w.frames; frame = s.frame; last = refl; number = refl; reply = s.reply; row = s.row; took = said_broke s.reply.output s.reply.took s.output s.took c n s.said e });
+      desk_cause = took_desk m alone _ w.desk s.desk s.events s.took f.counts s.chain cause;
+      answer_cause = took_answer m s.took w.events s.events cause;
+      own_cause = took_own w.setting n w.stage s.reply.stage w.frames s.frame s.took s.events w.taken w.sent s.rest s.next (λ c e. record { rest = s.rest; begins = s.next; earlier = w.frames; frame = s.frame; last = refl; number = refl; reply = s.reply; row = s.row; took = said_broke s.reply.output s.reply.took s.output s.took c n s.said e }) cause;
     })
 keeps alone line desk w v f (makes_turn s) =
-    let alone_is = turn_finishes w.stage s.turn s.row in
+    let m = own_turn w.setting s.turn.stage in
+    let cause = gives_cause m s.turn.output s.turn.gave s.output s.gave (asked_of s.events) (turn_cause w.setting w.stage (asked_of s.events) s.turn s.row) s.said in
     subst (Facts alone line desk) (sym s.is) (record {
       pieces = f.pieces;
       moves = f.moves;
-      left = f.left ++ s.turn.output;
-      front = ap (λ x. x ++ s.turn.output) f.front ∙ append_assoc w.sent f.left s.turn.output;
-      whole = gave_whole s.turn.gave _ _ _ _;
+      left = f.left ++ s.output;
+      front = ap (λ x. x ++ s.output) f.front ∙ append_assoc w.sent f.left s.output;
+      whole = gave_whole s.gave _ _ _ _;
       faults = f.faults;
-      ends = turn_ends s.turn.gave line.ends w.line.ends alone_is (subst (λ p. EndCountAt p line.ends w.line.ends) s.phase f.ends);
-      line_cause = turn_line s.turn.gave _ _ _ alone_is;
-      counts = f.counts;
-      desk_cause = turn_desk s.turn.gave _ _ alone_is;
-      answer_cause = gave_answer s.turn.gave w.events alone_is;
-      own_cause = gave_own w.stage s.turn w.setting w.frames w.last_stage w.last_calls w.taken w.sent s.row;
+      ends = gave_ends m s.gave (asked_of s.events) line.ends w.line.ends cause (subst (λ p. EndCountAt p line.ends w.line.ends) s.phase f.ends);
+      line_cause = gave_line m s.gave (asked_of s.events) _ _ _ cause;
+      counts = since_chain alone _ w.desk s.desk s.events f.counts s.chain;
+      desk_cause = gave_desk m alone _ w.desk s.desk s.events s.gave f.counts s.chain cause;
+      answer_cause = gave_answer m s.gave w.events s.events cause;
+      own_cause = gave_own w.setting s.turn.stage s.gave (asked_of s.events) w.frames w.last_stage w.last_calls w.taken w.sent cause;
     })
 keeps alone line desk w v f (writes s) = subst (Facts alone line desk) (sym s.is) (record {
   pieces = f.pieces;

@@ -4,7 +4,7 @@ use Rattle.std.specs.Prelude.{nat_le, if◌then◌else◌}
 use Rattle.std.proofs.lemmas.List.{append-nil, take-append-drop}
 use Rattle.std.proofs.lemmas.Bool.{leb-true}
 use Rattle.ftn_addr.specs.Counts.{Increased, next_count}
-use Rattle.node_model.specs.Calls.{Event, Fault, Disk, Read, Full, No_memory, Answer, Queued, Let_in, Busy, Begun, Offered, Nothing, Came, Settled, Filed, More, Whole_now, Acted, Given, Held, Refused, Leave_call, Counts, counts_of, DeskState, turned, CallsBeside}
+use Rattle.node_model.specs.Calls.{Event, Fault, Disk, Read, Full, No_memory, Answer, Refused, Leave_call, Counts, counts_of, DeskState, turned, CallsBeside}
 use Rattle.binkp_link.specs.declared.link.ReadAnswer.{ReadAnswer}
 use Rattle.binkp_link.specs.declared.link.ReadAnswer.TheVariants as R
 use Rattle.binkp_link.specs.declared.link.WriteAnswer.{WriteAnswer}
@@ -13,11 +13,14 @@ use Rattle.session_core.specs.Ends.{End}
 use Rattle.session_core.specs.Ends as E
 use Rattle.session_core.specs.Takings.{Took}
 use Rattle.session_core.specs.Takings as T
+use Rattle.session_core.specs.Givings.{Gave}
+use Rattle.session_core.specs.Givings as G
 use Rattle.binkp_link.specs.Lines.{LineBytes, LineState, Moves, IsRead, IsWrite, went}
 use Rattle.session_core.specs.Sessions.{fault_end}
-use Rattle.session_run.specs.Machine.{Phase, Taking, Reading, Over, Draining, Closed, after_took, after_read, after_write, after_drain, after_leave, is_mute}
+use Rattle.session_run.specs.Machine.{Phase, Taking, Reading, Over, Draining, Closed, after_took, after_gave, after_read, after_write, after_drain, after_leave, is_mute}
 use Rattle.session_run.specs.Laws.{joined, EndCount, EndCountAt, LineCause, LineCauseAt, DrainCause, WholeAt, DeskCause, Since}
-use Rattle.session_run.proofs.Causes.{Plain_end, Refused_end, Away_end, RowCause, since_same, since_turn, later_desk, turn_fault}
+use Rattle.session_run.proofs.Causes.{Met, Plain_end, Refused_end, Away_end, RowCause, TurnCause}
+use Rattle.session_run.proofs.SinceCounts.{since_same, since_turn, later_desk, turn_fault}
 
 pub joined-last : (pieces : List (List ℕ)) (piece : List ℕ) → joined (pieces ++ piece ∷ []) ≡ joined pieces ++ piece
 joined-last [] piece = append-nil piece
@@ -40,7 +43,7 @@ moves_not None = tt
 moves_not (Some a) = (refl, sym (append-nil a.taken), sym (append-nil a.sent))
 
 -- an end that a row gives comes from no count of the line
-row_ends : (m : ℕ) (end : End) (es : List Event) (before now : ℕ) → Plain_end m end ⊎ (Refused_end end es ⊎ Away_end end es) → now ≡ before → EndCount end before now
+row_ends : (m : Met) (end : End) (es : List Event) (before now : ℕ) → Plain_end m end ⊎ (Refused_end end es ⊎ Away_end end es) → now ≡ before → EndCount end before now
 row_ends m end es before now (inr (inr r)) e = subst (λ x. EndCount x before now) (sym r.2) e
 row_ends m end es before now (inr (inl r)) e = subst (λ x. EndCount x before now) (sym r.3) (by_fault r.1)
   where
@@ -49,7 +52,10 @@ row_ends m end es before now (inr (inl r)) e = subst (λ x. EndCount x before no
     by_fault (Read count) = inl e
     by_fault Full = e
     by_fault No_memory = e
-row_ends m E.Finished es before now (inl p) e = absurd p
+row_ends m E.Finished es before now (inl p) e = e
+row_ends m (E.PeerError text) es before now (inl p) e = e
+row_ends m E.PeerBusy es before now (inl p) e = e
+row_ends m (E.BadPassword wanted given) es before now (inl p) e = e
 row_ends m (E.Broke cause n) es before now (inl p) e = e
 row_ends m E.NoMemory es before now (inl p) e = e
 row_ends m E.Dropped es before now (inl p) e = absurd p
@@ -60,11 +66,11 @@ row_ends m E.Quiet es before now (inl p) e = absurd p
 row_ends m E.Endless es before now (inl p) e = absurd p
 row_ends m E.TurnedAway es before now (inl p) e = absurd p
 
-pub took_ends : (m : ℕ) (took : Took) (es : List Event) (before now : ℕ) → RowCause m took es → now ≡ before → EndCountAt (after_took took) before now
+pub took_ends : (m : Met) (took : Took) (es : List Event) (before now : ℕ) → RowCause m took es → now ≡ before → EndCountAt (after_took took) before now
 took_ends m T.More es before now c e = e
 took_ends m (T.Ended end) es before now c e = row_ends m end es before now c e
 
-row_line : (m : ℕ) (end : End) (es : List Event) (before now calm : ℕ) → Plain_end m end ⊎ (Refused_end end es ⊎ Away_end end es) → LineCause end before now calm
+row_line : (m : Met) (end : End) (es : List Event) (before now calm : ℕ) → Plain_end m end ⊎ (Refused_end end es ⊎ Away_end end es) → LineCause end before now calm
 row_line m end es before now calm (inr (inr r)) = subst (λ x. LineCause x before now calm) (sym r.2) tt
 row_line m end es before now calm (inr (inl r)) = subst (λ x. LineCause x before now calm) (sym r.3) (by_fault r.1)
   where
@@ -73,7 +79,10 @@ row_line m end es before now calm (inr (inl r)) = subst (λ x. LineCause x befor
     by_fault (Read count) = tt
     by_fault Full = tt
     by_fault No_memory = tt
-row_line m E.Finished es before now calm (inl p) = absurd p
+row_line m E.Finished es before now calm (inl p) = tt
+row_line m (E.PeerError text) es before now calm (inl p) = tt
+row_line m E.PeerBusy es before now calm (inl p) = tt
+row_line m (E.BadPassword wanted given) es before now calm (inl p) = tt
 row_line m (E.Broke cause n) es before now calm (inl p) = tt
 row_line m E.NoMemory es before now calm (inl p) = tt
 row_line m E.Dropped es before now calm (inl p) = tt
@@ -84,9 +93,19 @@ row_line m E.Quiet es before now calm (inl p) = absurd p
 row_line m E.Endless es before now calm (inl p) = tt
 row_line m E.TurnedAway es before now calm (inl p) = tt
 
-pub took_line : (m : ℕ) (took : Took) (es : List Event) (before now calm : ℕ) → RowCause m took es → LineCauseAt (after_took took) before now calm
+pub took_line : (m : Met) (took : Took) (es : List Event) (before now calm : ℕ) → RowCause m took es → LineCauseAt (after_took took) before now calm
 took_line m T.More es before now calm c = tt
 took_line m (T.Ended end) es before now calm c = row_line m end es before now calm c
+
+pub gave_ends : (m : Met) (gave : Gave) (es : List Event) (before now : ℕ) → TurnCause m gave es → now ≡ before → EndCountAt (after_gave gave) before now
+gave_ends m G.Sent es before now c e = e
+gave_ends m G.Waits es before now c e = e
+gave_ends m (G.Ended end) es before now c e = row_ends m end es before now c e
+
+pub gave_line : (m : Met) (gave : Gave) (es : List Event) (before now calm : ℕ) → TurnCause m gave es → LineCauseAt (after_gave gave) before now calm
+gave_line m G.Sent es before now calm c = tt
+gave_line m G.Waits es before now calm c = tt
+gave_line m (G.Ended end) es before now calm c = row_line m end es before now calm c
 
 cond_ends : (b : Bool) (end : End) (goal : Phase) (before now : ℕ) → EndCountAt (Over end) before now → EndCountAt goal before now → EndCountAt (if b then Over end else goal) before now
 cond_ends true end goal before now x y = x
@@ -141,6 +160,9 @@ leave_ends end (Refused (Disk count)) before now e = turned end before now e
     turned E.Dropped before now e = inr e
     turned (E.DiskFault count) before now e = e
     turned E.Finished before now e = inl e
+    turned (E.PeerError text) before now e = inl e
+    turned E.PeerBusy before now e = inl e
+    turned (E.BadPassword wanted given) before now e = inl e
     turned (E.Broke cause n) before now e = inl e
     turned E.LineFault before now e = inl e
     turned E.LedgerFull before now e = inl e
@@ -151,80 +173,28 @@ leave_ends end (Refused (Disk count)) before now e = turned end before now e
 leave_ends end (Refused (Read count)) before now e = e
 leave_ends end (Refused Full) before now e = e
 leave_ends end (Refused No_memory) before now e = e
-leave_ends end (Queued slots) before now e = e
-leave_ends end Let_in before now e = e
-leave_ends end Busy before now e = e
-leave_ends end (Begun number) before now e = e
-leave_ends end (Offered number key) before now e = e
-leave_ends end Nothing before now e = e
-leave_ends end (Came bytes) before now e = e
-leave_ends end Settled before now e = e
-leave_ends end (Filed answer) before now e = e
-leave_ends end More before now e = e
-leave_ends end Whole_now before now e = e
-leave_ends end (Acted number) before now e = e
-leave_ends end (Given number) before now e = e
-leave_ends end (Held number) before now e = e
+leave_ends end answer before now e = e
 
 leave_line : (end : End) (answer : Answer) (before now calm : ℕ) → LineCause end before now calm → LineCause (after_leave end answer) before now calm
 leave_line end (Refused (Disk count)) before now calm m = tt
 leave_line end (Refused (Read count)) before now calm m = m
 leave_line end (Refused Full) before now calm m = m
 leave_line end (Refused No_memory) before now calm m = m
-leave_line end (Queued slots) before now calm m = m
-leave_line end Let_in before now calm m = m
-leave_line end Busy before now calm m = m
-leave_line end (Begun number) before now calm m = m
-leave_line end (Offered number key) before now calm m = m
-leave_line end Nothing before now calm m = m
-leave_line end (Came bytes) before now calm m = m
-leave_line end Settled before now calm m = m
-leave_line end (Filed answer) before now calm m = m
-leave_line end More before now calm m = m
-leave_line end Whole_now before now calm m = m
-leave_line end (Acted number) before now calm m = m
-leave_line end (Given number) before now calm m = m
-leave_line end (Held number) before now calm m = m
+leave_line end answer before now calm m = m
 
 leave_speaks : (end : End) (answer : Answer) → is_mute end ≡ false → is_mute (after_leave end answer) ≡ false
 leave_speaks end (Refused (Disk count)) speaks = refl
 leave_speaks end (Refused (Read count)) speaks = speaks
 leave_speaks end (Refused Full) speaks = speaks
 leave_speaks end (Refused No_memory) speaks = speaks
-leave_speaks end (Queued slots) speaks = speaks
-leave_speaks end Let_in speaks = speaks
-leave_speaks end Busy speaks = speaks
-leave_speaks end (Begun number) speaks = speaks
-leave_speaks end (Offered number key) speaks = speaks
-leave_speaks end Nothing speaks = speaks
-leave_speaks end (Came bytes) speaks = speaks
-leave_speaks end Settled speaks = speaks
-leave_speaks end (Filed answer) speaks = speaks
-leave_speaks end More speaks = speaks
-leave_speaks end Whole_now speaks = speaks
-leave_speaks end (Acted number) speaks = speaks
-leave_speaks end (Given number) speaks = speaks
-leave_speaks end (Held number) speaks = speaks
+leave_speaks end answer speaks = speaks
 
 pub leave_desk : (alone : Bool) (end : End) (answer : Answer) (a : Counts) (b c : DeskState) (rows_before rows_after : List Event) → Since a (counts_of b.knows) → CallsBeside alone b (turned Leave_call answer rows_before rows_after) c → DeskCause end a (counts_of b.knows) → DeskCause (after_leave end answer) a (counts_of c.knows)
 leave_desk alone end (Refused (Disk count)) a b c r q s made d = turn_fault alone a b c (turned Leave_call (Refused (Disk count)) r q) (Disk count) s refl made
 leave_desk alone end (Refused (Read count)) a b c r q s made d = later_desk end a (counts_of b.knows) (counts_of c.knows) d (since_turn alone (counts_of b.knows) b c (turned Leave_call (Refused (Read count)) r q) (since_same (counts_of b.knows)) made)
 leave_desk alone end (Refused Full) a b c r q s made d = later_desk end a (counts_of b.knows) (counts_of c.knows) d (since_turn alone (counts_of b.knows) b c (turned Leave_call (Refused Full) r q) (since_same (counts_of b.knows)) made)
 leave_desk alone end (Refused No_memory) a b c r q s made d = later_desk end a (counts_of b.knows) (counts_of c.knows) d (since_turn alone (counts_of b.knows) b c (turned Leave_call (Refused No_memory) r q) (since_same (counts_of b.knows)) made)
-leave_desk alone end (Queued slots) a b c r q s made d = later_desk end a (counts_of b.knows) (counts_of c.knows) d (since_turn alone (counts_of b.knows) b c (turned Leave_call (Queued slots) r q) (since_same (counts_of b.knows)) made)
-leave_desk alone end Let_in a b c r q s made d = later_desk end a (counts_of b.knows) (counts_of c.knows) d (since_turn alone (counts_of b.knows) b c (turned Leave_call Let_in r q) (since_same (counts_of b.knows)) made)
-leave_desk alone end Busy a b c r q s made d = later_desk end a (counts_of b.knows) (counts_of c.knows) d (since_turn alone (counts_of b.knows) b c (turned Leave_call Busy r q) (since_same (counts_of b.knows)) made)
-leave_desk alone end (Begun number) a b c r q s made d = later_desk end a (counts_of b.knows) (counts_of c.knows) d (since_turn alone (counts_of b.knows) b c (turned Leave_call (Begun number) r q) (since_same (counts_of b.knows)) made)
-leave_desk alone end (Offered number key) a b c r q s made d = later_desk end a (counts_of b.knows) (counts_of c.knows) d (since_turn alone (counts_of b.knows) b c (turned Leave_call (Offered number key) r q) (since_same (counts_of b.knows)) made)
-leave_desk alone end Nothing a b c r q s made d = later_desk end a (counts_of b.knows) (counts_of c.knows) d (since_turn alone (counts_of b.knows) b c (turned Leave_call Nothing r q) (since_same (counts_of b.knows)) made)
-leave_desk alone end (Came bytes) a b c r q s made d = later_desk end a (counts_of b.knows) (counts_of c.knows) d (since_turn alone (counts_of b.knows) b c (turned Leave_call (Came bytes) r q) (since_same (counts_of b.knows)) made)
-leave_desk alone end Settled a b c r q s made d = later_desk end a (counts_of b.knows) (counts_of c.knows) d (since_turn alone (counts_of b.knows) b c (turned Leave_call Settled r q) (since_same (counts_of b.knows)) made)
-leave_desk alone end (Filed answer) a b c r q s made d = later_desk end a (counts_of b.knows) (counts_of c.knows) d (since_turn alone (counts_of b.knows) b c (turned Leave_call (Filed answer) r q) (since_same (counts_of b.knows)) made)
-leave_desk alone end More a b c r q s made d = later_desk end a (counts_of b.knows) (counts_of c.knows) d (since_turn alone (counts_of b.knows) b c (turned Leave_call More r q) (since_same (counts_of b.knows)) made)
-leave_desk alone end Whole_now a b c r q s made d = later_desk end a (counts_of b.knows) (counts_of c.knows) d (since_turn alone (counts_of b.knows) b c (turned Leave_call Whole_now r q) (since_same (counts_of b.knows)) made)
-leave_desk alone end (Acted number) a b c r q s made d = later_desk end a (counts_of b.knows) (counts_of c.knows) d (since_turn alone (counts_of b.knows) b c (turned Leave_call (Acted number) r q) (since_same (counts_of b.knows)) made)
-leave_desk alone end (Given number) a b c r q s made d = later_desk end a (counts_of b.knows) (counts_of c.knows) d (since_turn alone (counts_of b.knows) b c (turned Leave_call (Given number) r q) (since_same (counts_of b.knows)) made)
-leave_desk alone end (Held number) a b c r q s made d = later_desk end a (counts_of b.knows) (counts_of c.knows) d (since_turn alone (counts_of b.knows) b c (turned Leave_call (Held number) r q) (since_same (counts_of b.knows)) made)
+leave_desk alone end answer a b c r q s made d = later_desk end a (counts_of b.knows) (counts_of c.knows) d (since_turn alone (counts_of b.knows) b c (turned Leave_call answer r q) (since_same (counts_of b.knows)) made)
 
 -- What is left is written.
 
@@ -241,6 +211,9 @@ speaking : (end : End) (before now calm : ℕ) → is_mute end ≡ false → Lin
 speaking E.LineFault before now calm e = absurd (let clash : true ≡ false = e in cc)
 speaking E.Quiet before now calm e = absurd (let clash : true ≡ false = e in cc)
 speaking E.Finished before now calm e = tt
+speaking (E.PeerError text) before now calm e = tt
+speaking E.PeerBusy before now calm e = tt
+speaking (E.BadPassword wanted given) before now calm e = tt
 speaking (E.Broke cause n) before now calm e = tt
 speaking E.Dropped before now calm e = tt
 speaking (E.DiskFault count) before now calm e = tt
@@ -263,6 +236,9 @@ mute_cause : (end : End) (before now calm : ℕ) → is_mute end ≡ true → Li
 mute_cause E.LineFault before now calm mute m = inl m
 mute_cause E.Quiet before now calm mute m = inr m
 mute_cause E.Finished before now calm mute m = absurd (let clash : false ≡ true = mute in cc)
+mute_cause (E.PeerError text) before now calm mute m = absurd (let clash : false ≡ true = mute in cc)
+mute_cause E.PeerBusy before now calm mute m = absurd (let clash : false ≡ true = mute in cc)
+mute_cause (E.BadPassword wanted given) before now calm mute m = absurd (let clash : false ≡ true = mute in cc)
 mute_cause (E.Broke cause n) before now calm mute m = absurd (let clash : false ≡ true = mute in cc)
 mute_cause E.Dropped before now calm mute m = absurd (let clash : false ≡ true = mute in cc)
 mute_cause (E.DiskFault count) before now calm mute m = absurd (let clash : false ≡ true = mute in cc)

@@ -1,11 +1,13 @@
 -- Why sessions end, in the session's own words, step by step.
-use Rattle.std.proofs.Common.{◌≡◌, ◌∙◌, ℕ, suc, ◌+◌, Bool, true, false, List, ◌++◌, length, Option, refl, sym, ap, subst, inl, inr, arith}
+use Rattle.std.proofs.Common.{◌≡◌, ◌∙◌, ℕ, ◌+◌, Bool, true, false, List, [], ◌∷◌, ◌++◌, length, Some, None, Result, Ok, Err, refl, sym, ap, subst, inl, inr, arith}
 use Rattle.std.specs.Prelude.{nat_le, if◌then◌else◌}
 use Rattle.std.proofs.lemmas.List.{length-append}
 use Rattle.std.proofs.lemmas.Bool.{leb-true}
-use Rattle.ftn_addr.specs.Frames.{FrameText}
-use Rattle.node_model.specs.Calls.{Event, Turned, Fault, Disk, Read, Full, No_memory, Answer, Queued, Let_in, Busy, Begun, Offered, Nothing, Came, Settled, Filed, More, Whole_now, Acted, Given, Held, Refused}
-use Rattle.node_model.specs.Talk.{Talk, Part, Says_end, Waits_for_end, Verdict}
+use Rattle.ftn_addr.specs.Frames.{FrameText, Command, Data}
+use Rattle.binkp_frame.specs.Stream.{Begins}
+use Rattle.binkp_args.specs.declared.fault.ArgFault.{ArgFault}
+use Rattle.binkp_args.specs.Command.{CommandText, Pwd, Error, Bsy, command_of}
+use Rattle.node_model.specs.Calls.{Event, Turned, asked_of, Fault, Disk, Read, Full, No_memory, Answer, Refused}
 use Rattle.session_core.specs.declared.ending.Cause.{Cause}
 use Rattle.session_core.specs.Ends.{End}
 use Rattle.session_core.specs.Ends as E
@@ -15,22 +17,19 @@ use Rattle.binkp_link.specs.declared.link.ReadAnswer.{ReadAnswer}
 use Rattle.binkp_link.specs.declared.link.ReadAnswer.TheVariants as R
 use Rattle.binkp_link.specs.declared.link.WriteAnswer.{WriteAnswer}
 use Rattle.binkp_link.specs.declared.link.WriteAnswer.TheVariants as W
-use Rattle.session_core.specs.Sessions.{EmptyTurn, Finishes, Rests, Gives_nothing, Setting, Stage, Awaits_address, Awaits_password, Talks, Turn, GiveRow, Said, fault_end, outcome_gave}
+use Rattle.session_core.specs.Givings.{Gave}
+use Rattle.session_core.specs.Givings as G
+use Rattle.session_core.specs.Stages.{Setting, Stage, Awaits_address, Awaits_login, Talks}
+use Rattle.session_core.specs.Sessions.{Said, fault_end}
 use Rattle.session_run.specs.Machine.{Phase, Taking, Reading, Over, Draining, Closed, after_took, after_gave, after_leave, after_read, after_write, after_drain}
-use Rattle.session_run.specs.Laws.{OwnCause, OwnCauseAt, Refuses}
-use Rattle.session_run.proofs.Causes.{RowCause}
+use Rattle.session_run.specs.Laws.{IsDone, OwnCause, OwnCauseAt, Refuses, Says}
+use Rattle.session_run.proofs.Causes.{Met, Plain_end, EndedBy, RowCause, TurnCause, done_at, met_by, no_frame, own_turn, read_as, said_by}
 
-never_broke : (cause : Cause) (n : ℕ) (fault : Fault) → E.Broke cause n ≡ fault_end fault → ⊥
-never_broke cause n (Disk count) e = cc
-never_broke cause n (Read count) e = cc
-never_broke cause n Full e = cc
-never_broke cause n No_memory e = cc
+no_word : (said : CommandText) → None ≡ Some said → ⊥
+no_word said e = cc
 
--- a row breaks off at its own frame alone
-pub no_broke : (cause : Cause) (n : ℕ) (es : List Event) → RowCause (suc n) (T.Ended (E.Broke cause n)) es → ⊥
-no_broke cause n es (inl p) = omega (arith, p)
-no_broke cause n es (inr (inl r)) = never_broke cause n r.1 r.3
-no_broke cause n es (inr (inr r)) = let clash : E.Broke cause n ≡ E.TurnedAway = r.2 in cc
+some_same : (k n : ℕ) → Some n ≡ Some k → k ≡ n
+some_same k n e = cc
 
 by_fault : (fault : Fault) (s : Setting) (stage : Stage) (frames : List FrameText) (met : Stage) (made : List Turned) (taken sent : List ℕ) → OwnCause (fault_end fault) s stage frames met made taken sent
 by_fault (Disk count) s stage frames met made taken sent = tt
@@ -38,46 +37,100 @@ by_fault (Read count) s stage frames met made taken sent = tt
 by_fault Full s stage frames met made taken sent = tt
 by_fault No_memory s stage frames met made taken sent = tt
 
-pub took_own : (m : ℕ) (took : Took) (es : List Event) (s : Setting) (stage : Stage) (frames : List FrameText) (met : Stage) (made : List Turned) (taken sent : List ℕ) → RowCause m took es → ((cause : Cause) → took ≡ T.Ended (E.Broke cause m) → Refuses cause m s frames met made taken) → OwnCauseAt (after_took took) s stage frames met made taken sent
-took_own m T.More es s stage frames met made taken sent c f = tt
-took_own m (T.Ended end) es s stage frames met made taken sent (inr (inl r)) f =
+-- an end that a row gave has its cause, where each that it gives without another object has it
+ended_own : (m : Met) (end : End) (es : List Event) (s : Setting) (stage : Stage) (frames : List FrameText) (met : Stage) (made : List Turned) (taken sent : List ℕ) → EndedBy m end es → (Plain_end m end → OwnCause end s stage frames met made taken sent) → OwnCause end s stage frames met made taken sent
+ended_own m end es s stage frames met made taken sent (inl p) f = f p
+ended_own m end es s stage frames met made taken sent (inr (inl r)) f =
     subst (λ (x : End). OwnCause x s stage frames met made taken sent) (sym r.3) (by_fault r.1 s stage frames met made taken sent)
-took_own m (T.Ended end) es s stage frames met made taken sent (inr (inr r)) f =
+ended_own m end es s stage frames met made taken sent (inr (inr r)) f =
     subst (λ (x : End). OwnCause x s stage frames met made taken sent) (sym r.2) tt
-took_own m (T.Ended (E.Broke cause n)) es s stage frames met made taken sent (inl p) f =
-    subst (λ (k : ℕ). Refuses cause k s frames met made taken) (sym p) (f cause (ap (λ (k : ℕ). T.Ended (E.Broke cause k)) p))
-took_own m (T.Ended E.NoMemory) es s stage frames met made taken sent (inl p) f = tt
-took_own m (T.Ended E.Finished) es s stage frames met made taken sent (inl p) f = absurd p
-took_own m (T.Ended E.Dropped) es s stage frames met made taken sent (inl p) f = absurd p
-took_own m (T.Ended E.LineFault) es s stage frames met made taken sent (inl p) f = absurd p
-took_own m (T.Ended (E.DiskFault count)) es s stage frames met made taken sent (inl p) f = absurd p
-took_own m (T.Ended E.LedgerFull) es s stage frames met made taken sent (inl p) f = absurd p
-took_own m (T.Ended E.Quiet) es s stage frames met made taken sent (inl p) f = absurd p
-took_own m (T.Ended E.Endless) es s stage frames met made taken sent (inl p) f = absurd p
-took_own m (T.Ended E.TurnedAway) es s stage frames met made taken sent (inl p) f = absurd p
+
+-- The first turn.
+
+early_plain : (s : Setting) (early : Stage) (end : End) (stage : Stage) (frames : List FrameText) (met : Stage) (made : List Turned) (taken sent : List ℕ) → Plain_end (no_frame s early) end → OwnCause end s stage frames met made taken sent
+early_plain s early E.Finished stage frames met made taken sent p = absurd (let clash : false ≡ true = p in cc)
+early_plain s early (E.PeerError text) stage frames met made taken sent p = absurd (no_word _ p)
+early_plain s early E.PeerBusy stage frames met made taken sent p = absurd (no_word _ p.1)
+early_plain s early (E.BadPassword wanted given) stage frames met made taken sent p = absurd (no_word _ p.says)
+early_plain s early (E.Broke cause n) stage frames met made taken sent p = absurd (let clash : None ≡ Some n = p in cc)
+early_plain s early E.NoMemory stage frames met made taken sent p = tt
+early_plain s early E.Dropped stage frames met made taken sent p = absurd p
+early_plain s early E.LineFault stage frames met made taken sent p = absurd p
+early_plain s early (E.DiskFault count) stage frames met made taken sent p = absurd p
+early_plain s early E.LedgerFull stage frames met made taken sent p = absurd p
+early_plain s early E.Quiet stage frames met made taken sent p = absurd p
+early_plain s early E.Endless stage frames met made taken sent p = absurd p
+early_plain s early E.TurnedAway stage frames met made taken sent p = absurd p
+
+pub early_own : (s : Setting) (early : Stage) (took : Took) (es : List Event) (stage : Stage) (frames : List FrameText) (met : Stage) (made : List Turned) (taken sent : List ℕ) → RowCause (no_frame s early) took es → OwnCauseAt (after_took took) s stage frames met made taken sent
+early_own s early T.More es stage frames met made taken sent c = tt
+early_own s early (T.Ended end) es stage frames met made taken sent c = ended_own _ end es s stage frames met made taken sent c (early_plain s early end stage frames met made taken sent)
+
+-- A frame of the peer's.
+
+-- the frame was read so
+said_as : (s : Setting) (old : List FrameText) (frame : FrameText) (said : CommandText) (taken rest : List ℕ) → Begins taken (old ++ frame ∷ []) rest → said_by s.home frame ≡ Some said → Says said s (old ++ frame ∷ []) taken
+said_as s old (Command number args) said taken rest b e = go (command_of s.home number args) refl e
+  where
+    go : (read : Result CommandText ArgFault) → command_of s.home number args ≡ read → read_as read ≡ Some said → Says said s (old ++ Command number args ∷ []) taken
+    go (Ok command) is f = let same : command ≡ said = cc in record { rest = rest; begins = b; earlier = old; number = number; args = args; last = refl; says = is ∙ ap Ok same }
+    go (Err fault) is f = absurd (let clash : None ≡ Some said = f in cc)
+said_as s old (Data bytes) said taken rest b e = absurd (let clash : None ≡ Some said = e in cc)
+
+row_plain : (s : Setting) (n : ℕ) (met stage : Stage) (old : List FrameText) (frame : FrameText) (end : End) (made : List Turned) (taken sent rest : List ℕ) → Begins taken (old ++ frame ∷ []) rest → ((cause : Cause) → end ≡ E.Broke cause n → Refuses cause n s (old ++ frame ∷ []) met made taken) → Plain_end (met_by s n met (said_by s.home frame)) end → OwnCause end s stage (old ++ frame ∷ []) met made taken sent
+row_plain s n met stage old frame E.Finished made taken sent rest b f p = absurd (let clash : false ≡ true = p in cc)
+row_plain s n met stage old frame (E.PeerError text) made taken sent rest b f p = said_as s old frame (Error text) taken rest b p
+row_plain s n met stage old frame E.PeerBusy made taken sent rest b f p = (p.0, said_as s old frame (Bsy p.0) taken rest b p.1)
+row_plain s n met stage old frame (E.BadPassword wanted given) made taken sent rest b f p =
+    record { side = p.side; peers = p.peers; waits = p.waits; none = p.none; other = p.other; says = said_as s old frame (Pwd given) taken rest b p.says }
+row_plain s n met stage old frame (E.Broke cause k) made taken sent rest b f p =
+    let same : k ≡ n = some_same k n p in
+    subst (λ (x : ℕ). Refuses cause x s (old ++ frame ∷ []) met made taken) (sym same) (f cause (ap (E.Broke cause) same))
+row_plain s n met stage old frame E.NoMemory made taken sent rest b f p = tt
+row_plain s n met stage old frame E.Dropped made taken sent rest b f p = absurd p
+row_plain s n met stage old frame E.LineFault made taken sent rest b f p = absurd p
+row_plain s n met stage old frame (E.DiskFault count) made taken sent rest b f p = absurd p
+row_plain s n met stage old frame E.LedgerFull made taken sent rest b f p = absurd p
+row_plain s n met stage old frame E.Quiet made taken sent rest b f p = absurd p
+row_plain s n met stage old frame E.Endless made taken sent rest b f p = absurd p
+row_plain s n met stage old frame E.TurnedAway made taken sent rest b f p = absurd p
+
+pub took_own : (s : Setting) (n : ℕ) (met stage : Stage) (old : List FrameText) (frame : FrameText) (took : Took) (made : List Turned) (taken sent rest : List ℕ) → Begins taken (old ++ frame ∷ []) rest → ((cause : Cause) → took ≡ T.Ended (E.Broke cause n) → Refuses cause n s (old ++ frame ∷ []) met made taken) → RowCause (met_by s n met (said_by s.home frame)) took (asked_of made) → OwnCauseAt (after_took took) s stage (old ++ frame ∷ []) met made taken sent
+took_own s n met stage old frame T.More made taken sent rest b f c = tt
+took_own s n met stage old frame (T.Ended end) made taken sent rest b f c =
+    ended_own _ end (asked_of made) s stage (old ++ frame ∷ []) met made taken sent c (row_plain s n met stage old frame end made taken sent rest b (λ cause e. f cause (ap T.Ended e)))
 
 -- what was said tells how the row went on, but for want of memory
 pub said_broke : (output : List ℕ) (goal : Took) (written : List ℕ) (took : Took) (cause : Cause) (n : ℕ) → Said output goal written took → took ≡ T.Ended (E.Broke cause n) → goal ≡ T.Ended (E.Broke cause n)
 said_broke output goal written took cause n (inl s) e = sym s.0 ∙ e
 said_broke output goal written took cause n (inr s) e = absurd (let clash : T.Ended E.NoMemory ≡ T.Ended (E.Broke cause n) = sym s.0 ∙ e in cc)
 
-verdict_own : (held : Option Part) (talk : Talk) (v : Verdict) (s : Setting) (frames : List FrameText) (met : Stage) (made : List Turned) (taken sent : List ℕ) → EmptyTurn held talk v → OwnCauseAt (after_gave (outcome_gave v.outcome)) s (Talks v.after held) frames met made taken sent
-verdict_own held talk v s frames met made taken sent (Finishes is a) =
-    subst (λ (x : Verdict). OwnCauseAt (after_gave (outcome_gave x.outcome)) s (Talks x.after held) frames met made taken sent) (sym a) is
-verdict_own held talk v s frames met made taken sent (Rests is own a) =
-    subst (λ (x : Verdict). OwnCauseAt (after_gave (outcome_gave x.outcome)) s (Talks x.after held) frames met made taken sent) (sym a) tt
-verdict_own held talk v s frames met made taken sent (Gives_nothing own (Says_end is a)) =
-    subst (λ (x : Verdict). OwnCauseAt (after_gave (outcome_gave x.outcome)) s (Talks x.after held) frames met made taken sent) (sym a) tt
-verdict_own held talk v s frames met made taken sent (Gives_nothing own (Waits_for_end is a)) =
-    subst (λ (x : Verdict). OwnCauseAt (after_gave (outcome_gave x.outcome)) s (Talks x.after held) frames met made taken sent) (sym a) tt
+-- The own turn.
 
-pub gave_own : (stage : Stage) (t : Turn) (s : Setting) (frames : List FrameText) (met : Stage) (made : List Turned) (taken sent : List ℕ) → GiveRow stage t → OwnCauseAt (after_gave t.gave) s t.stage frames met made taken sent
-gave_own (Talks talk held) t s frames met made taken sent row =
-    subst (λ (x : Turn). OwnCauseAt (after_gave x.gave) s x.stage frames met made taken sent) (sym row.is) (verdict_own held talk row.verdict s frames met made taken sent row.row)
-gave_own Awaits_address t s frames met made taken sent row =
-    subst (λ (x : Turn). OwnCauseAt (after_gave x.gave) s x.stage frames met made taken sent) (sym row) tt
-gave_own (Awaits_password peers) t s frames met made taken sent row =
-    subst (λ (x : Turn). OwnCauseAt (after_gave x.gave) s x.stage frames met made taken sent) (sym row) tt
+done_is : (stage : Stage) → done_at stage ≡ true → IsDone stage
+done_is (Talks talk held) e = e
+done_is Awaits_address e = absurd (let clash : false ≡ true = e in cc)
+done_is (Awaits_login peers) e = absurd (let clash : false ≡ true = e in cc)
+
+turn_plain : (s : Setting) (stage : Stage) (end : End) (frames : List FrameText) (met : Stage) (made : List Turned) (taken sent : List ℕ) → Plain_end (own_turn s stage) end → OwnCause end s stage frames met made taken sent
+turn_plain s stage E.Finished frames met made taken sent p = done_is stage p
+turn_plain s stage (E.PeerError text) frames met made taken sent p = absurd (no_word _ p)
+turn_plain s stage E.PeerBusy frames met made taken sent p = absurd (no_word _ p.1)
+turn_plain s stage (E.BadPassword wanted given) frames met made taken sent p = absurd (no_word _ p.says)
+turn_plain s stage (E.Broke cause n) frames met made taken sent p = absurd (let clash : None ≡ Some n = p in cc)
+turn_plain s stage E.NoMemory frames met made taken sent p = tt
+turn_plain s stage E.Dropped frames met made taken sent p = absurd p
+turn_plain s stage E.LineFault frames met made taken sent p = absurd p
+turn_plain s stage (E.DiskFault count) frames met made taken sent p = absurd p
+turn_plain s stage E.LedgerFull frames met made taken sent p = absurd p
+turn_plain s stage E.Quiet frames met made taken sent p = absurd p
+turn_plain s stage E.Endless frames met made taken sent p = absurd p
+turn_plain s stage E.TurnedAway frames met made taken sent p = absurd p
+
+pub gave_own : (s : Setting) (stage : Stage) (gave : Gave) (es : List Event) (frames : List FrameText) (met : Stage) (made : List Turned) (taken sent : List ℕ) → TurnCause (own_turn s stage) gave es → OwnCauseAt (after_gave gave) s stage frames met made taken sent
+gave_own s stage G.Sent es frames met made taken sent c = tt
+gave_own s stage G.Waits es frames met made taken sent c = tt
+gave_own s stage (G.Ended end) es frames met made taken sent c = ended_own _ end es s stage frames met made taken sent c (turn_plain s stage end frames met made taken sent)
 
 cond_own : (b : Bool) (end : End) (goal : Phase) (s : Setting) (stage : Stage) (frames : List FrameText) (met : Stage) (made : List Turned) (taken sent : List ℕ) → (b ≡ true → OwnCause end s stage frames met made taken sent) → OwnCauseAt goal s stage frames met made taken sent → OwnCauseAt (if b then Over end else goal) s stage frames met made taken sent
 cond_own true end goal s stage frames met made taken sent x y = x refl
@@ -100,6 +153,9 @@ write_own W.Failed calm waits s stage frames met made taken sent = tt
 -- bytes that are sent later take no cause away
 grow_own : (end : End) (s : Setting) (stage : Stage) (frames : List FrameText) (met : Stage) (made : List Turned) (taken sent more : List ℕ) → OwnCause end s stage frames met made taken sent → OwnCause end s stage frames met made taken (sent ++ more)
 grow_own E.Finished s stage frames met made taken sent more c = c
+grow_own (E.PeerError text) s stage frames met made taken sent more c = c
+grow_own E.PeerBusy s stage frames met made taken sent more c = c
+grow_own (E.BadPassword wanted given) s stage frames met made taken sent more c = c
 grow_own (E.Broke cause n) s stage frames met made taken sent more c = c
 grow_own E.Endless s stage frames met made taken sent more c = omega (arith, c, length-append sent more)
 grow_own E.NoMemory s stage frames met made taken sent more c = tt
@@ -124,17 +180,4 @@ leave_own end (Refused (Disk count)) s stage frames met made taken sent c = tt
 leave_own end (Refused (Read count)) s stage frames met made taken sent c = c
 leave_own end (Refused Full) s stage frames met made taken sent c = c
 leave_own end (Refused No_memory) s stage frames met made taken sent c = c
-leave_own end (Queued slots) s stage frames met made taken sent c = c
-leave_own end Let_in s stage frames met made taken sent c = c
-leave_own end Busy s stage frames met made taken sent c = c
-leave_own end (Begun number) s stage frames met made taken sent c = c
-leave_own end (Offered number key) s stage frames met made taken sent c = c
-leave_own end Nothing s stage frames met made taken sent c = c
-leave_own end (Came bytes) s stage frames met made taken sent c = c
-leave_own end Settled s stage frames met made taken sent c = c
-leave_own end (Filed answer) s stage frames met made taken sent c = c
-leave_own end More s stage frames met made taken sent c = c
-leave_own end Whole_now s stage frames met made taken sent c = c
-leave_own end (Acted number) s stage frames met made taken sent c = c
-leave_own end (Given number) s stage frames met made taken sent c = c
-leave_own end (Held number) s stage frames met made taken sent c = c
+leave_own end answer s stage frames met made taken sent c = c

@@ -9,8 +9,8 @@ use Rattle.node_model.proofs.CallsLive.{turns_live, turns_past}
 use Rattle.node_model.proofs.Rans.{opens_weaker}
 use Rattle.node_model.proofs.Lives.{lives_join}
 use Rattle.binkp_link.specs.Lines.{LineState}
-use Rattle.session_core.specs.Ends.{End}
-use Rattle.session_core.specs.Sessions.{Setting}
+use Rattle.session_core.specs.Stages.{Setting}
+use Rattle.session_run.specs.Reports.{ReportText}
 use Rattle.session_run.specs.Laws.{WholeRun}
 use Rattle.session_run.proofs.Chains.{whole_leads}
 
@@ -70,6 +70,6 @@ drift_lives false seat (Tells old) (Counts_alone c) none = absurd none
 drift_lives false seat (Counts_alone c) new rise = tt
 
 -- from the state in which it finds the node to that in which it leaves it
-pub whole_lives : (alone : Bool) (setting : Setting) (line : LineState) (desk : DeskState) (end : End) (taken : ℕ) (line' : LineState) (desk' : DeskState) → WholeRun alone setting line desk end taken line' desk' → KnownLives desk.knows desk'.knows
-whole_lives alone setting line desk end taken line' desk' x =
-    lives_on desk.knows x.last.desk.knows desk'.knows (turns_live alone desk x.last.events x.last.desk (whole_leads alone setting line desk end taken line' desk' x)) (drift_lives alone x.last.desk.seat x.last.desk.knows desk'.knows x.desk_is.drift)
+pub whole_lives : (alone : Bool) (setting : Setting) (line : LineState) (desk : DeskState) (report : ReportText) (line' : LineState) (desk' : DeskState) → WholeRun alone setting line desk report line' desk' → KnownLives desk.knows desk'.knows
+whole_lives alone setting line desk report line' desk' x =
+    lives_on desk.knows x.last.desk.knows desk'.knows (turns_live alone desk x.last.events x.last.desk (whole_leads alone setting line desk report line' desk' x)) (drift_lives alone x.last.desk.seat x.last.desk.knows desk'.knows x.desk_is.drift)

@@ -1,254 +1,268 @@
--- The frames that a row writes, and which file is held behind it.
-use Rattle.std.proofs.Common.{◌≡◌, ◌≢◌, ◌≤◌, ◌∙◌, ℕ, length, Bool, true, false, List, [], ◌∷◌, ◌++◌, Option, Some, None, Result, Ok, Err, refl, sym, ap, subst, codes}
-use Rattle.std.specs.Prelude.{MatchBool}
-use Rattle.std.specs.List.{flat_map}
-use Rattle.std.proofs.lemmas.List.{append-nil}
-use Rattle.std.proofs.lemmas.List.Concat.{flat_map-append}
+-- What each row leaves behind it, frame by frame and at the own turn.
+use Rattle.std.proofs.Common.{◌≡◌, ◌⊎◌, ◌≤◌, ◌+◌, ◌∙◌, ℕ, length, Bool, true, false, List, [], ◌∷◌, Option, None, Result, Ok, Err, refl, sym, ap, subst, inl, inr, arith}
+use Rattle.std.specs.Prelude.{MatchBool, if◌then◌else◌}
 use Rattle.ftn_addr.specs.Address.{Address, same_address}
-use Rattle.ftn_addr.specs.Frames.{FrameText, Command, Data, frame_bytes}
+use Rattle.ftn_addr.specs.Frames.{FrameText, Command, Data}
 use Rattle.ftn_addr.specs.Key.{Key}
 use Rattle.ftn_addr.specs.declared.limits.TheConstants.{MAX_FRAME_DATA}
-use Rattle.binkp_args.specs.Command.{CommandText, Nul, Adr, Accept, Eob, Got as GotCommand, Error, Bsy, Get as GetCommand, Skip as SkipCommand, command_of}
-use Rattle.binkp_args.specs.Writing.{number_of, argument_of, frame_text_of}
+use Rattle.binkp_args.specs.Command.{CommandText, Nul, Adr, Pwd, File as FileCommand, Accept, Eob, Got as GotCommand, Error, Bsy, Get as GetCommand, Skip as SkipCommand, Other, command_of}
 use Rattle.binkp_args.specs.declared.fault.ArgFault.{ArgFault}
-use Rattle.node_model.specs.Lists.{Each, without}
-use Rattle.node_model.specs.Rows.{Have, Refuse, Elsewhere, Go, Whole, From, Late}
-use Rattle.node_model.specs.Calls.{Call, File_call, Data_call, Open_call, Knock_call, Fault, Disk, Read, Full, No_memory, Answer, Let_in, Busy, Begun, Filed, More, Whole_now, Refused, Event, one}
-use Rattle.node_model.specs.Talk.{Message, Talk, Part, RowEnd, Finished, Out_of_turn, Too_late, Too_much, Refused_by, Outcome, Goes_on, Waits, Ends, Verdict, AfterFile, AfterData, DataTaken, Nothing_held, Drops, Exceeds, Fits, Says_end, Waits_for_end}
-use Rattle.node_model.specs.declared.words.Role.TheVariants.{Answers}
-use Rattle.session_core.specs.Sessions.{EmptyTurn, Finishes, Rests, Gives_nothing, Setting, Stage, Awaits_address, Awaits_password, Talks, Reply, Row, ReadRow, HeardRow, PasswordRow, LoggedRow, LoginRow, TalkRow, DataRow, AfterBegin, AfterKnock, Plain, Heard, Passed, Addresses, Password, Offers, Ends_batch, Unbuilt, heard_of, before_address, named, is_none, is_unbuilt, Turn, GiveRow, command_bytes, said_bytes, outcome_bytes, last_words, fault_bytes, version, greeting, welcome, broken_frame, offset_again, disk_fault, ledger_full, too_many}
+use Rattle.node_model.specs.Lists.{without}
+use Rattle.node_model.specs.Calls.{Open_call, Knock_call, Offer_call, Answer, Let_in, Busy, Begun, Offered, Nothing, Came, Refused, Event, one}
+use Rattle.node_model.specs.Talk.{Message, File, Data as DataMessage, Got, Get, Skip, End as EndMessage, Talk, Part, Sending, RowEnd, Finished, Out_of_turn, Too_late, Too_much, Refused_by, Outcome, Goes_on, Waits, Ends, Verdict, TakeRow, FileTaken, AfterFile, AfterData, AfterSettling, DataTaken, Nothing_held, Drops, Exceeds, Fits, GotTaken, Settles, Passes_got, SkipTaken, Skips, Passes_skip, GetTaken, Resends, Passes_get, SendVerdict, Fails, SendRow, Reads, Fills, Awaits, Asks, AfterRead, AfterOffer, AfterSend, Says, Fills_out, Awaits_answer, Says_end, Waits_for_end, Ends_by, TurnRow, Finishes, Rests, Gives as GivesRow}
+use Rattle.node_model.specs.declared.words.Role.{Role}
+use Rattle.session_core.specs.Stages.{Side, Answers, Calls, Setting, Stage, Awaits_address, Awaits_login, Talks}
+use Rattle.session_core.specs.Says.{said_bytes, welcome_of, fault_bytes}
+use Rattle.session_core.specs.Sessions.{Reply, Row, ReadRow, CommandRow, BeforeLogin, PasswordRow, AcceptRow, LoggedRow, LoginRow, TalkRow, DataRow, AfterBegin, AfterKnock, Plain, before_address, early_password, early_word, named, is_among, is_none, Turn, GiveRow}
 use Rattle.session_run.proofs.HeldKeys.{part_key, keys_along, keys_of_along}
-use Rattle.session_run.proofs.Acks.{Acks}
-
--- The frames of an output.
-
--- the one call that was made acknowledges the file
-abbrev pub Owes : Option Key → List Event → Key → Type 0
-Owes held es key = (call : Call) × (answer : Answer) × (es ≡ one call answer) × Acks held key call answer
-
--- an M_GOT names a file that the row's call acknowledges
-abbrev pub IsOwed : Option Key → List Event → FrameText → Type 0
-IsOwed held es (Data bytes) = length bytes ≤ MAX_FRAME_DATA
-IsOwed held es (Command number args) = number ≡ 6 → (key : Key) × (args ≡ argument_of (GotCommand key)) × Owes held es key
-
-pub record Framed (held : Option Key) (es : List Event) (output : List ℕ) : Type 0 where
-  pub frames : List FrameText
-  pub spelled : output ≡ flat_map frame_bytes frames
-  pub owed : Each (IsOwed held es) frames
-
-pub nothing : (held : Option Key) (es : List Event) → Framed held es []
-nothing held es = record { frames = []; spelled = refl; owed = tt }
-
--- a command that acknowledges nothing
-plain : (held : Option Key) (es : List Event) (c : CommandText) → number_of c ≢ 6 → Framed held es (command_bytes c)
-plain held es c other = record { frames = frame_text_of c ∷ []; spelled = sym (append-nil (command_bytes c)); owed = (λ six. absurd (other six), tt) }
-
-each_both : {A : Type 0} (P : A → Type 0) (xs ys : List A) → Each P xs → Each P ys → Each P (xs ++ ys)
-each_both P [] ys a b = b
-each_both P (x ∷ xs) ys a b = (a.0, each_both P xs ys a.1 b)
-
-both : (held : Option Key) (es : List Event) (a b : List ℕ) → Framed held es a → Framed held es b → Framed held es (a ++ b)
-both held es a b x y = record {
-  frames = x.frames ++ y.frames;
-  spelled = ap (λ (l : List ℕ). l ++ b) x.spelled ∙ ap (λ (l : List ℕ). flat_map frame_bytes x.frames ++ l) y.spelled ∙ sym (flat_map-append frame_bytes x.frames y.frames);
-  owed = each_both (IsOwed held es) x.frames y.frames x.owed y.owed;
-}
-
-framed_as : (held : Option Key) (es : List Event) (a b : List ℕ) → b ≡ a → Framed held es a → Framed held es b
-framed_as held es a b e x = subst (Framed held es) (sym e) x
-
-broken : (held : Option Key) (es : List Event) → Framed held es broken_frame
-unfolding broken_frame
-broken held es = plain held es (Error (codes "broken frame")) (λ six. let clash : 7 ≡ 6 = six in cc)
-
-again : (held : Option Key) (es : List Event) → Framed held es offset_again
-unfolding offset_again
-again held es = plain held es (Error (codes "offset again")) (λ six. let clash : 7 ≡ 6 = six in cc)
-
-disk : (held : Option Key) (es : List Event) → Framed held es disk_fault
-unfolding disk_fault
-disk held es = plain held es (Error (codes "disk fault")) (λ six. let clash : 7 ≡ 6 = six in cc)
-
-full : (held : Option Key) (es : List Event) → Framed held es ledger_full
-unfolding ledger_full
-full held es = plain held es (Error (codes "ledger full")) (λ six. let clash : 7 ≡ 6 = six in cc)
-
-many : (held : Option Key) (es : List Event) → Framed held es too_many
-unfolding too_many
-many held es = plain held es (Bsy (codes "too many servers")) (λ six. let clash : 8 ≡ 6 = six in cc)
-
-welcomed : (held : Option Key) (es : List Event) → Framed held es welcome
-unfolding welcome
-welcomed held es = plain held es (Accept (codes "non-secure")) (λ six. let clash : 4 ≡ 6 = six in cc)
-
-versioned : (held : Option Key) (es : List Event) → Framed held es version
-unfolding version
-versioned held es = plain held es (Nul (codes "VER binkp_mailer/1.0 binkp/1.0")) (λ six. let clash : 0 ≡ 6 = six in cc)
-
-greeted : (home : Address) (held : Option Key) (es : List Event) → Framed held es (greeting home)
-greeted home held es = both held es version (command_bytes (Adr (home ∷ []))) (versioned held es) (plain held es (Adr (home ∷ [])) (λ six. let clash : 1 ≡ 6 = six in cc))
-
-faulty : (held : Option Key) (es : List Event) (fault : Fault) → Framed held es (fault_bytes fault)
-faulty held es (Disk count) = disk held es
-faulty held es (Read count) = disk held es
-faulty held es Full = full held es
-faulty held es No_memory = nothing held es
-
-lasting : (held : Option Key) (es : List Event) (end : RowEnd) → Framed held es (last_words end)
-lasting held es Finished = nothing held es
-lasting held es Out_of_turn = broken held es
-lasting held es Too_late = again held es
-lasting held es Too_much = broken held es
-lasting held es (Refused_by fault) = faulty held es fault
-
-outcome : (held : Option Key) (es : List Event) (o : Outcome) → Framed held es (outcome_bytes o)
-outcome held es Goes_on = nothing held es
-outcome held es Waits = nothing held es
-outcome held es (Ends end) = lasting held es end
-
--- a message that acknowledges nothing
-saying : (held : Option Key) (es : List Event) (c : CommandText) → number_of c ≢ 6 → Framed held es (command_bytes c ++ [])
-saying held es c other = both held es (command_bytes c) [] (plain held es c other) (nothing held es)
-
-got : (held : Option Key) (es : List Event) (key : Key) → Owes held es key → Framed held es (command_bytes (GotCommand key) ++ [])
-got held es key owes = record { frames = frame_text_of (GotCommand key) ∷ []; spelled = refl; owed = (λ six. (key, refl, owes), tt) }
-
--- what a verdict says
-abbrev pub SaysWell : Option Key → List Event → Verdict → Type 0
-SaysWell held es v = Framed held es (said_bytes v.said)
-
-says_as : (held : Option Key) (es : List Event) (v w : Verdict) → v ≡ w → SaysWell held es w → SaysWell held es v
-says_as held es v w e x = subst (SaysWell held es) (sym e) x
-
-file_says : (held : Option Key) (es : List Event) (t : Talk) (key : Key) (offset : ℕ) (answer : Answer) (v : Verdict) → es ≡ one (File_call key offset) answer → AfterFile t key answer v → SaysWell held es v
-file_says held es t key offset (Filed Have) v e a = says_as held es v _ a (got held es key (File_call key offset, Filed Have, e, refl))
-file_says held es t key offset (Filed Refuse) v e a = says_as held es v _ a (got held es key (File_call key offset, Filed Refuse, e, refl))
-file_says held es t key offset (Filed Whole) v e a = says_as held es v _ a (got held es key (File_call key offset, Filed Whole, e, refl))
-file_says held es t key offset (Filed Elsewhere) v e a = says_as held es v _ a (saying held es (SkipCommand key) (λ six. let clash : 10 ≡ 6 = six in cc))
-file_says held es t key offset (Filed (From place)) v e a = says_as held es v _ a (saying held es (GetCommand key place) (λ six. let clash : 9 ≡ 6 = six in cc))
-file_says held es t key offset (Filed Go) v e a = says_as held es v _ a (nothing held es)
-file_says held es t key offset (Filed Late) v e a = says_as held es v _ a (nothing held es)
-file_says held es t key offset (Refused fault) v e a = says_as held es v _ a (nothing held es)
-file_says held es t key offset answer v e a = absurd a
-
-data_says : (held : Option Key) (es : List Event) (t : Talk) (key : Key) (bytes : List ℕ) (answer : Answer) (v : Verdict) → held ≡ Some key → es ≡ one (Data_call bytes) answer → AfterData t key answer v → SaysWell held es v
-data_says held es t key bytes More v has e a = says_as held es v _ a (nothing held es)
-data_says held es t key bytes Whole_now v has e a = says_as held es v _ a (got held es key (Data_call bytes, Whole_now, e, has))
-data_says held es t key bytes (Refused fault) v has e a = says_as held es v _ a (nothing held es)
-data_says held es t key bytes answer v has e a = absurd a
-
-taken_says : (part : Option Part) (t : Talk) (bytes : List ℕ) (es : List Event) (v : Verdict) → DataTaken part t bytes es v → SaysWell (part_key part) es v
-taken_says part t bytes es v (Nothing_held none e a) = says_as (part_key part) es v _ a (nothing (part_key part) es)
-taken_says part t bytes es v (Drops p is taking e a) = says_as (part_key part) es v _ a (nothing (part_key part) es)
-taken_says part t bytes es v (Exceeds p is taking over e a) = says_as (part_key part) es v _ a (nothing (part_key part) es)
-taken_says part t bytes es v (Fits p is taking fits answer e a) = data_says (part_key part) es t p.key bytes answer v (ap part_key is) e a
-
--- Rows.
+use Rattle.node_model.specs.Talk as M
+use Rattle.node_model.specs.Talk.{under_way}
+use Rattle.session_core.specs.Sessions.{turn_of}
+use Rattle.session_run.proofs.FrameWritings.{own_end_at, Framed, SaysWell, AllQuiet, nothing, asking, bad, both, broken, ending, faulty, filled, greeted, many, none_quiet, one_quiet, outcome, saying, says_as, section, take_end, take_quiet, take_says, uncalled, welcoming}
 
 abbrev pub stage_key : Stage → Option Key
 stage_key (Talks talk held) = part_key held
 stage_key stage = None
 
--- what a row writes, and the file that is held behind it
-pub record Behind (held : Option Key) (es : List Event) (r : Reply) : Type 0 where
-  pub writes : Framed held es r.output
-  pub holds : stage_key r.stage ≡ keys_along held es
+-- what a row writes, the file that is held behind it, and that it neither offers nor ends the batch
+pub record Behind (before : Stage) (es : List Event) (r : Reply) : Type 0 where
+  pub writes : Framed (stage_key before) es r.stage r.output
+  pub holds : stage_key r.stage ≡ keys_along (stage_key before) es
+  pub ends : own_end_at r.stage ≡ own_end_at before
+  pub quiet : AllQuiet es
 
-behind_as : (held : Option Key) (es : List Event) (r q : Reply) → r ≡ q → Behind held es q → Behind held es r
-behind_as held es r q e b = subst (Behind held es) (sym e) b
+behind_as : (before : Stage) (es : List Event) (r q : Reply) → r ≡ q → Behind before es q → Behind before es r
+behind_as before es r q e b = subst (Behind before es) (sym e) b
 
-unasked : (held : Option Key) (es : List Event) (reply r : Reply) → Framed held es reply.output → stage_key reply.stage ≡ held → Plain reply es r → Behind held es r
-unasked held es reply r writes same (none, is) = behind_as held es r reply is (record { writes = writes; holds = same ∙ sym (ap (keys_along held) none) })
+unasked : (before : Stage) (es : List Event) (reply r : Reply) → Framed (stage_key before) es reply.stage reply.output → stage_key reply.stage ≡ stage_key before → own_end_at reply.stage ≡ own_end_at before → Plain reply es r → Behind before es r
+unasked before es reply r writes same ends (none, is) =
+    behind_as before es r reply is (record { writes = writes; holds = same ∙ sym (ap (keys_along (stage_key before)) none); ends = ends; quiet = none_quiet es none })
 
-named_writes : (n : ℕ) (addresses : List Address) (es : List Event) → Framed None es (named n addresses).output
-named_writes n [] es = broken None es
-named_writes n (first ∷ others) es = nothing None es
+-- a reply that leaves the session where it was before login
+abbrev pub IsEarly : Stage → Type 0
+IsEarly (Talks talk held) = ⊥
+IsEarly stage = Unit {0}
 
-named_early : (n : ℕ) (addresses : List Address) → stage_key (named n addresses).stage ≡ None
-named_early n [] = refl
-named_early n (first ∷ others) = refl
+early_key : (stage : Stage) → IsEarly stage → stage_key stage ≡ None
+early_key Awaits_address i = refl
+early_key (Awaits_login peers) i = refl
+early_key (Talks talk held) i = absurd i
 
-before_behind : (home : Address) (n : ℕ) (heard : Heard) (es : List Event) (r : Reply) → Plain (before_address home n heard) es r → Behind None es r
-before_behind home n Passed es r p = unasked None es _ r (nothing None es) refl p
-before_behind home n (Addresses addresses) es r p = unasked None es _ r (named_writes n (without (same_address home) addresses) es) (named_early n (without (same_address home) addresses)) p
-before_behind home n (Password text) es r p = unasked None es _ r (broken None es) refl p
-before_behind home n (Offers key offset) es r p = unasked None es _ r (broken None es) refl p
-before_behind home n Ends_batch es r p = unasked None es _ r (broken None es) refl p
-before_behind home n Unbuilt es r p = unasked None es _ r (broken None es) refl p
+early_end : (stage : Stage) → IsEarly stage → own_end_at stage ≡ false
+early_end Awaits_address i = refl
+early_end (Awaits_login peers) i = refl
+early_end (Talks talk held) i = absurd i
 
-begin_behind : (s : Setting) (peers : List Address) (answer : Answer) (es : List Event) (r : Reply) → es ≡ one (Open_call Answers peers false s.moment) answer → AfterBegin peers answer r → Behind None es r
-begin_behind s peers (Begun number) es r e a = behind_as None es r _ a (record { writes = welcomed None es; holds = sym (ap (keys_along None) e) })
-begin_behind s peers (Refused fault) es r e a = behind_as None es r _ a (record { writes = both None es welcome (fault_bytes fault) (welcomed None es) (faulty None es fault); holds = sym (ap (keys_along None) e) })
-begin_behind s peers answer es r e a = absurd a
+-- an early reply's frames
+pub record Early (es : List Event) (reply : Reply) : Type 0 where
+  pub writes : Framed None es reply.stage reply.output
+  pub early : IsEarly reply.stage
 
-login_behind : (s : Setting) (peers : List Address) (es : List Event) (r : Reply) → LoginRow s peers es r → Behind None es r
-login_behind s peers es r row = begin_behind s peers row.answer es r row.asks row.follows
+early_behind : (before : Stage) (es : List Event) (reply r : Reply) → IsEarly before → Early es reply → Plain reply es r → Behind before es r
+early_behind before es reply r i x p =
+    unasked before es reply r (subst (λ (k : Option Key). Framed k es reply.stage reply.output) (sym (early_key before i)) x.writes) (early_key reply.stage x.early ∙ sym (early_key before i)) (early_end reply.stage x.early ∙ sym (early_end before i)) p
+
+among_early : (es : List Event) (b : Bool) (x y : Reply) → Early es x → Early es y → Early es (if b then x else y)
+among_early es true x y p q = p
+among_early es false x y p q = q
+
+named_early : (side : Side) (n : ℕ) (peers : List Address) (es : List Event) → Early es (named side n peers)
+named_early side n [] es = record { writes = broken None es _; early = tt }
+named_early Answers n (first ∷ others) es = record { writes = nothing None es _; early = tt }
+named_early (Calls called) n (first ∷ others) es =
+    among_early es (is_among called (first ∷ others)) _ _ (record { writes = asking None es _; early = tt }) (record { writes = uncalled None es _; early = tt })
+
+password_early : (side : Side) (n : ℕ) (es : List Event) → Early es (early_password side n)
+password_early Answers n es = record { writes = broken None es _; early = tt }
+password_early (Calls called) n es = record { writes = nothing None es _; early = tt }
+
+word_early : (side : Side) (n : ℕ) (es : List Event) → Early es (early_word side n)
+word_early Answers n es = record { writes = nothing None es _; early = tt }
+word_early (Calls called) n es = record { writes = broken None es _; early = tt }
+
+before_early : (s : Setting) (n : ℕ) (command : CommandText) (es : List Event) → Early es (before_address s n command)
+before_early s n (Nul text) es = record { writes = nothing None es _; early = tt }
+before_early s n (Adr addresses) es = named_early s.side n (without (same_address s.home) addresses) es
+before_early s n (Pwd text) es = password_early s.side n es
+before_early s n (FileCommand key offset) es = record { writes = broken None es _; early = tt }
+before_early s n (Accept text) es = word_early s.side n es
+before_early s n Eob es = record { writes = broken None es _; early = tt }
+before_early s n (GotCommand key) es = record { writes = broken None es _; early = tt }
+before_early s n (Error text) es = record { writes = nothing None es _; early = tt }
+before_early s n (Bsy text) es = record { writes = nothing None es _; early = tt }
+before_early s n (GetCommand key offset) es = record { writes = broken None es _; early = tt }
+before_early s n (SkipCommand key) es = record { writes = broken None es _; early = tt }
+before_early s n (Other number) es = record { writes = nothing None es _; early = tt }
+
+begin_behind : (s : Setting) (role : Role) (peers others : List Address) (answer : Answer) (es : List Event) (r : Reply) → es ≡ one (Open_call role peers false s.moment) answer → AfterBegin s.side others answer r → Behind (Awaits_login others) es r
+begin_behind s role peers others (Begun number) es r e a = behind_as (Awaits_login others) es r _ a (record { writes = welcoming s.side None es _; holds = sym (ap (keys_along None) e); ends = refl; quiet = one_quiet es _ _ (λ h. cc) e })
+begin_behind s role peers others (Refused fault) es r e a =
+    behind_as (Awaits_login others) es r _ a (record { writes = both None es _ (welcome_of s.side) (fault_bytes fault) (welcoming s.side None es _) (faulty None es _ fault); holds = sym (ap (keys_along None) e); ends = refl; quiet = one_quiet es _ _ (λ h. cc) e })
+begin_behind s role peers others answer es r e a = absurd a
+
+login_behind : (s : Setting) (peers : List Address) (es : List Event) (r : Reply) → LoginRow s peers es r → Behind (Awaits_login peers) es r
+login_behind s peers es r row = begin_behind s _ peers peers row.answer es r row.asks row.follows
 
 either : (b : Bool) (P Q R : Type 0) → (P → R) → (Q → R) → MatchBool b P Q → R
 either true P Q R p q m = p m
 either false P Q R p q m = q m
 
-password_behind : (s : Setting) (n : ℕ) (peers : List Address) (heard : Heard) (es : List Event) (r : Reply) → PasswordRow s n peers heard es r → Behind None es r
-password_behind s n peers Passed es r p = unasked None es _ r (nothing None es) refl p
-password_behind s n peers (Addresses addresses) es r p = unasked None es _ r (nothing None es) refl p
-password_behind s n peers (Password text) es r p = either (is_none text) _ _ _ (login_behind s peers es r) (unasked None es _ r (broken None es) refl) p
-password_behind s n peers (Offers key offset) es r p = unasked None es _ r (broken None es) refl p
-password_behind s n peers Ends_batch es r p = unasked None es _ r (broken None es) refl p
-password_behind s n peers Unbuilt es r p = unasked None es _ r (broken None es) refl p
+password_behind : (side : Side) (s : Setting) (peers : List Address) (text : List ℕ) (es : List Event) (r : Reply) → PasswordRow side s peers text es r → Behind (Awaits_login peers) es r
+password_behind Answers s peers text es r p = either (is_none text) _ _ _ (login_behind s peers es r) (early_behind (Awaits_login peers) es _ r tt (record { writes = bad None es _; early = tt })) p
+password_behind (Calls called) s peers text es r p = early_behind (Awaits_login peers) es _ r tt (record { writes = nothing None es _; early = tt }) p
 
-talk_behind : (n : ℕ) (t : Talk) (part : Option Part) (message : Message) (es : List Event) (r : Reply) (row : TalkRow n t part message es r) → SaysWell (part_key part) es row.verdict → Behind (part_key part) es r
-talk_behind n t part message es r row says =
-    behind_as (part_key part) es r _ row.is (record {
-      writes = both (part_key part) es _ _ says (outcome (part_key part) es row.verdict.outcome);
+accept_behind : (side : Side) (s : Setting) (peers : List Address) (es : List Event) (r : Reply) → AcceptRow side s peers es r → Behind (Awaits_login peers) es r
+accept_behind Answers s peers es r p = early_behind (Awaits_login peers) es _ r tt (record { writes = nothing None es _; early = tt }) p
+accept_behind (Calls called) s peers es r p = login_behind s peers es r p
+
+login_row_behind : (s : Setting) (n : ℕ) (peers : List Address) (command : CommandText) (es : List Event) (r : Reply) → BeforeLogin s n peers command es r → Behind (Awaits_login peers) es r
+login_row_behind s n peers (Nul text) es r p = early_behind (Awaits_login peers) es _ r tt (record { writes = nothing None es _; early = tt }) p
+login_row_behind s n peers (Adr addresses) es r p = early_behind (Awaits_login peers) es _ r tt (record { writes = nothing None es _; early = tt }) p
+login_row_behind s n peers (Pwd text) es r p = password_behind s.side s peers text es r p
+login_row_behind s n peers (FileCommand key offset) es r p = early_behind (Awaits_login peers) es _ r tt (record { writes = broken None es _; early = tt }) p
+login_row_behind s n peers (Accept text) es r p = accept_behind s.side s peers es r p
+login_row_behind s n peers Eob es r p = early_behind (Awaits_login peers) es _ r tt (record { writes = broken None es _; early = tt }) p
+login_row_behind s n peers (GotCommand key) es r p = early_behind (Awaits_login peers) es _ r tt (record { writes = broken None es _; early = tt }) p
+login_row_behind s n peers (Error text) es r p = early_behind (Awaits_login peers) es _ r tt (record { writes = nothing None es _; early = tt }) p
+login_row_behind s n peers (Bsy text) es r p = early_behind (Awaits_login peers) es _ r tt (record { writes = nothing None es _; early = tt }) p
+login_row_behind s n peers (GetCommand key offset) es r p = early_behind (Awaits_login peers) es _ r tt (record { writes = broken None es _; early = tt }) p
+login_row_behind s n peers (SkipCommand key) es r p = early_behind (Awaits_login peers) es _ r tt (record { writes = broken None es _; early = tt }) p
+login_row_behind s n peers (Other number) es r p = early_behind (Awaits_login peers) es _ r tt (record { writes = nothing None es _; early = tt }) p
+
+talk_behind : (n : ℕ) (t : Talk) (part : Option Part) (message : Message) (es : List Event) (r : Reply) → TalkRow n t part message es r → Behind (Talks t part) es r
+talk_behind n t part message es r row =
+    behind_as (Talks t part) es r _ row.is (record {
+      writes = both (part_key part) es _ _ _ (take_says part es _ t message row.verdict row.row) (outcome (part_key part) es _ row.verdict.outcome);
       holds = keys_of_along part es;
+      ends = take_end part es t message row.verdict row.row;
+      quiet = take_quiet part es t message row.verdict row.row;
     })
 
-logged_behind : (n : ℕ) (t : Talk) (part : Option Part) (heard : Heard) (es : List Event) (r : Reply) → LoggedRow n t part heard es r → Behind (part_key part) es r
-logged_behind n t part Passed es r p = unasked _ es _ r (nothing _ es) refl p
-logged_behind n t part (Addresses addresses) es r p = unasked _ es _ r (nothing _ es) refl p
-logged_behind n t part (Password text) es r p = either (is_none text) _ _ _ (unasked (part_key part) es _ r (nothing _ es) refl) (unasked (part_key part) es _ r (broken _ es) refl) p
-logged_behind n t part (Offers key offset) es r row = talk_behind n t part _ es r row (file_says _ es t key offset row.row.answer row.verdict row.row.asks row.row.then)
-logged_behind n t part Ends_batch es r row = talk_behind n t part _ es r row (says_as _ es row.verdict _ row.row.1 (nothing _ es))
-logged_behind n t part Unbuilt es r p = unasked _ es _ r (broken _ es) refl p
+passed_behind : (t : Talk) (part : Option Part) (es : List Event) (reply r : Reply) → Framed (part_key part) es reply.stage reply.output → reply.stage ≡ Talks t part → Plain reply es r → Behind (Talks t part) es r
+passed_behind t part es reply r writes same p = unasked (Talks t part) es reply r writes (ap stage_key same) (ap own_end_at same) p
 
-heard_behind : (s : Setting) (n : ℕ) (stage : Stage) (heard : Heard) (es : List Event) (r : Reply) → HeardRow s n stage heard es r → Behind (stage_key stage) es r
-heard_behind s n Awaits_address heard es r row = before_behind s.home n heard es r row
-heard_behind s n (Awaits_password peers) heard es r row = password_behind s n peers heard es r row
-heard_behind s n (Talks t part) heard es r row = logged_behind n t part heard es r row
+logged_behind : (n : ℕ) (t : Talk) (part : Option Part) (command : CommandText) (es : List Event) (r : Reply) → LoggedRow n t part command es r → Behind (Talks t part) es r
+logged_behind n t part (Nul text) es r p = passed_behind t part es _ r (nothing _ es _) refl p
+logged_behind n t part (Adr addresses) es r p = passed_behind t part es _ r (nothing _ es _) refl p
+logged_behind n t part (Pwd text) es r p = passed_behind t part es _ r (nothing _ es _) refl p
+logged_behind n t part (FileCommand key offset) es r row = talk_behind n t part _ es r row
+logged_behind n t part (Accept text) es r p = passed_behind t part es _ r (nothing _ es _) refl p
+logged_behind n t part Eob es r row = talk_behind n t part _ es r row
+logged_behind n t part (GotCommand key) es r row = talk_behind n t part _ es r row
+logged_behind n t part (Error text) es r p = passed_behind t part es _ r (nothing _ es _) refl p
+logged_behind n t part (Bsy text) es r p = passed_behind t part es _ r (nothing _ es _) refl p
+logged_behind n t part (GetCommand key offset) es r row = talk_behind n t part _ es r row
+logged_behind n t part (SkipCommand key) es r row = talk_behind n t part _ es r row
+logged_behind n t part (Other number) es r p = passed_behind t part es _ r (nothing _ es _) refl p
 
-read_behind : (s : Setting) (n : ℕ) (stage : Stage) (read : Result CommandText ArgFault) (es : List Event) (r : Reply) → ReadRow s n stage read es r → Behind (stage_key stage) es r
-read_behind s n stage (Ok command) es r row = heard_behind s n stage (heard_of command) es r row
-read_behind s n stage (Err fault) es r p = unasked _ es _ r (broken _ es) refl p
+command_behind : (s : Setting) (n : ℕ) (stage : Stage) (command : CommandText) (es : List Event) (r : Reply) → CommandRow s n stage command es r → Behind stage es r
+command_behind s n Awaits_address command es r row = early_behind Awaits_address es _ r tt (before_early s n command es) row
+command_behind s n (Awaits_login peers) command es r row = login_row_behind s n peers command es r row
+command_behind s n (Talks t part) command es r row = logged_behind n t part command es r row
 
-data_behind : (n : ℕ) (stage : Stage) (bytes : List ℕ) (es : List Event) (r : Reply) → DataRow n stage bytes es r → Behind (stage_key stage) es r
-data_behind n Awaits_address bytes es r p = unasked _ es _ r (broken _ es) refl p
-data_behind n (Awaits_password peers) bytes es r p = unasked _ es _ r (broken _ es) refl p
-data_behind n (Talks t part) bytes es r row = talk_behind n t part _ es r row (taken_says part t bytes es row.verdict row.row)
+read_behind : (s : Setting) (n : ℕ) (stage : Stage) (read : Result CommandText ArgFault) (es : List Event) (r : Reply) → ReadRow s n stage read es r → Behind stage es r
+read_behind s n stage (Ok command) es r row = command_behind s n stage command es r row
+read_behind s n stage (Err fault) es r p = unasked stage es _ r (broken _ es _) refl refl p
 
-pub row_behind : (s : Setting) (n : ℕ) (stage : Stage) (frame : FrameText) (es : List Event) (r : Reply) → Row s n stage frame es r → Behind (stage_key stage) es r
-row_behind s n stage (Command number args) es r row =
-    either (is_unbuilt number) _ _ _ (unasked (stage_key stage) es _ r (broken _ es) refl) (read_behind s n stage (command_of s.home number args) es r) row
+data_behind : (n : ℕ) (stage : Stage) (bytes : List ℕ) (es : List Event) (r : Reply) → DataRow n stage bytes es r → Behind stage es r
+data_behind n Awaits_address bytes es r p = unasked Awaits_address es _ r (broken _ es _) refl refl p
+data_behind n (Awaits_login peers) bytes es r p = unasked (Awaits_login peers) es _ r (broken _ es _) refl refl p
+data_behind n (Talks t part) bytes es r row = talk_behind n t part _ es r row
+
+pub row_behind : (s : Setting) (n : ℕ) (stage : Stage) (frame : FrameText) (es : List Event) (r : Reply) → Row s n stage frame es r → Behind stage es r
+row_behind s n stage (Command number args) es r row = read_behind s n stage (command_of s.home number args) es r row
 row_behind s n stage (Data bytes) es r row = data_behind n stage bytes es r row
 
-pub knock_behind : (s : Setting) (answer : Answer) (r : Reply) → AfterKnock s answer r → Behind None (one (Knock_call Answers) answer) r
-knock_behind s Let_in r a = behind_as None _ r _ a (record { writes = greeted s.home None _; holds = refl })
-knock_behind s Busy r a = behind_as None _ r _ a (record { writes = many None _; holds = refl })
-knock_behind s (Refused fault) r a = behind_as None _ r _ a (record { writes = faulty None _ fault; holds = refl })
-knock_behind s answer r a = absurd a
+pub knock_behind : (s : Setting) (role : Role) (answer : Answer) (r : Reply) → AfterKnock s answer r → Behind Awaits_address (one (Knock_call role) answer) r
+knock_behind s role Let_in r a = behind_as Awaits_address _ r _ a (record { writes = greeted s.home None _ _; holds = refl; ends = refl; quiet = (λ h. cc, tt) })
+knock_behind s role Busy r a = behind_as Awaits_address _ r _ a (record { writes = many None _ _; holds = refl; ends = refl; quiet = (λ h. cc, tt) })
+knock_behind s role (Refused fault) r a = behind_as Awaits_address _ r _ a (record { writes = faulty None _ _ fault; holds = refl; ends = refl; quiet = (λ h. cc, tt) })
+knock_behind s role answer r a = absurd a
 
 -- The own turn.
 
-pub record TurnBehind (held : Option Key) (t : Turn) : Type 0 where
-  pub writes : Framed held [] t.output
-  pub holds : stage_key t.stage ≡ held
+pub record TurnBehind (before : Stage) (es : List Event) (t : Turn) : Type 0 where
+  pub writes : Framed (stage_key before) es t.stage t.output
+  pub holds : stage_key t.stage ≡ keys_along (stage_key before) es
+  pub ends : own_end_at before ≡ true → own_end_at t.stage ≡ true
+  pub quiet : AllQuiet es ⊎ (own_end_at before ≡ false)
 
-empty_says : (held : Option Key) (part : Option Part) (talk : Talk) (v : Verdict) → EmptyTurn part talk v → SaysWell held [] v
-empty_says held part talk v (Finishes is a) = says_as held [] v _ a (nothing held [])
-empty_says held part talk v (Rests is own a) = says_as held [] v _ a (nothing held [])
-empty_says held part talk v (Gives_nothing own (Says_end is a)) = says_as held [] v _ a (saying held [] Eob (λ six. let clash : 5 ≡ 6 = six in cc))
-empty_says held part talk v (Gives_nothing own (Waits_for_end is a)) = says_as held [] v _ a (nothing held [])
+sent_message : {m n : Message} {s t : Sending} → M.Sent m s ≡ M.Sent n t → m ≡ n
+sent_message {m} {n} {s} {t} e = cc
 
-pub turn_behind : (stage : Stage) (t : Turn) → GiveRow stage t → TurnBehind (stage_key stage) t
-turn_behind (Talks talk part) t row = subst (TurnBehind (part_key part)) (sym row.is) (record { writes = empty_says (part_key part) part talk row.verdict row.row; holds = refl })
-turn_behind Awaits_address t row = subst (TurnBehind None) (sym row) (record { writes = nothing None []; holds = refl })
-turn_behind (Awaits_password peers) t row = subst (TurnBehind None) (sym row) (record { writes = nothing None []; holds = refl })
+-- only an offer that found nothing leaves the sender empty
+empty_offers : (block : ℕ) (sending : Option Sending) (es : List Event) → SendRow block sending es M.Empty → es ≡ one Offer_call Nothing
+empty_offers block sending es (Reads s is some (Came l) e r) = absurd (let clash : M.Empty ≡ M.Sent (DataMessage l) (record s { place = s.place + length l }) = r.1 in cc)
+empty_offers block sending es (Reads s is some (Refused fault) e r) = absurd (let clash : M.Empty ≡ Fails fault = r in cc)
+empty_offers block sending es (Reads s is some answer e r) = absurd r
+empty_offers block sending es (Fills s is bare e r) = absurd (let clash : M.Empty ≡ M.Filled (record s { bare = false }) = r in cc)
+empty_offers block sending es (Awaits s is bare all e r) = absurd (let clash : M.Empty ≡ M.Waiting = r in cc)
+empty_offers block sending es (Asks none Nothing e o) = e
+empty_offers block sending es (Asks none (Offered number key) e o) = absurd (let clash : M.Empty ≡ M.Sent (File key 0) (under_way number key 0) = o in cc)
+empty_offers block sending es (Asks none (Refused fault) e o) = absurd (let clash : M.Empty ≡ Fails fault = o in cc)
+empty_offers block sending es (Asks none answer e o) = absurd o
+
+-- a turn that asks and says nothing
+turn_plain : (part : Option Part) (t : Talk) (es : List Event) (v w : Verdict) → v ≡ w → Framed (part_key part) es (Talks w.after part) (said_bytes w.said) → w.after ≡ t → es ≡ [] → TurnBehind (Talks t part) es (turn_of part v)
+turn_plain part t es v w is says same none = subst (λ (x : Verdict). TurnBehind (Talks t part) es (turn_of part x)) (sym is) (record {
+  writes = both _ es _ _ _ says (both _ es _ _ _ (filled _ es _ w.filled) (outcome _ es _ w.outcome));
+  holds = sym (ap (keys_along (part_key part)) none);
+  ends = λ h. ap (λ (x : Talk). x.own_end) same ∙ h;
+  quiet = inl (none_quiet es none);
+})
+
+sent_says : (block : ℕ) (held : Option Key) (es : List Event) (part : Option Part) (t : Talk) (v : Verdict) (w : SendVerdict) → block ≤ MAX_FRAME_DATA → SendRow block t.sending es w → AfterSend t v w → SaysWell held es (Talks v.after part) v
+sent_says block held es part t v w small row (Says {message} {sending} b) = go row
+  where
+    said : Framed held es (Talks v.after part) (said_bytes (message ∷ [])) → SaysWell held es (Talks v.after part) v
+    said x = subst (λ (l : List Message). Framed held es (Talks v.after part) (said_bytes l)) (sym (ap (λ (y : Verdict). y.said) b)) x
+
+    file : (key : Key) (offset : ℕ) → message ≡ File key offset → SaysWell held es (Talks v.after part) v
+    file key offset e = said (subst (λ (m : Message). Framed held es (Talks v.after part) (said_bytes (m ∷ []))) (sym e) (saying held es _ (FileCommand key offset) (λ six. let clash : 3 ≡ 6 = six in cc) (λ five. let clash : 3 ≡ 5 = five in cc)))
+
+    bytes : (l : List ℕ) → length l ≤ MAX_FRAME_DATA → message ≡ DataMessage l → SaysWell held es (Talks v.after part) v
+    bytes l fits e = said (subst (λ (m : Message). Framed held es (Talks v.after part) (said_bytes (m ∷ []))) (sym e) (section held es _ l fits))
+
+    read : (s : Sending) (answer : Answer) → AfterRead block s answer (M.Sent message sending) → SaysWell held es (Talks v.after part) v
+    read s (Came l) (long, is) = bytes l (omega (arith, long, small)) (sent_message is)
+    read s (Refused fault) is = absurd (let clash : M.Sent message sending ≡ Fails fault = is in cc)
+    read s answer is = absurd is
+
+    offer : (answer : Answer) → AfterOffer answer (M.Sent message sending) → SaysWell held es (Talks v.after part) v
+    offer (Offered number key) is = file key 0 (sent_message is)
+    offer Nothing is = absurd (let clash : M.Sent message sending ≡ M.Empty = is in cc)
+    offer (Refused fault) is = absurd (let clash : M.Sent message sending ≡ Fails fault = is in cc)
+    offer answer is = absurd is
+
+    go : SendRow block t.sending es (M.Sent message sending) → SaysWell held es (Talks v.after part) v
+    go (Reads s is some answer e r) = read s answer r
+    go (Fills s is bare e r) = absurd (let clash : M.Sent message sending ≡ M.Filled (record s { bare = false }) = r in cc)
+    go (Awaits s is bare all e r) = absurd (let clash : M.Sent message sending ≡ M.Waiting = r in cc)
+    go (Asks none answer e o) = offer answer o
+sent_says block held es part t v w small row (Fills_out b) = says_as held es _ v _ b (nothing held es _)
+sent_says block held es part t v w small row (Awaits_answer b) = says_as held es _ v _ b (nothing held es _)
+sent_says block held es part t v w small row (Says_end may b) = says_as held es _ v _ b (ending held es (Talks v.after part) (empty_offers block t.sending es row, ap (λ (x : Verdict). x.after.own_end) b))
+sent_says block held es part t v w small row (Waits_for_end may b) = says_as held es _ v _ b (nothing held es _)
+sent_says block held es part t v w small row (Ends_by b) = says_as held es _ v _ b (nothing held es _)
+
+-- a step of the sender makes no call that changes what is held
+send_keys : (block : ℕ) (sending : Option Sending) (es : List Event) (w : SendVerdict) (key : Option Key) → SendRow block sending es w → keys_along key es ≡ key
+send_keys block sending es w key (Reads s is some answer e r) = ap (keys_along key) e
+send_keys block sending es w key (Fills s is bare e r) = ap (keys_along key) e
+send_keys block sending es w key (Awaits s is bare all e r) = ap (keys_along key) e
+send_keys block sending es w key (Asks none answer e o) = ap (keys_along key) e
+
+turn_verdict : (s : Setting) (part : Option Part) (t : Talk) (es : List Event) (v : Verdict) → s.block ≤ MAX_FRAME_DATA → TurnRow s.block part t es v → TurnBehind (Talks t part) es (turn_of part v)
+turn_verdict s part t es v small (Finishes is e a) = turn_plain part t es v _ a (nothing _ es _) refl e
+turn_verdict s part t es v small (Rests is own e a) = turn_plain part t es v _ a (nothing _ es _) refl e
+turn_verdict s part t es v small (GivesRow own w row a) = record {
+  writes = both _ es _ _ _ (sent_says s.block (part_key part) es part t v w small row a) (both _ es _ _ _ (filled _ es _ v.filled) (outcome _ es _ v.outcome));
+  holds = sym (send_keys s.block t.sending es w (part_key part) row);
+  ends = λ h. absurd (let clash : true ≡ false = sym h ∙ own in cc);
+  quiet = inr own;
+}
+
+pub turn_behind : (s : Setting) (stage : Stage) (es : List Event) (t : Turn) → s.block ≤ MAX_FRAME_DATA → GiveRow s stage es t → TurnBehind stage es t
+turn_behind s (Talks talk part) es t small row = subst (TurnBehind (Talks talk part) es) (sym row.is) (turn_verdict s part talk es row.verdict small row.row)
+turn_behind s Awaits_address es t small row = subst (TurnBehind Awaits_address es) (sym row.1) (record { writes = nothing None es _; holds = sym (ap (keys_along None) row.0); ends = λ h. h; quiet = inl (none_quiet es row.0) })
+turn_behind s (Awaits_login peers) es t small row = subst (TurnBehind (Awaits_login peers) es) (sym row.1) (record { writes = nothing None es _; holds = sym (ap (keys_along None) row.0); ends = λ h. h; quiet = inl (none_quiet es row.0) })

@@ -1,4 +1,5 @@
--- What a session writes, frame by frame: each M_GOT names a file that its node has (own, after FTS-1026).
+-- What a session writes, frame by frame: each M_GOT names a file that its node has, and M_EOB stands behind all that it
+-- offers (own, after FTS-1026).
 use Rattle.std.specs.Prelude.{◌≡◌, ℕ, ◌≤◌, Bool, true, List, [], ◌∷◌, ◌++◌, Some, length}
 use Rattle.std.specs.List.{flat_map}
 use Rattle.ftn_addr.specs.Frames.{FrameText, Command, Data, frame_bytes}
@@ -11,6 +12,7 @@ use Rattle.node_model.specs.Lists.{Each}
 use Rattle.node_model.specs.Node.{Session, session_at}
 use Rattle.node_model.specs.Calls.{Knows, Tells, Counts_alone, DeskState, Turned, CallsBeside, Turns}
 use Rattle.session_run.specs.Machine.{Phase, Over, Draining, Closed}
+use Rattle.session_run.specs.Settled.{BatchEnded}
 
 -- the seat's session has a file of its peer received or refused, where the desk tells its node
 abbrev pub HasFile : ℕ → Knows → Key → Type 0
@@ -29,12 +31,14 @@ pub record Acknowledged (alone : Bool) (desk : DeskState) (es : List Turned) (ke
   pub call : CallsBeside alone asks turn answers
   pub has : HasFile asks.seat call.rows.answers key
 
--- A frame that may be written after these calls: an M_GOT names a file that they acknowledge. Data fits its header, so
--- that the top bit of a header tells a command, and bytes spell one list of frames alone.
+-- A frame that may be written after these calls: an M_GOT names a file that they acknowledge, and with M_EOB the last of
+-- their offers found nothing. Data fits its header, so that the top bit of a header tells a command, and bytes spell one
+-- list of frames alone, but for frames of no data.
 abbrev pub MayStand : Bool → DeskState → List Turned → FrameText → Type 0
 MayStand alone desk es (Data bytes) = length bytes ≤ MAX_FRAME_DATA
 MayStand alone desk es (Command number args) =
-    number ≡ 6 → (key : Key) × (args ≡ argument_of (Got key)) × Acknowledged alone desk es key
+    (number ≡ 6 → (key : Key) × (args ≡ argument_of (Got key)) × Acknowledged alone desk es key)
+    × (number ≡ 5 → BatchEnded alone desk es)
 
 -- the output is a front of these frames, and each of them may stand
 pub record Written (alone : Bool) (desk : DeskState) (es : List Turned) (output cut : List ℕ) : Type 0 where

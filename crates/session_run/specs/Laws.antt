@@ -1,18 +1,24 @@
 -- What holds of every session, in the subject's own words (own, after FTS-1026).
-use Rattle.std.specs.Prelude.{◌≡◌, ◌⊎◌, ℕ, ◌+◌, ◌≤◌, Bool, true, false, List, [], ◌∷◌, ◌++◌, length, Some}
+use Rattle.std.specs.Prelude.{◌≡◌, ◌⊎◌, ℕ, ◌+◌, ◌≤◌, Bool, true, false, List, [], ◌∷◌, ◌++◌, length, Some, Ok, codes}
+use Rattle.ftn_addr.specs.Address.{Address}
 use Rattle.ftn_addr.specs.Counts.{Increased, CountGrew, next_count}
-use Rattle.ftn_addr.specs.Frames.{FrameText}
+use Rattle.ftn_addr.specs.Frames.{FrameText, Command}
+use Rattle.binkp_args.specs.Command.{CommandText, Pwd, Error, Bsy, command_of}
 use Rattle.binkp_frame.specs.Stream.{Begins}
 use Rattle.node_model.specs.Calls.{Leave_call, Disk, Read, Full, Answer, Busy, Refused, Counts, counts_of, DeskState, Turned, asked_of}
 use Rattle.node_model.specs.Images.{Stand, Drifted, RanAt}
+use Rattle.node_model.specs.Lists.{Each}
 use Rattle.node_model.specs.Talk.{is_finished}
 use Rattle.session_core.specs.declared.ending.Cause.{Cause}
 use Rattle.session_core.specs.Ends.{End}
 use Rattle.session_core.specs.Ends as E
 use Rattle.session_core.specs.Takings as T
 use Rattle.binkp_link.specs.Lines.{LineState, Moves, shut}
-use Rattle.session_core.specs.Sessions.{Setting, Stage, Talks, Reply, Row, frame_number}
+use Rattle.session_core.specs.Stages.{Answers, Setting, Stage, Awaits_login, Talks}
+use Rattle.session_core.specs.Sessions.{Reply, Row, frame_number, is_none}
 use Rattle.session_run.specs.Acknowledged.{Written}
+use Rattle.session_run.specs.Reports.{ReportText, Reports}
+use Rattle.session_run.specs.Settled.{MaySettle}
 use Rattle.session_run.specs.Machine.{World, Phase, Over, Draining, Closed, Reach, opening, is_mute, after_leave}
 
 abbrev pub joined : List (List ℕ) → List ℕ
@@ -109,15 +115,38 @@ pub record Refuses (cause : Cause) (n : ℕ) (setting : Setting) (frames : List 
   pub row : Row setting n met frame (asked_of made) reply
   pub took : reply.took ≡ T.Ended (E.Broke cause n)
 
+-- the last frame that was taken of these bytes says that
+pub record Says (said : CommandText) (setting : Setting) (frames : List FrameText) (taken : List ℕ) : Type 0 where
+  pub rest : List ℕ
+  pub begins : Begins taken frames rest
+  pub earlier : List FrameText
+  pub number : ℕ
+  pub args : List ℕ
+  pub last : frames ≡ earlier ++ Command number args ∷ []
+  pub says : command_of setting.home number args ≡ Ok said
+
+-- The answering side was waiting for a password, wanted none, and was given that one.
+pub record Refuses_password (wanted given : List ℕ) (setting : Setting) (frames : List FrameText) (met : Stage) (taken : List ℕ) : Type 0 where
+  pub side : setting.side ≡ Answers
+  pub peers : List Address
+  pub waits : met ≡ Awaits_login peers
+  pub none : wanted ≡ codes "-"
+  pub other : is_none given ≡ false
+  pub says : Says (Pwd given) setting frames taken
+
 -- both sides have said that they are done, and no file is held
 abbrev pub IsDone : Stage → Type 0
 IsDone (Talks talk held) = is_finished talk held ≡ true
 IsDone stage = ⊥
 
--- Finished comes only once both sides are done, Broke only where that frame was refused so, Endless only where the bytes
--- taken and sent reach the limit
+-- Finished comes only once both sides are done; PeerError and PeerBusy only where the peer's last frame taken is an M_ERR
+-- with that text, or an M_BSY; BadPassword only where that frame is an M_PWD with what was given, where nothing was wanted;
+-- Broke only where that frame was refused so; Endless only where the bytes taken and sent reach the limit
 abbrev pub OwnCause : End → Setting → Stage → List FrameText → (met : Stage) (made : List Turned) (taken sent : List ℕ) → Type 0
 OwnCause E.Finished setting stage frames met made taken sent = IsDone stage
+OwnCause (E.PeerError text) setting stage frames met made taken sent = Says (Error text) setting frames taken
+OwnCause E.PeerBusy setting stage frames met made taken sent = (text : List ℕ) × Says (Bsy text) setting frames taken
+OwnCause (E.BadPassword wanted given) setting stage frames met made taken sent = Refuses_password wanted given setting frames met taken
 OwnCause (E.Broke cause n) setting stage frames met made taken sent = Refuses cause n setting frames met made taken
 OwnCause E.Endless setting stage frames met made taken sent = setting.limit ≤ length taken + length sent
 OwnCause _ setting stage frames met made taken sent = Unit {0}
@@ -157,22 +186,23 @@ pub record Facts (alone : Bool) (line : LineState) (desk : DeskState) (w : World
   pub answer_cause : AnswerCauseAt w.phase w.events
   pub own_cause : OwnCauseAt w.phase w.setting w.stage w.frames w.last_stage w.last_calls w.taken w.sent
 
--- A session that ended so, over this line and this desk: a run from the opening to its close, and what holds of it. The
--- line is then closed on this side.
-pub record WholeRun (alone : Bool) (setting : Setting) (line : LineState) (desk : DeskState) (end : End) (taken : ℕ) (line' : LineState) (desk' : DeskState) : Type 0 where
+-- A session over this line and this desk of which this is reported: a run from the opening to its close, and what holds of
+-- it. The line is then closed on this side.
+pub record WholeRun (alone : Bool) (setting : Setting) (line : LineState) (desk : DeskState) (report : ReportText) (line' : LineState) (desk' : DeskState) : Type 0 where
   pub last : World
   pub run : Reach alone (opening setting line desk) last
-  pub closed : last.phase ≡ Closed end
+  pub reports : Reports report last
   pub line_is : shut last.line ≡ line'
   pub desk_is : Drifted alone last.desk desk'
-  pub taken_is : length last.taken ≡ taken
   pub facts : Facts alone line desk last
-  -- each M_GOT among the frames that were written names a file that the node has
+  -- each M_GOT among the frames that were written names a file that the node has, and M_EOB stands behind all offers
   pub cut : List ℕ
   pub written : Written alone desk last.events last.output cut
+  -- each entry that was settled was offered, and the peer has acknowledged its file
+  pub settled : Each (MaySettle alone desk last.events setting.home last.frames) last.events
 
 -- The same with what a stop may leave of it: its calls of the desk, with the moments at which they ended. At each moment
 -- since the opening each image is one of the call of that moment, and at its end the state after it.
-pub record IsSession (alone : Bool) (setting : Setting) (line : LineState) (desk : Stand) (end : End) (taken : ℕ) (line' : LineState) (desk' : Stand) : Type 0 where
-  pub whole : WholeRun alone setting line desk.state end taken line' desk'.state
+pub record IsSession (alone : Bool) (setting : Setting) (line : LineState) (desk : Stand) (report : ReportText) (line' : LineState) (desk' : Stand) : Type 0 where
+  pub whole : WholeRun alone setting line desk.state report line' desk'.state
   pub ran : RanAt alone desk whole.last.events desk'

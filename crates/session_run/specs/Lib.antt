@@ -2,4 +2,6 @@ pub mod Acknowledged
 pub mod Courses
 pub mod Laws
 pub mod Machine
+pub mod Reports
 pub mod Runs
+pub mod Settled

@@ -2,7 +2,7 @@
 use Rattle.std.specs.Prelude.{◌≡◌, ◌⊎◌, ℕ, ◌+◌, ◌<◌, Bool, true, false, ◌&&◌, nat_le, ◌==◌, if◌then◌else◌, List, [], ◌∷◌, ◌++◌, length}
 use Rattle.ftn_addr.specs.Frames.{FrameText}
 use Rattle.binkp_frame.specs.Stream.{Begins, Splits}
-use Rattle.node_model.specs.declared.words.Role.TheVariants.{Answers}
+use Rattle.node_model.specs.declared.words.Role.{Role}
 use Rattle.node_model.specs.Calls.{Knock_call, Leave_call, Disk, Answer, Refused, Event, DeskState, Turned, turned, asked_of, CallsBeside, Turns}
 use Rattle.binkp_link.specs.declared.link.ReadAnswer.{ReadAnswer}
 use Rattle.binkp_link.specs.declared.link.ReadAnswer.TheVariants as R
@@ -15,7 +15,8 @@ use Rattle.session_core.specs.Takings as T
 use Rattle.session_core.specs.Givings.{Gave}
 use Rattle.session_core.specs.Givings as G
 use Rattle.binkp_link.specs.Lines.{LineState, IsRead, IsWrite, came, went}
-use Rattle.session_core.specs.Sessions.{Setting, Stage, Awaits_address, Reply, Row, AfterKnock, Turn, GiveRow, Said, frame_number}
+use Rattle.session_core.specs.Stages.{Setting, role_of, Stage, Awaits_address}
+use Rattle.session_core.specs.Sessions.{Reply, Row, AfterKnock, Turn, GiveRow, Said, Gives, frame_number}
 
 -- where a session is: before its first turn; taking the frames that are whole, and then making the own turn; writing,
 -- where the own turn waits or not; reading; over; writing what is left, unless its own end was mute; closed
@@ -80,20 +81,23 @@ abbrev pub after_leave : End → Answer → End
 after_leave end (Refused (Disk count)) = E.DiskFault count
 after_leave end _ = end
 
--- the caller knocks, and is greeted or refused
+-- this side knocks at its desk with its role, and greets its peer or turns it away
 pub record Greets (alone : Bool) (w v : World) : Type 0 where
   pub phase : w.phase ≡ Starting
+  pub new : w.stage ≡ Awaits_address
+  pub role : Role
+  pub side : role ≡ role_of w.setting.side
   pub answer : Answer
   pub desk : DeskState
   pub rows_before : List Event
   pub rows_after : List Event
-  pub call : CallsBeside alone w.desk (turned (Knock_call Answers) answer rows_before rows_after) desk
+  pub call : CallsBeside alone w.desk (turned (Knock_call role) answer rows_before rows_after) desk
   pub reply : Reply
   pub follows : AfterKnock w.setting answer reply
   pub output : List ℕ
   pub took : Took
   pub said : Said reply.output reply.took output took
-  pub is : v ≡ record w { desk = desk; stage = reply.stage; phase = after_took took; output = w.output ++ output; events = w.events ++ turned (Knock_call Answers) answer rows_before rows_after ∷ [] }
+  pub is : v ≡ record w { desk = desk; stage = reply.stage; phase = after_took took; output = w.output ++ output; events = w.events ++ turned (Knock_call role) answer rows_before rows_after ∷ [] }
 
 -- the next frame of the bytes taken is taken
 pub record TakesFrame (alone : Bool) (w v : World) : Type 0 where
@@ -112,13 +116,19 @@ pub record TakesFrame (alone : Bool) (w v : World) : Type 0 where
   pub is : v ≡ record w { desk = desk; stage = reply.stage; phase = after_took took; frames = w.frames ++ frame ∷ []; last_stage = w.stage; last_calls = events; output = w.output ++ output; events = w.events ++ events }
 
 -- no further frame is whole, and the own turn is made
-pub record MakesTurn (w v : World) : Type 0 where
+pub record MakesTurn (alone : Bool) (w v : World) : Type 0 where
   pub phase : w.phase ≡ Taking
   pub rest : List ℕ
   pub none : Splits w.taken w.frames rest
+  pub events : List Turned
   pub turn : Turn
-  pub row : GiveRow w.stage turn
-  pub is : v ≡ record w { stage = turn.stage; phase = after_gave turn.gave; output = w.output ++ turn.output }
+  pub row : GiveRow w.setting w.stage (asked_of events) turn
+  pub desk : DeskState
+  pub chain : Turns alone w.desk events desk
+  pub output : List ℕ
+  pub gave : Gave
+  pub said : Gives turn.output turn.gave output gave
+  pub is : v ≡ record w { desk = desk; stage = turn.stage; phase = after_gave gave; output = w.output ++ output; events = w.events ++ events }
 
 -- a write of all that is left
 pub record Writes (w v : World) : Type 0 where
@@ -208,7 +218,7 @@ pub record Closes (w v : World) : Type 0 where
 pub data Step (alone : Bool) (w v : World) : Type 0 where
   greets : Greets alone w v → Step alone w v
   takes_frame : TakesFrame alone w v → Step alone w v
-  makes_turn : MakesTurn w v → Step alone w v
+  makes_turn : MakesTurn alone w v → Step alone w v
   writes : Writes w v → Step alone w v
   passes_write : PassesWrite w v → Step alone w v
   reads : Reads w v → Step alone w v

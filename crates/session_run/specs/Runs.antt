@@ -1,15 +1,17 @@
 -- Where the code of a session stands in the run of its machine.
-use Rattle.std.specs.Prelude.{◌≡◌, ℕ, ◌+◌, ◌-◌, ◌*◌, ◌<◌, ◌≤◌, Bool, true, false, List, [], ◌++◌, length, Option, Some, None}
+use Rattle.std.specs.Prelude.{◌≡◌, ℕ, ◌+◌, ◌-◌, ◌*◌, ◌^◌, ◌<◌, ◌≤◌, min, Bool, true, false, List, [], ◌++◌, length, Option, Some, None}
 use Rattle.ftn_addr.specs.Frames.{FrameText}
 use Rattle.binkp_frame.specs.Stream.{Splits}
-use Rattle.node_model.specs.Calls.{DeskState, Turned}
+use Rattle.node_model.specs.Calls.{DeskState, Event, Turned, asked_of}
 use Rattle.node_model.specs.Images.{Stand, Drifted, RanAt}
 use Rattle.session_core.specs.declared.ending.End.{End as EndCode}
 use Rattle.session_core.specs.Ends.{End, end_text}
 use Rattle.session_run.specs.declared.run.Run.{Run}
 use Rattle.binkp_link.specs.Lines.{LineState}
-use Rattle.session_core.specs.Sessions.{Setting, Awaits_address, frame_number}
-use Rattle.session_core.specs.Replies.{stage_of}
+use Rattle.session_core.specs.declared.session.Session.{Session}
+use Rattle.session_core.specs.Stages.{Setting, Awaits_address, untold, told_along}
+use Rattle.session_core.specs.Sessions.{frame_number}
+use Rattle.session_core.specs.Replies.{told_of, stage_of}
 use Rattle.session_run.specs.Machine.{World, Phase, Over, Draining, Closed, Reach}
 
 -- the code's run, where its line and its desk stand, the frames that were read and not yet taken, and the phase
@@ -44,6 +46,10 @@ IsUnleft (Draining mute end) = ⊥
 IsUnleft (Closed end) = ⊥
 IsUnleft phase = Unit {0}
 
+-- what the session tells of these calls: its login, and what it has counted
+pub record Tells_calls (session : Session) (es : List Event) : Type 0 where
+  pub told : told_of session ≡ told_along untold es
+
 -- the desk stands where the machine has it, but for steps of other seats, which the next call counts as its own drift
 pub record At (alone : Bool) (setting : Setting) (s : Spot) (w : World) : Type 0 where
   pub setting_is : w.setting ≡ setting
@@ -53,6 +59,9 @@ pub record At (alone : Bool) (setting : Setting) (s : Spot) (w : World) : Type 0
   pub unsent : w.output ≡ w.sent ++ s.run.out.list
   pub taken : length w.taken ≡ s.run.taken
   pub wrote : IsUnleft s.phase → length w.sent ≡ s.run.wrote
+  -- a count stands at its type's end
+  pub stood : min s.run.wrote (2 ^ 64 - 1) ≡ min (length w.sent) (2 ^ 64 - 1)
+  pub tells : Tells_calls s.run.session (asked_of w.events)
   pub follows : Follows s.phase s.run s.pending w
 
 -- wherever the code stands in its machine's run, the machine goes on to where the code comes, by these calls of the desk
@@ -73,6 +82,7 @@ pub record Went (alone : Bool) (setting : Setting) (old : Stand) (a : Spot) (new
 -- nothing has happened yet
 pub record IsNew (run : Run) : Type 0 where
   pub stage : stage_of run.session.stage ≡ Awaits_address
+  pub told : told_of run.session ≡ untold
   pub frames : run.session.frames ≡ 0
   pub decoder : run.decoder ≡ []
   pub piece : run.piece.list ≡ []

@@ -1,12 +1,10 @@
 //! A session over a line, turn by turn.
 ghost use Rattle.std.specs.Prelude.{◌≡◌, ◌+◌, ◌^◌, ◌<◌, ◌≤◌, ◌&&◌, Bool, true, false, None, length, [], IfNone, IfOk, OnErr, Option};
-ghost use Rattle.ftn_addr.specs.Address.{address};
-ghost use Rattle.ftn_addr.specs.Limits.{IsAddress};
 ghost use Rattle.binkp_frame.specs.Views.{frame_texts};
 ghost use Rattle.node_model.specs.Calls.{DeskState};
 ghost use Rattle.binkp_link.specs.Lines.{LineState, LineBytes, MayRead, MayWrite, came, went};
-ghost use Rattle.session_core.specs.Replies.{Sits, SitsStill, setting_of, stage_of};
-ghost use Rattle.session_core.specs.Sessions.{Setting as Lent, IsSound, desk_part};
+ghost use Rattle.session_core.specs.Replies.{Sits, SitsOn, SitsStill, setting_in, setting_of, stage_of};
+ghost use Rattle.session_core.specs.Stages.{Setting as Lent};
 ghost use Rattle.session_run.specs.Runs.{over_or};
 ghost use Rattle.session_run.specs.Machine.{Phase, Starting, Taking, Writing, Reading, Over, Draining, after_gave, after_read, after_took, after_write, moved, quieted};
 ghost use Rattle.session_core.specs.Ends.{End as Ending};
@@ -19,8 +17,8 @@ ghost use Rattle.session_core.specs.Givings as G;
 use binkp_frame::{Decoder, Frame, pieces_add_up};
 use binkp_link::{Line, ReadAnswer, WriteAnswer};
 use ftn_addr::{Bytes, NoMemory};
-use node_model::{Desk, Knock, Role};
-use session_core::{End, Gave, Session, Setting, Took, refuse, say_greeting, turn_away};
+use node_model::{Desk, Knock};
+use session_core::{End, Gave, Session, Setting, Side, Took, refuse, say_greeting, turn_away};
 use std::alloc::Global;
 
 /// A session that goes on: what it knows, the bytes of a frame that isn't whole, the piece that was read and
@@ -39,11 +37,12 @@ impl Run {
     ghost use Rattle.session_run.specs.Runs.{Goes, Went, IsNew, Wrote, Came, SameCounts, Advances, InLimit, drain_room, drained, room, spot};
 
     /// Before the first turn. This takes no memory.
-    pub fn new(alloc: Global) -> Run
-        ensures { IsNew result }
+    pub fn new(alloc: Global, side: Side, setting: Setting) -> Run
+        ensures new { IsNew result }
+        ensures setting { setting_in result.session ≡ setting_of side setting }
     {
         Run {
-            session: Session::new(),
+            session: Session::new(side, setting),
             decoder: Decoder::new(alloc),
             piece: Bytes::new(alloc),
             out: Bytes::new(alloc),
@@ -74,26 +73,17 @@ impl Run {
     }
 
     /// Takes frames in order, up to one that ends the session.
-    fn take_each<K: Desk>(
-        &mut self,
-        alloc: Global,
-        frames: &[Frame],
-        setting: &Setting,
-        desk: &mut K,
-    ) -> Took
-        requires home { IsAddress (address setting.now.home) }
+    fn take_each<K: Desk>(&mut self, alloc: Global, frames: &[Frame], desk: &mut K) -> Took
         requires sits { Sits (K.ready desk.old) (K.part desk.old) (stage_of self.old.session.stage) }
         requires piece { self.old.piece.list ≡ [] }
-        ensures went { (line : LineState) → Went K.alone (setting_of setting.now) (K.stand desk.old) (spot self.old line (K.stand desk.old).state (frame_texts frames.now) Taking) (K.stand desk.new) (spot self.new line (K.stand desk.new).state [] (after_took (took_text result))) }
+        ensures went { (line : LineState) → Went K.alone (setting_in self.old.session) (K.stand desk.old) (spot self.old line (K.stand desk.old).state (frame_texts frames.now) Taking) (K.stand desk.new) (spot self.new line (K.stand desk.new).state [] (after_took (took_text result))) }
         ensures sits { SitsStill (K.ready desk.new) (K.part desk.new) (stage_of self.new.session.stage) (took_text result) }
         ensures piece { self.new.piece.list ≡ [] }
+        ensures setting { setting_in self.new.session ≡ setting_in self.old.session }
         ensures counts { SameCounts self.old self.new }
     {
         for frame in frames {
-            match self
-                .session
-                .take(alloc, frame, setting, desk, &mut self.out)
-            {
+            match self.session.take(alloc, frame, desk, &mut self.out) {
                 Took::More => {}
                 Took::Ended(end) => return Took::Ended(end),
             }
@@ -102,32 +92,32 @@ impl Run {
     }
 
     /// Takes each frame that is whole, up to one that ends the session.
-    fn take_all<K: Desk>(&mut self, alloc: Global, setting: &Setting, desk: &mut K) -> Took
-        requires home { IsAddress (address setting.now.home) }
+    fn take_all<K: Desk>(&mut self, alloc: Global, desk: &mut K) -> Took
         requires sits { Sits (K.ready desk.old) (K.part desk.old) (stage_of self.old.session.stage) }
-        ensures went { (line : LineState) → Went K.alone (setting_of setting.now) (K.stand desk.old) (spot self.old line (K.stand desk.old).state [] Taking) (K.stand desk.new) (spot self.new line (K.stand desk.new).state [] (after_took (took_text result))) }
+        ensures went { (line : LineState) → Went K.alone (setting_in self.old.session) (K.stand desk.old) (spot self.old line (K.stand desk.old).state [] Taking) (K.stand desk.new) (spot self.new line (K.stand desk.new).state [] (after_took (took_text result))) }
         ensures sits { SitsStill (K.ready desk.new) (K.part desk.new) (stage_of self.new.session.stage) (took_text result) }
         ensures piece { took_text result ≡ T.More → self.new.piece.list ≡ [] }
+        ensures setting { setting_in self.new.session ≡ setting_in self.old.session }
         ensures counts { SameCounts self.old self.new }
     {
         match self.feed(alloc) {
-            Ok(frames) => self.take_each(alloc, frames.as_slice(), setting, desk),
+            Ok(frames) => self.take_each(alloc, frames.as_slice(), desk),
             Err(_) => Took::Ended(End::NoMemory),
         }
     }
 
     /// The own turn.
-    fn give(&mut self, alloc: Global) -> Gave
+    fn give<K: Desk>(&mut self, alloc: Global, desk: &mut K) -> Gave
+        requires sits { Sits (K.ready desk.old) (K.part desk.old) (stage_of self.old.session.stage) }
         requires piece { self.old.piece.list ≡ [] }
-        ensures went { (alone : Bool) (s : Lent) (line : LineState) (desk : DeskState) →
-            Goes alone s (spot self.old line desk [] Taking) (spot self.new line desk [] (after_gave (gave_text result))) }
-        ensures part { desk_part (stage_of self.new.session.stage) ≡ desk_part (stage_of self.old.session.stage) }
-        ensures sound { IsSound (stage_of self.old.session.stage) → IsSound (stage_of self.new.session.stage) }
+        ensures went { (line : LineState) → Went K.alone (setting_in self.old.session) (K.stand desk.old) (spot self.old line (K.stand desk.old).state [] Taking) (K.stand desk.new) (spot self.new line (K.stand desk.new).state [] (after_gave (gave_text result))) }
+        ensures sits { SitsOn (K.ready desk.new) (K.part desk.new) (stage_of self.new.session.stage) (gave_text result) }
         ensures sent { gave_text result ≡ G.Sent → 0 < length self.new.out.list }
         ensures piece { self.new.piece.list ≡ self.old.piece.list }
+        ensures setting { setting_in self.new.session ≡ setting_in self.old.session }
         ensures counts { SameCounts self.old self.new }
     {
-        self.session.give(alloc, &mut self.out)
+        self.session.give(alloc, desk, &mut self.out)
     }
 
     /// What an answer to a write leaves.
@@ -222,77 +212,80 @@ impl Run {
         alloc: Global,
         line: &mut L,
         desk: &mut K,
-        setting: &Setting,
     ) -> Option<End>
-        requires home { IsAddress (address setting.now.home) }
         requires sits { Sits (K.ready desk.old) (K.part desk.old) (stage_of self.old.session.stage) }
-        requires within { InLimit setting.now.limit self.old (L.state line.old).calm }
-        requires limit { setting.now.limit ≤ 2 ^ 62 }
+        requires within { InLimit self.old.session.setting.limit self.old (L.state line.old).calm }
+        requires limit { self.old.session.setting.limit ≤ 2 ^ 62 }
         requires open { (L.state line.old).closed ≡ false }
-        ensures went { Went K.alone (setting_of setting.now) (K.stand desk.old) (spot self.old (L.state line.old) (K.stand desk.old).state [] Taking) (K.stand desk.new) (spot self.new (L.state line.new) (K.stand desk.new).state [] (over_or result Taking)) }
+        ensures went { Went K.alone (setting_in self.old.session) (K.stand desk.old) (spot self.old (L.state line.old) (K.stand desk.old).state [] Taking) (K.stand desk.new) (spot self.new (L.state line.new) (K.stand desk.new).state [] (over_or result Taking)) }
         ensures ready { K.ready desk.new }
         ensures sits { IfNone result (Sits (K.ready desk.new) (K.part desk.new) (stage_of self.new.session.stage)) }
         ensures open { (L.state line.new).closed ≡ false }
-        ensures goes_on { IfNone result (InLimit setting.now.limit self.new (L.state line.new).calm) }
-        ensures progress { IfNone result (room setting.now.limit self.new (L.state line.new).calm < room setting.now.limit self.old (L.state line.old).calm) }
+        ensures setting { setting_in self.new.session ≡ setting_in self.old.session }
+        ensures goes_on { IfNone result (InLimit self.old.session.setting.limit self.new (L.state line.new).calm) }
+        ensures progress { IfNone result (room self.old.session.setting.limit self.new (L.state line.new).calm < room self.old.session.setting.limit self.old (L.state line.old).calm) }
     {
-        match self.take_all(alloc, setting, desk) {
+        let limit = self.session.setting.limit;
+        match self.take_all(alloc, desk) {
             Took::More => {}
             Took::Ended(end) => return Some(end),
         }
-        let waits = match self.give(alloc) {
+        let waits = match self.give(alloc, desk) {
             Gave::Sent => false,
             Gave::Waits => true,
             Gave::Ended(end) => return Some(end),
         };
-        match self.write_once(line, waits, setting.limit) {
+        match self.write_once(line, waits, limit) {
             None => {}
             Some(end) => return Some(end),
         }
-        self.read_once(line, waits, setting.limit)
+        self.read_once(line, waits, limit)
     }
 
-    /// The first turn: the caller knocks, and is greeted or refused.
-    fn greet<K: Desk>(&mut self, alloc: Global, setting: &Setting, desk: &mut K) -> Took
+    /// The first turn: this side knocks at its desk, and greets its peer or turns it away.
+    fn greet<K: Desk>(&mut self, alloc: Global, desk: &mut K) -> Took
         requires new { IsNew self.old }
-        requires home { IsAddress (address setting.now.home) }
         requires ready { K.ready desk.old }
         requires part { K.part desk.old ≡ record { open_now = false; claim = None; held = None } }
-        ensures went { (line : LineState) → Went K.alone (setting_of setting.now) (K.stand desk.old) (spot self.old line (K.stand desk.old).state [] Starting) (K.stand desk.new) (spot self.new line (K.stand desk.new).state [] (after_took (took_text result))) }
+        ensures went { (line : LineState) → Went K.alone (setting_in self.old.session) (K.stand desk.old) (spot self.old line (K.stand desk.old).state [] Starting) (K.stand desk.new) (spot self.new line (K.stand desk.new).state [] (after_took (took_text result))) }
         ensures sits { SitsStill (K.ready desk.new) (K.part desk.new) (stage_of self.new.session.stage) (took_text result) }
+        ensures setting { setting_in self.new.session ≡ setting_in self.old.session }
         ensures counts { SameCounts self.old self.new }
     {
-        match desk.knock(Role::Answers) {
-            Ok(Knock::Come) => say_greeting(alloc, &setting.home, &mut self.out),
+        let session = &self.session;
+        match desk.knock(session.side.role()) {
+            Ok(Knock::Come) => {
+                let setting = &session.setting;
+                say_greeting(alloc, &setting.home, &mut self.out)
+            }
             Ok(Knock::Busy) => turn_away(alloc, &mut self.out),
             Err(fault) => refuse(alloc, fault, &mut self.out),
         }
     }
 
-    /// The first turn: the caller knocks and is greeted, and the session goes on from there.
+    /// The first turn: this side knocks at its desk and greets its peer, and the session goes on from there.
     pub(crate) fn open<L: Line, K: Desk>(
         &mut self,
         alloc: Global,
         line: &mut L,
         desk: &mut K,
-        setting: &Setting,
     ) -> Option<End>
         requires new { IsNew self.old }
-        requires home { IsAddress (address setting.now.home) }
         requires ready { K.ready desk.old }
         requires part { K.part desk.old ≡ record { open_now = false; claim = None; held = None } }
-        requires some { 0 < setting.now.limit }
-        requires limit { setting.now.limit ≤ 2 ^ 62 }
+        requires some { 0 < self.old.session.setting.limit }
+        requires limit { self.old.session.setting.limit ≤ 2 ^ 62 }
         requires calm { (L.state line.old).calm ≡ 0 }
         requires open { (L.state line.old).closed ≡ false }
-        ensures went { Went K.alone (setting_of setting.now) (K.stand desk.old) (spot self.old (L.state line.old) (K.stand desk.old).state [] Starting) (K.stand desk.new) (spot self.new (L.state line.new) (K.stand desk.new).state [] (over_or result Taking)) }
+        ensures went { Went K.alone (setting_in self.old.session) (K.stand desk.old) (spot self.old (L.state line.old) (K.stand desk.old).state [] Starting) (K.stand desk.new) (spot self.new (L.state line.new) (K.stand desk.new).state [] (over_or result Taking)) }
         ensures ready { K.ready desk.new }
         ensures sits { IfNone result (Sits (K.ready desk.new) (K.part desk.new) (stage_of self.new.session.stage)) }
         ensures open { (L.state line.new).closed ≡ false }
-        ensures goes_on { IfNone result (InLimit setting.now.limit self.new (L.state line.new).calm) }
+        ensures setting { setting_in self.new.session ≡ setting_in self.old.session }
+        ensures goes_on { IfNone result (InLimit self.old.session.setting.limit self.new (L.state line.new).calm) }
     {
-        match self.greet(alloc, setting, desk) {
-            Took::More => self.go_on(alloc, line, desk, setting),
+        match self.greet(alloc, desk) {
+            Took::More => self.go_on(alloc, line, desk),
             Took::Ended(end) => Some(end),
         }
     }
@@ -303,6 +296,7 @@ impl Run {
         ensures went { (alone : Bool) (s : Lent) (desk : DeskState) (end : Ending) →
             Goes alone s (spot self.old (L.state line.old) desk [] (Draining false end)) (spot self.new (L.state line.new) desk [] (drained result end)) }
         ensures open { (L.state line.new).closed ≡ false }
+        ensures session { self.new.session ≡ self.old.session }
         ensures less { result ≡ false → drain_room self.new (L.state line.new).calm < drain_room self.old (L.state line.old).calm }
     {
         if self.out.is_empty() {
@@ -311,6 +305,7 @@ impl Run {
         match line.write(self.out.as_slice()) {
             WriteAnswer::Wrote(n) => {
                 self.out.drop_front(n);
+                self.wrote = self.wrote.saturating_add(n as u64);
                 self.out.is_empty()
             }
             WriteAnswer::Quiet => line.calm() >= 60,

@@ -1,9 +1,9 @@
 use Rattle.std.proofs.Common.{ap}
 use Rattle.session_core.specs.Takings.{took_text}
 use Rattle.session_run.specs.Machine.{after_took}
-use Rattle.session_run.proofs.Runs.{went_then, ends_at}
+use Rattle.session_run.proofs.Runs.{went_then, went_lent, ends_at}
 use Rattle.session_run.proofs.run.Run.open.Goals as goal
 
 pub returns-in-More-clause-went : goal.returns-in-More-clause-went
 returns-in-More-clause-went g c =
-    went_then (ends_at (c.greet.ensures.went (g.L.Line.state c.args.line.now)) (ap (λ took. after_took (took_text took)) c.in-More.is)) c.go_on.ensures.went
+    went_then (ends_at (c.greet.ensures.went (g.L.Line.state c.args.line.now)) (ap (λ took. after_took (took_text took)) c.in-More.is)) (went_lent c.in-More.ensures.setting c.go_on.ensures.went)

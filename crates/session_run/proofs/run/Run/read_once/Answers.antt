@@ -2,12 +2,13 @@ use Rattle.std.proofs.Common.{◌≡◌, ◌+◌, ◌&&◌, ◌++◌, ℕ, Bool,
 use Rattle.binkp_link.specs.Lines.{IsRead, came}
 use Rattle.session_run.specs.Machine.{Taking, Reading, after_read}
 use Rattle.session_run.specs.Runs.{over_or}
-use Rattle.session_run.proofs.Runs.{gave_up_at, came_it}
+use Rattle.session_run.proofs.LineRuns.{came_it}
+use Rattle.session_run.proofs.Runs.{gave_up_at}
 use Rattle.session_run.proofs.Room.{read_advanced}
 use Rattle.session_run.proofs.run.Run.read_once.Goals as goal
 
 pub returns-then-is_err-clause-went : goal.returns-then-is_err-clause-went
-returns-then-is_err-clause-went g c = λ alone s desk e. gave_up_at alone s _ _ _ desk _ _ (Reading c.args.waits) tt refl refl refl
+returns-then-is_err-clause-went g c = λ alone s desk e. gave_up_at alone s _ _ _ desk _ _ (Reading c.args.waits) tt refl refl refl refl
 
 pub returns-clause-went : goal.returns-clause-went
 returns-clause-went g c = λ alone s desk e.

@@ -3,7 +3,8 @@ use Rattle.std.proofs.lemmas.Bool.{eqb-true, eqb-false}
 use Rattle.binkp_link.specs.Lines.{IsWrite}
 use Rattle.session_run.specs.Machine.{Reading, after_write}
 use Rattle.session_run.specs.Runs.{over_or}
-use Rattle.session_run.proofs.Runs.{passes_it, wrote_it, is_nothing}
+use Rattle.session_run.proofs.LineRuns.{passes_it, wrote_it}
+use Rattle.session_run.proofs.Streams.{is_nothing}
 use Rattle.session_run.proofs.Room.{write_advanced}
 use Rattle.session_run.proofs.run.Run.write_once.Goals as goal
 

@@ -3,7 +3,8 @@ use Rattle.node_model.specs.Desks.{settled_answer}
 use Rattle.session_core.specs.Ends.{End, end_text}
 use Rattle.session_run.specs.Machine.{Draining, Taking, after_leave}
 use Rattle.session_run.specs.Runs.{over_or}
-use Rattle.session_run.proofs.Runs.{went_nowhere, left_it, ends_at, starts_at}
+use Rattle.session_run.proofs.Openings.{left_it}
+use Rattle.session_run.proofs.Runs.{went_nowhere, ends_at, starts_at}
 use Rattle.session_run.proofs.turns.Course.settle.Goals as goal
 
 pub returns-in-None-clause-went : goal.returns-in-None-clause-went
