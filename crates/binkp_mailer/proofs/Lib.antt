@@ -1,3 +1,5 @@
 pub mod NewStore
 pub mod ReservedStore
 pub mod TopCalls
+pub mod TopPrints
+pub mod WordLists

@@ -14,7 +14,6 @@ use Rattle.node_model.proofs.Lives.{life_once, life_past_once, life_stays, life_
 use Rattle.node_model.proofs.ReceiptsStay.{stays_same, stays_on}
 use Rattle.session_core.specs.Ends.{End}
 use Rattle.session_core.specs.Ends as E
-use Rattle.binkp_mailer.specs.declared.status.Status.{Status}
 use Rattle.std.proofs.lemmas.List.{length-append}
 use Rattle.ftn_addr.specs.Frames.{FrameText}
 use Rattle.binkp_link.specs.Lines.{LineBytes, LineState, Moves}
@@ -22,13 +21,14 @@ use Rattle.session_run.proofs.Chains.{whole_leads}
 use Rattle.session_run.proofs.RanPast.{ran_past, whole_lives}
 use Rattle.session_run.proofs.Settings.{reach_setting}
 use Rattle.session_run.specs.Machine.{Phase, opening}
-use Rattle.session_core.specs.Sessions.{Setting, Stage}
+use Rattle.session_core.specs.Stages.{Side, Setting, Stage}
+use Rattle.session_run.specs.Reports.{ReportText}
 use Rattle.session_run.specs.Laws.{WholeRun, IsSession, Facts, OwnCause, OwnCauseAt, EndCount, EndCountAt, LineCause, LineCauseAt, DeskCause, DeskCauseAt}
 use Rattle.hub_core.specs.Hubs.{HubState, Fitted, HubFits, knows_over, node_with, hub_stand, seen, state_of}
 use Rattle.hub_core.specs.Opening.{no_seats, with_seat, IsWhole}
 use Rattle.hub_core.proofs.Seating.{fitted_more}
-use Rattle.binkp_mailer.specs.Statuses.{status_after}
-use Rattle.binkp_mailer.specs.declared.status.Status.TheVariants as S
+use Rattle.binkp_mailer.specs.Statuses as S
+use Rattle.binkp_mailer.specs.Statuses.{Status, status_after}
 use Rattle.binkp_mailer.specs.TopCall.{Calls_in_turn, none_yet, one_more, MayServe, ReachesLimit, HeldSession, HasOnceTold, OnceAfter, StaysTold, StatusCause, Answers_line, Turned_away, Held_one, StopsOf, IsCall, EachStop, IfTells, new_hub, first_seat, lent}
 use Rattle.binkp_mailer.specs.Words.{AreWords}
 
@@ -47,6 +47,9 @@ reaches taken sent None new m most = tt
 
 own_limit : (end : End) (s : Setting) (stage : Stage) (frames : List FrameText) (met : Stage) (made : List Turned) (taken sent : List ℕ) (old new : Option LineBytes) → s.limit ≡ 17592186044416 → Moves taken sent old new → OwnCause end s stage frames met made taken sent → LimitCause end old new
 own_limit E.Endless s stage frames met made taken sent old new is m c = reaches taken sent old new m (subst (λ (n : ℕ). n ≤ length taken + length sent) is c)
+own_limit (E.PeerError text) s stage frames met made taken sent old new is m c = tt
+own_limit E.PeerBusy s stage frames met made taken sent old new is m c = tt
+own_limit (E.BadPassword wanted given) s stage frames met made taken sent old new is m c = tt
 own_limit E.Finished s stage frames met made taken sent old new is m c = tt
 own_limit (E.Broke cause n) s stage frames met made taken sent old new is m c = tt
 own_limit E.Dropped s stage frames met made taken sent old new is m c = tt
@@ -58,6 +61,9 @@ own_limit E.TurnedAway s stage frames met made taken sent old new is m c = tt
 own_limit E.NoMemory s stage frames met made taken sent old new is m c = tt
 
 from_causes : (end : End) (line line' : LineState) (counts counts' : Counts) → counts.broken ≡ None → EndCount end line.ends line'.ends → LineCause end line.faults line'.faults line'.calm → DeskCause end counts counts' → LimitCause end line.bytes line'.bytes → StatusCause (status_after end) line line' counts counts'
+from_causes (E.PeerError text) line line' counts counts' whole e l d m = e
+from_causes E.PeerBusy line line' counts counts' whole e l d m = e
+from_causes (E.BadPassword wanted given) line line' counts counts' whole e l d m = e
 from_causes E.Finished line line' counts counts' whole e l d m = e
 from_causes (E.Broke cause n) line line' counts counts' whole e l d m = e
 from_causes E.Dropped line line' counts counts' whole e l d m = e
@@ -78,19 +84,20 @@ told_counts s h = go s.content
     go None = refl
     go (Some a) = refl
 
-pub held_causes : (home : Address) (moment : ℕ) (line : LineState) (store : StoreState) (status : Status) (line' : LineState) (store' : StoreState) → HeldSession home moment line store status line' store' → store.counts.broken ≡ None → StatusCause status line line' store.counts store'.counts
-held_causes home moment line store status line' store' h whole =
+pub held_causes : (side : Side) (home : Address) (moment : ℕ) (line : LineState) (store : StoreState) (told : Option ReportText) (status : Status) (line' : LineState) (store' : StoreState) → HeldSession side home moment line store told status line' store' → store.counts.broken ≡ None → StatusCause status line line' store.counts store'.counts
+held_causes side home moment line store told status line' store' h whole =
     let s = h.session in
     let f : Facts true line (first_seat store new_hub) s.last = s.facts in
-    let ends : EndCount h.end line.ends line'.ends = subst (λ (x : LineState). EndCount h.end line.ends x.ends) s.line_is (subst (λ (p : Phase). EndCountAt p line.ends s.last.line.ends) s.closed f.ends) in
-    let lines : LineCause h.end line.faults line'.faults line'.calm = subst (λ (x : LineState). LineCause h.end line.faults x.faults x.calm) s.line_is (subst (λ (p : Phase). LineCauseAt p line.faults s.last.line.faults s.last.line.calm) s.closed f.line_cause) in
+    let end : End = h.report.end in
+    let ends : EndCount end line.ends line'.ends = subst (λ (x : LineState). EndCount end line.ends x.ends) s.line_is (subst (λ (p : Phase). EndCountAt p line.ends s.last.line.ends) s.reports.closed f.ends) in
+    let lines : LineCause end line.faults line'.faults line'.calm = subst (λ (x : LineState). LineCause end line.faults x.faults x.calm) s.line_is (subst (λ (p : Phase). LineCauseAt p line.faults s.last.line.faults s.last.line.calm) s.reports.closed f.line_cause) in
     let from : Counts = counts_of (first_seat store new_hub).knows in
-    let left : DeskCause h.end from (counts_of (first_seat store' h.hub).knows) = subst (λ (x : Knows). DeskCause h.end from (counts_of x)) (sym s.desk_is.drift) (subst (λ (p : Phase). DeskCauseAt p from (counts_of s.last.desk.knows)) s.closed f.desk_cause) in
-    let desks : DeskCause h.end store.counts store'.counts = subst (λ (c : Counts). DeskCause h.end c store'.counts) (told_counts store new_hub) (subst (λ (c : Counts). DeskCause h.end from c) (told_counts store' h.hub) left) in
-    let own : OwnCause h.end s.last.setting s.last.stage s.last.frames s.last.last_stage s.last.last_calls s.last.taken s.last.sent = subst (λ (p : Phase). OwnCauseAt p s.last.setting s.last.stage s.last.frames s.last.last_stage s.last.last_calls s.last.taken s.last.sent) s.closed f.own_cause in
-    let setting : s.last.setting.limit ≡ 17592186044416 = ap (λ (x : Setting). x.limit) (reach_setting true (opening (lent home moment) line (first_seat store new_hub)) s.last s.run) in
-    let limit : LimitCause h.end line.bytes line'.bytes = subst (λ (x : LineState). LimitCause h.end line.bytes x.bytes) s.line_is (own_limit h.end s.last.setting s.last.stage s.last.frames s.last.last_stage s.last.last_calls s.last.taken s.last.sent line.bytes s.last.line.bytes setting f.moves own) in
-    subst (λ (x : Status). StatusCause x line line' store.counts store'.counts) (sym h.status_is) (from_causes h.end line line' store.counts store'.counts whole ends lines desks limit)
+    let left : DeskCause end from (counts_of (first_seat store' h.hub).knows) = subst (λ (x : Knows). DeskCause end from (counts_of x)) (sym s.desk_is.drift) (subst (λ (p : Phase). DeskCauseAt p from (counts_of s.last.desk.knows)) s.reports.closed f.desk_cause) in
+    let desks : DeskCause end store.counts store'.counts = subst (λ (c : Counts). DeskCause end c store'.counts) (told_counts store new_hub) (subst (λ (c : Counts). DeskCause end from c) (told_counts store' h.hub) left) in
+    let own : OwnCause end s.last.setting s.last.stage s.last.frames s.last.last_stage s.last.last_calls s.last.taken s.last.sent = subst (λ (p : Phase). OwnCauseAt p s.last.setting s.last.stage s.last.frames s.last.last_stage s.last.last_calls s.last.taken s.last.sent) s.reports.closed f.own_cause in
+    let setting : s.last.setting.limit ≡ 17592186044416 = ap (λ (x : Setting). x.limit) (reach_setting true (opening (lent side home moment) line (first_seat store new_hub)) s.last s.run) in
+    let limit : LimitCause end line.bytes line'.bytes = subst (λ (x : LineState). LimitCause end line.bytes x.bytes) s.line_is (own_limit end s.last.setting s.last.stage s.last.frames s.last.last_stage s.last.last_calls s.last.taken s.last.sent line.bytes s.last.line.bytes setting f.moves own) in
+    subst (λ (x : Status). StatusCause x line line' store.counts store'.counts) (sym h.status_is) (from_causes end line line' store.counts store'.counts whole ends lines desks limit)
 
 -- What a store tells that a call is lent is sound, at the seat of a new hub.
 sound_node : (s : StoreState) (a : Stored) → Fitted s (no_seats plain_settings) → s.content ≡ Some a → Sound (node_with a s new_hub)
@@ -145,18 +152,18 @@ stays_then (Some a) None c first second = absurd first
 stays_then (Some a) (Some b) None first second = absurd second
 stays_then (Some a) (Some b) (Some c) first second = stays_on a.stock.state b.stock.state c.stock.state first second
 
-held_lives : (home : Address) (moment : ℕ) (line : LineState) (store : StoreState) (status : Status) (line' : LineState) (store' : StoreState) (h : HeldSession home moment line store status line' store') → KnownLives (first_seat store new_hub).knows (first_seat store' h.hub).knows
-held_lives home moment line store status line' store' h =
-    whole_lives true (lent home moment) line (first_seat store new_hub) h.end h.taken line' (first_seat store' h.hub) h.session
+held_lives : (side : Side) (home : Address) (moment : ℕ) (line : LineState) (store : StoreState) (told : Option ReportText) (status : Status) (line' : LineState) (store' : StoreState) (h : HeldSession side home moment line store told status line' store') → KnownLives (first_seat store new_hub).knows (first_seat store' h.hub).knows
+held_lives side home moment line store told status line' store' h =
+    whole_lives true (lent side home moment) line (first_seat store new_hub) h.report line' (first_seat store' h.hub) h.session
 
-pub answers_once : (words : List (List ℕ)) (moment : ℕ) (line : LineState) (store : StoreState) (status : Status) (line' : LineState) (store' : StoreState) → Answers_line words moment line store status line' store' → Fitted store (no_seats plain_settings) → OnceAfter store.content store'.content
-answers_once words moment line store status line' store' (Turned_away why line_is store_is) f =
+pub answers_once : (words : List (List ℕ)) (moment : ℕ) (line : LineState) (store : StoreState) (told : Option ReportText) (status : Status) (line' : LineState) (store' : StoreState) → Answers_line words moment line store told status line' store' → Fitted store (no_seats plain_settings) → OnceAfter store.content store'.content
+answers_once words moment line store told status line' store' (Turned_away none why line_is store_is) f =
     subst (λ (x : StoreState). OnceAfter store.content x.content) (sym store_is) (go store.content (once_now store f))
   where
     go : (c : Option Stored) → HasOnceTold c → OnceAfter c c
     go None once = tt
     go (Some a) once = once
-answers_once words moment line store status line' store' (Held_one home are h) f = lives_once store store' h.hub f (held_lives home moment line store status line' store' h)
+answers_once words moment line store told status line' store' (Held_one side home are h) f = lives_once store store' h.hub f (held_lives side home moment line store told status line' store' h)
 
 -- a call that does nothing
 pub none_once : (s : StoreState) → Fitted s (no_seats plain_settings) → OnceAfter s.content s.content
@@ -169,14 +176,14 @@ none_once s f = go s.content (once_now s f)
 pub none_stays : (c : Option Stored) → StaysTold c c
 none_stays c = self_stays c
 
-pub answers_stay : (words : List (List ℕ)) (moment : ℕ) (line : LineState) (store : StoreState) (status : Status) (line' : LineState) (store' : StoreState) → Answers_line words moment line store status line' store' → StaysTold store.content store'.content
-answers_stay words moment line store status line' store' (Turned_away why line_is store_is) = subst (λ (x : StoreState). StaysTold store.content x.content) (sym store_is) (self_stays store.content)
-answers_stay words moment line store status line' store' (Held_one home are h) = lives_stay store store' h.hub (held_lives home moment line store status line' store' h)
+pub answers_stay : (words : List (List ℕ)) (moment : ℕ) (line : LineState) (store : StoreState) (told : Option ReportText) (status : Status) (line' : LineState) (store' : StoreState) → Answers_line words moment line store told status line' store' → StaysTold store.content store'.content
+answers_stay words moment line store told status line' store' (Turned_away none why line_is store_is) = subst (λ (x : StoreState). StaysTold store.content x.content) (sym store_is) (self_stays store.content)
+answers_stay words moment line store told status line' store' (Held_one side home are h) = lives_stay store store' h.hub (held_lives side home moment line store told status line' store' h)
 
 pub calls_stay : (store new : StoreState) → Calls_in_turn store new → StaysTold store.content new.content
 calls_stay store new none_yet = self_stays store.content
-calls_stay store new (one_more {old} before may words moment status line line' answers) =
-    stays_then store.content old.content new.content (calls_stay store old before) (answers_stay words moment line old status line' new answers)
+calls_stay store new (one_more {old} before may words moment told status line line' answers) =
+    stays_then store.content old.content new.content (calls_stay store old before) (answers_stay words moment line old told status line' new answers)
 
 -- whatever the statuses, and however many calls
 pub calls_once : (store new : StoreState) → Calls_in_turn store new → IfTold store.content (λ a. HasOnceTold store.content → HasOnceTold new.content)
@@ -185,8 +192,8 @@ calls_once store new none_yet = go store.content
     go : (c : Option Stored) → IfTold c (λ a. HasOnceTold c → HasOnceTold c)
     go None = tt
     go (Some a) = λ once. once
-calls_once store new (one_more {old} before may words moment status line line' answers) =
-    go store.content old.content (calls_stay store old before) (answers_once words moment line old status line' new answers may.fits)
+calls_once store new (one_more {old} before may words moment told status line line' answers) =
+    go store.content old.content (calls_stay store old before) (answers_once words moment line old told status line' new answers may.fits)
   where
     go : (c e : Option Stored) → StaysTold c e → OnceAfter e new.content → IfTold c (λ a. HasOnceTold c → HasOnceTold new.content)
     go None e stays once = tt
@@ -197,10 +204,10 @@ turned_causes : (status : Status) (line : LineState) (counts : Counts) → (stat
 turned_causes status line counts (inl e) = subst (λ (x : Status). StatusCause x line line counts counts) (sym e) refl
 turned_causes status line counts (inr e) = subst (λ (x : Status). StatusCause x line line counts counts) (sym e) refl
 
-pub answers_causes : (words : List (List ℕ)) (moment : ℕ) (line : LineState) (store : StoreState) (status : Status) (line' : LineState) (store' : StoreState) → Answers_line words moment line store status line' store' → store.counts.broken ≡ None → StatusCause status line line' store.counts store'.counts
-answers_causes words moment line store status line' store' (Turned_away why line_is store_is) whole =
+pub answers_causes : (words : List (List ℕ)) (moment : ℕ) (line : LineState) (store : StoreState) (told : Option ReportText) (status : Status) (line' : LineState) (store' : StoreState) → Answers_line words moment line store told status line' store' → store.counts.broken ≡ None → StatusCause status line line' store.counts store'.counts
+answers_causes words moment line store told status line' store' (Turned_away none why line_is store_is) whole =
     subst (λ (x : LineState). StatusCause status line x store.counts store'.counts) (sym line_is) (subst (λ (x : StoreState). StatusCause status line line store.counts x.counts) (sym store_is) (turned_causes status line store.counts why))
-answers_causes words moment line store status line' store' (Held_one home are h) whole = held_causes home moment line store status line' store' h whole
+answers_causes words moment line store told status line' store' (Held_one side home are h) whole = held_causes side home moment line store told status line' store' h whole
 
 -- The seat of a session is the same at its end.
 
@@ -208,9 +215,9 @@ turns_seat : (alone : Bool) (a : DeskState) (es : List Turned) (b : DeskState) �
 turns_seat alone a [] b same = ap (λ (d : DeskState). d.seat) same
 turns_seat alone a (e ∷ es) b (mid, made, rest) = turns_seat alone mid es b rest ∙ made.seat
 
-pub session_seat : (alone : Bool) (s : Setting) (line : LineState) (desk : Stand) (end : End) (taken : ℕ) (line' : LineState) (desk' : Stand) → IsSession alone s line desk end taken line' desk' → desk'.state.seat ≡ desk.state.seat
-session_seat alone s line desk end taken line' desk' x =
-    x.whole.desk_is.seat ∙ turns_seat alone desk.state x.whole.last.events x.whole.last.desk (whole_leads alone s line desk.state end taken line' desk'.state x.whole)
+pub session_seat : (alone : Bool) (s : Setting) (line : LineState) (desk : Stand) (report : ReportText) (line' : LineState) (desk' : Stand) → IsSession alone s line desk report line' desk' → desk'.state.seat ≡ desk.state.seat
+session_seat alone s line desk report line' desk' x =
+    x.whole.desk_is.seat ∙ turns_seat alone desk.state x.whole.last.events x.whole.last.desk (whole_leads alone s line desk.state report line' desk'.state x.whole)
 
 -- What a stop may leave.
 
@@ -219,26 +226,22 @@ shelf_opens P None o = absurd o
 shelf_opens P (Some s) o = o
 
 -- the call, from the session that its seat held
-pub held_call : (words : List (List ℕ)) (home : Address) (moment : ℕ) (line : LineState) (store : StoreStand) (status : Status) (line' : LineState) (store' : StoreStand) (end : End) (taken : ℕ) (hub : HubState) → AreWords words home → status ≡ status_after end → IsSession true (lent home moment) line (hub_stand store new_hub 0) end taken line' (hub_stand store' hub 0) → IsCall words moment line store status line' store'
-held_call words home moment line store status line' store' end taken hub are is x = record {
-  answers = Held_one home are (record { end = end; status_is = is; taken = taken; hub = hub; session = x.whole });
+pub held_call : (words : List (List ℕ)) (side : Side) (home : Address) (moment : ℕ) (line : LineState) (store : StoreStand) (told : Option ReportText) (status : Status) (line' : LineState) (store' : StoreStand) (report : ReportText) (hub : HubState) → AreWords words side home → told ≡ Some report → status ≡ status_after report.end → IsSession true (lent side home moment) line (hub_stand store new_hub 0) report line' (hub_stand store' hub 0) → IsCall words moment line store told status line' store'
+held_call words side home moment line store told status line' store' report hub are tells is x = record {
+  answers = Held_one side home are (record { report = report; told_is = tells; status_is = is; hub = hub; session = x.whole });
   stops = record { ran = x.ran; kept = λ k e after until i. kept_receipts true (hub_stand store new_hub 0) x.whole.last.events (hub_stand store' hub 0) x.ran k e.state after until (Some e, i, refl) };
 }
-
--- nothing was done
-pub turned_call : (words : List (List ℕ)) (moment : ℕ) (line : LineState) (store : StoreStand) (status : Status) → (status ≡ S.Usage) ⊎ (status ≡ S.NoMemory) → IsCall words moment line store status line store
-turned_call words moment line store status why = record { answers = Turned_away why refl refl; stops = record { moment = refl; images = λ k e i. i } }
 
 no_moment : {A : Type 0} (m k : ℕ) → m < k → k ≤ m → A
 no_moment m k a b = absurd (omega (arith, a, b))
 
 -- each image since is of a state that the store passes in its life
-stops_past : (words : List (List ℕ)) (moment : ℕ) (line : LineState) (store : StoreStand) (status : Status) (line' : LineState) (store' : StoreStand) → IsCall words moment line store status line' store' → EachStop store store' (KnownPast (first_seat store.state new_hub).knows)
-stops_past words moment line store status line' store' call = go call.answers call.stops
+stops_past : (words : List (List ℕ)) (moment : ℕ) (line : LineState) (store : StoreStand) (told : Option ReportText) (status : Status) (line' : LineState) (store' : StoreStand) → IsCall words moment line store told status line' store' → EachStop store store' (KnownPast (first_seat store.state new_hub).knows)
+stops_past words moment line store told status line' store' call = go call.answers call.stops
   where
-    go : (a : Answers_line words moment line store.state status line' store'.state) → StopsOf words moment line store status line' store' a → EachStop store store' (KnownPast (first_seat store.state new_hub).knows)
-    go (Turned_away why line_is store_is) same = λ k e after until i. no_moment store.moment k after (subst (λ (m : ℕ). k ≤ m) same.moment until)
-    go (Held_one home are h) s = λ k e after until i.
+    go : (a : Answers_line words moment line store.state told status line' store'.state) → StopsOf words moment line store told status line' store' a → EachStop store store' (KnownPast (first_seat store.state new_hub).knows)
+    go (Turned_away none why line_is store_is) same = λ k e after until i. no_moment store.moment k after (subst (λ (m : ℕ). k ≤ m) same.moment until)
+    go (Held_one side home are h) s = λ k e after until i.
         shelf_opens (KnownPast (first_seat store.state new_hub).knows) e (ran_past true (hub_stand store new_hub 0) h.session.last.events (hub_stand store' h.hub 0) s.ran k (option_map state_of e) after until (e, i, refl))
 
 opens_so : (P Q : Durable → Type 0) → ((d : Durable) → P d → Q d) → (e : Option Shelf) → OpensShelf (λ s. P s.state) e → OpensShelf (λ s. Q s.state) e
@@ -248,32 +251,32 @@ opens_so P Q f (Some s) o = f s.state o
 past_in : (s : StoreState) (a : Stored) (d : Durable) → s.content ≡ Some a → KnownPast (first_seat s new_hub).knows d → KnownPast (Tells (node_with a s new_hub)) d
 past_in s a d is p = subst (λ (c : Option Stored). KnownPast (knows_over c s new_hub 0) d) is p
 
-pub stops_once : (words : List (List ℕ)) (moment : ℕ) (line : LineState) (store : StoreStand) (status : Status) (line' : LineState) (store' : StoreStand) → IsCall words moment line store status line' store' → Fitted store.state (no_seats plain_settings) → IfTells store store' (λ old. HasOnce)
-stops_once words moment line store status line' store' call f = go store.state.content refl
+pub stops_once : (words : List (List ℕ)) (moment : ℕ) (line : LineState) (store : StoreStand) (told : Option ReportText) (status : Status) (line' : LineState) (store' : StoreStand) → IsCall words moment line store told status line' store' → Fitted store.state (no_seats plain_settings) → IfTells store store' (λ old. HasOnce)
+stops_once words moment line store told status line' store' call f = go store.state.content refl
   where
     go : (c : Option Stored) → store.state.content ≡ c → IfTold c (λ kept. EachStop store store' HasOnce)
     go None is = tt
     go (Some a) is = λ k e after until i.
         opens_so (KnownPast (first_seat store.state new_hub).knows) HasOnce
         (λ d p. let q = past_in store.state a d is p in life_past_once (node_with a store.state new_hub) q.0 q.1 q.2 d q.3 (sound_node store.state a f is)) e
-        (stops_past words moment line store status line' store' call k e after until i)
+        (stops_past words moment line store told status line' store' call k e after until i)
 
-pub stops_stay : (words : List (List ℕ)) (moment : ℕ) (line : LineState) (store : StoreStand) (status : Status) (line' : LineState) (store' : StoreStand) → IsCall words moment line store status line' store' → IfTells store store' SettledStays
-stops_stay words moment line store status line' store' call = go store.state.content refl
+pub stops_stay : (words : List (List ℕ)) (moment : ℕ) (line : LineState) (store : StoreStand) (told : Option ReportText) (status : Status) (line' : LineState) (store' : StoreStand) → IsCall words moment line store told status line' store' → IfTells store store' SettledStays
+stops_stay words moment line store told status line' store' call = go store.state.content refl
   where
     go : (c : Option Stored) → store.state.content ≡ c → IfTold c (λ kept. EachStop store store' (SettledStays kept.stock.state))
     go None is = tt
     go (Some a) is = λ k e after until i.
         opens_so (KnownPast (first_seat store.state new_hub).knows) (SettledStays a.stock.state)
         (λ d p. let q = past_in store.state a d is p in life_past_stays (node_with a store.state new_hub) q.0 q.1 q.2 d q.3) e
-        (stops_past words moment line store status line' store' call k e after until i)
+        (stops_past words moment line store told status line' store' call k e after until i)
 
 -- the call, from the session of the first seat of a new hub
-pub seated_call : (words : List (List ℕ)) (home : Address) (moment : ℕ) (line : LineState) (store : StoreStand) (status : Status) (line' : LineState) (store' : StoreStand) (end : End) (taken : ℕ) (hub hub' : HubState) (seat seat' : ℕ) → AreWords words home → status ≡ status_after end → hub ≡ new_hub → seat ≡ 0 → IsSession true (lent home moment) line (hub_stand store hub seat) end taken line' (hub_stand store' hub' seat') → IsCall words moment line store status line' store'
-seated_call words home moment line store status line' store' end taken hub hub' seat seat' are is hub_is seat_is x =
-    let s = lent home moment in
-    let still : seat' ≡ 0 = session_seat true s line (hub_stand store hub seat) end taken line' (hub_stand store' hub' seat') x ∙ seat_is in
-    held_call words home moment line store status line' store' end taken hub' are is
-    (subst (λ (k : ℕ). IsSession true s line (hub_stand store new_hub 0) end taken line' (hub_stand store' hub' k)) still
-    (subst (λ (k : ℕ). IsSession true s line (hub_stand store new_hub k) end taken line' (hub_stand store' hub' seat')) seat_is
-    (subst (λ (h : HubState). IsSession true s line (hub_stand store h seat) end taken line' (hub_stand store' hub' seat')) hub_is x)))
+pub seated_call : (words : List (List ℕ)) (side : Side) (home : Address) (moment : ℕ) (line : LineState) (store : StoreStand) (told : Option ReportText) (status : Status) (line' : LineState) (store' : StoreStand) (report : ReportText) (hub hub' : HubState) (seat seat' : ℕ) → AreWords words side home → told ≡ Some report → status ≡ status_after report.end → hub ≡ new_hub → seat ≡ 0 → IsSession true (lent side home moment) line (hub_stand store hub seat) report line' (hub_stand store' hub' seat') → IsCall words moment line store told status line' store'
+seated_call words side home moment line store told status line' store' report hub hub' seat seat' are tells is hub_is seat_is x =
+    let s = lent side home moment in
+    let still : seat' ≡ 0 = session_seat true s line (hub_stand store hub seat) report line' (hub_stand store' hub' seat') x ∙ seat_is in
+    held_call words side home moment line store told status line' store' report hub' are tells is
+    (subst (λ (k : ℕ). IsSession true s line (hub_stand store new_hub 0) report line' (hub_stand store' hub' k)) still
+    (subst (λ (k : ℕ). IsSession true s line (hub_stand store new_hub k) report line' (hub_stand store' hub' seat')) seat_is
+    (subst (λ (h : HubState). IsSession true s line (hub_stand store h seat) report line' (hub_stand store' hub' seat')) hub_is x)))

@@ -1,4 +1,5 @@
+pub mod Programs
+pub mod Reports
 pub mod Statuses
 pub mod TopCall
 pub mod Words
-pub mod Programs

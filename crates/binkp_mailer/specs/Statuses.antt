@@ -1,33 +1,135 @@
--- The program's statuses (own).
-use Rattle.std.specs.Prelude.{ℕ}
+-- The program's statuses, and their lines (own).
+use Rattle.std.specs.Prelude.{ℕ, Bool, true, false, List, [], ◌∷◌, ◌++◌, codes, if◌then◌else◌}
+use Rattle.std.specs.Fmt.{decimal}
+use Rattle.binkp_args.specs.Escape.{escaped}
+use Rattle.binkp_args.specs.declared.fault.ArgFault.{ArgFault}
+use Rattle.binkp_args.specs.declared.fault.ArgFault.TheVariants as A
+use Rattle.session_core.specs.declared.ending.Cause.{Cause}
+use Rattle.session_core.specs.declared.ending.Cause.TheVariants as C
 use Rattle.session_core.specs.Ends.{End}
 use Rattle.session_core.specs.Ends as E
-use Rattle.binkp_mailer.specs.declared.status.Status.{Status}
-use Rattle.binkp_mailer.specs.declared.status.Status.TheVariants as S
+use Rattle.binkp_mailer.specs.declared.status.Status.{Status as StatusCode}
+use Rattle.binkp_mailer.specs.declared.status.Status.TheVariants as V
+
+-- a status, without where its parts lie in memory
+pub data Status : Type 0 where
+  Done : Status
+  Usage : Status
+  DiskFault : (count : ℕ) → Status
+  LedgerFull : Status
+  LineFault : Status
+  Dropped : Status
+  Quiet : Status
+  PeerError : (text : List ℕ) → Status
+  PeerBusy : Status
+  BadPassword : Status
+  Broke : (cause : Cause) (frame : ℕ) → Status
+  Endless : Status
+  OutFault : Status
+  NoMemory : Status
+  TurnedAway : Status
+
+abbrev pub status_text : StatusCode → Status
+status_text V.Done = Done
+status_text V.Usage = Usage
+status_text (V.DiskFault count) = DiskFault count
+status_text V.LedgerFull = LedgerFull
+status_text V.LineFault = LineFault
+status_text V.Dropped = Dropped
+status_text V.Quiet = Quiet
+status_text (V.PeerError text) = PeerError text.list
+status_text V.PeerBusy = PeerBusy
+status_text V.BadPassword = BadPassword
+status_text (V.Broke cause frame) = Broke cause frame
+status_text V.Endless = Endless
+status_text V.OutFault = OutFault
+status_text V.NoMemory = NoMemory
+status_text V.TurnedAway = TurnedAway
 
 -- the exit status
 abbrev pub number_of_status : Status → ℕ
-number_of_status S.Done = 0
-number_of_status S.Usage = 1
-number_of_status (S.DiskFault faults) = 3
-number_of_status S.LedgerFull = 5
-number_of_status S.LineFault = 6
-number_of_status S.Dropped = 7
-number_of_status S.Quiet = 8
-number_of_status (S.Broke cause frame) = 12
-number_of_status S.Endless = 13
-number_of_status S.NoMemory = 17
-number_of_status S.TurnedAway = 21
+number_of_status Done = 0
+number_of_status Usage = 1
+number_of_status (DiskFault count) = 3
+number_of_status LedgerFull = 5
+number_of_status LineFault = 6
+number_of_status Dropped = 7
+number_of_status Quiet = 8
+number_of_status (PeerError text) = 9
+number_of_status PeerBusy = 10
+number_of_status BadPassword = 11
+number_of_status (Broke cause frame) = 12
+number_of_status Endless = 13
+number_of_status OutFault = 16
+number_of_status NoMemory = 17
+number_of_status TurnedAway = 21
 
 -- the status of a command whose session ended so
 abbrev pub status_after : End → Status
-status_after E.Finished = S.Done
-status_after (E.Broke cause frame) = S.Broke cause frame
-status_after E.Dropped = S.Dropped
-status_after E.LineFault = S.LineFault
-status_after (E.DiskFault faults) = S.DiskFault faults
-status_after E.LedgerFull = S.LedgerFull
-status_after E.Quiet = S.Quiet
-status_after E.Endless = S.Endless
-status_after E.TurnedAway = S.TurnedAway
-status_after E.NoMemory = S.NoMemory
+status_after E.Finished = Done
+status_after (E.PeerError text) = PeerError text
+status_after E.PeerBusy = PeerBusy
+status_after (E.BadPassword wanted given) = BadPassword
+status_after (E.Broke cause frame) = Broke cause frame
+status_after E.Dropped = Dropped
+status_after E.LineFault = LineFault
+status_after (E.DiskFault count) = DiskFault count
+status_after E.LedgerFull = LedgerFull
+status_after E.Quiet = Quiet
+status_after E.Endless = Endless
+status_after E.TurnedAway = TurnedAway
+status_after E.NoMemory = NoMemory
+
+abbrev pub status_word : Status → List ℕ
+status_word Done = codes "Done"
+status_word Usage = codes "Usage"
+status_word (DiskFault count) = codes "DiskFault"
+status_word LedgerFull = codes "LedgerFull"
+status_word LineFault = codes "LineFault"
+status_word Dropped = codes "Dropped"
+status_word Quiet = codes "Quiet"
+status_word (PeerError text) = codes "PeerError"
+status_word PeerBusy = codes "PeerBusy"
+status_word BadPassword = codes "BadPassword"
+status_word (Broke cause frame) = codes "Broke"
+status_word Endless = codes "Endless"
+status_word OutFault = codes "OutFault"
+status_word NoMemory = codes "NoMemory"
+status_word TurnedAway = codes "TurnedAway"
+
+abbrev pub fault_word : ArgFault → List ℕ
+fault_word (A.MissingWord n) = codes "MissingWord"
+fault_word (A.BadNumber n) = codes "BadNumber"
+fault_word A.LongName = codes "LongName"
+fault_word A.TooLarge = codes "TooLarge"
+fault_word A.PastEnd = codes "PastEnd"
+fault_word A.NoAddress = codes "NoAddress"
+fault_word A.NoMemory = codes "NoMemory"
+
+-- the cause's name; of an argument that can't be read, the name of its fault
+abbrev pub cause_word : Cause → List ℕ
+cause_word (C.Arg fault) = fault_word fault
+cause_word C.OutOfTurn = codes "OutOfTurn"
+cause_word C.NotCalled = codes "NotCalled"
+cause_word C.Late = codes "Late"
+cause_word C.TooMuch = codes "TooMuch"
+
+-- what follows the word, each behind a space: the count; the text, escaped; the cause and the frame's number
+abbrev pub status_rest : Status → List ℕ
+status_rest (DiskFault count) = 32 ∷ decimal count
+status_rest (PeerError text) = 32 ∷ escaped text
+status_rest (Broke cause frame) = 32 ∷ cause_word cause ++ 32 ∷ decimal frame
+status_rest status = []
+
+-- Done has no line, and where a line can't be put there is none.
+abbrev pub is_told : Status → Bool
+is_told Done = false
+is_told OutFault = false
+is_told status = true
+
+-- `status N WORD ..` and LF
+abbrev pub status_line : Status → List ℕ
+status_line status =
+    if is_told status
+    then codes "status " ++ decimal (number_of_status status) ++ 32 ∷ status_word status ++ status_rest status ++ 10 ∷ []
+    else []

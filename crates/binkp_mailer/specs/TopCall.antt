@@ -8,20 +8,20 @@ use Rattle.node_model.specs.Images.{RanAt}
 use Rattle.node_model.specs.Node.{plain_settings}
 use Rattle.node_model.specs.Receipts.{HasOnce, SettledStays, HasAt}
 use Rattle.node_model.specs.Stores.{Shelf, Stored, StoreState, StoreStand, IfTold, OpensShelf}
-use Rattle.session_core.specs.Ends.{End}
-use Rattle.binkp_mailer.specs.declared.status.Status.{Status}
-use Rattle.binkp_mailer.specs.declared.status.Status.TheVariants as S
-use Rattle.binkp_link.specs.Lines.{LineBytes, LineState}
-use Rattle.session_core.specs.Sessions.{Setting}
+use Rattle.binkp_link.specs.Lines.{LineBytes, LineState, SinkState}
+use Rattle.session_core.specs.Stages.{Side, Setting}
 use Rattle.session_run.specs.Laws.{WholeRun}
+use Rattle.session_run.specs.Reports.{ReportText}
 use Rattle.hub_core.specs.Hubs.{HubState, Fitted, knows_over, hub_stand}
 use Rattle.hub_core.specs.Opening.{no_seats, with_seat}
-use Rattle.binkp_mailer.specs.Statuses.{status_after}
+use Rattle.binkp_mailer.specs.Reports.{Prints}
+use Rattle.binkp_mailer.specs.Statuses as S
+use Rattle.binkp_mailer.specs.Statuses.{Status, status_after}
 use Rattle.binkp_mailer.specs.Words.{AreWords}
 
--- what a session is lent: the own address, the moment, and 16 TiB to take and write
-abbrev pub lent : Address → ℕ → Setting
-lent home moment = record { home = home; moment = moment; limit = 17592186044416 }
+-- what a session is lent: its side, the own address, the moment, 16 TiB to take and write, and 4,096 bytes for a frame
+abbrev pub lent : Side → Address → ℕ → Setting
+lent side home moment = record { side = side; home = home; moment = moment; limit = 17592186044416; block = 4096 }
 
 -- a hub that refuses nothing, with one seat
 abbrev pub new_hub : HubState
@@ -31,18 +31,18 @@ new_hub = with_seat (no_seats plain_settings)
 abbrev pub first_seat : StoreState → HubState → DeskState
 first_seat store hub = record { seat = 0; knows = knows_over store.content store hub 0 }
 
--- a whole session over the line, at the seat of a new hub over the store; with it the call ended so
-pub record HeldSession (home : Address) (moment : ℕ) (line : LineState) (store : StoreState) (status : Status) (line' : LineState) (store' : StoreState) : Type 0 where
-  pub end : End
-  pub status_is : status ≡ status_after end
-  pub taken : ℕ
+-- a whole session over the line, at the seat of a new hub over the store; it is told so, and the status is by its end
+pub record HeldSession (side : Side) (home : Address) (moment : ℕ) (line : LineState) (store : StoreState) (told : Option ReportText) (status : Status) (line' : LineState) (store' : StoreState) : Type 0 where
+  pub report : ReportText
+  pub told_is : told ≡ Some report
+  pub status_is : status ≡ status_after report.end
   pub hub : HubState
-  pub session : WholeRun true (lent home moment) line (first_seat store new_hub) end taken line' (first_seat store' hub)
+  pub session : WholeRun true (lent side home moment) line (first_seat store new_hub) report line' (first_seat store' hub)
 
 -- A session was held, where the words are those of a call; else nothing was done.
-pub data Answers_line (words : List (List ℕ)) (moment : ℕ) (line : LineState) (store : StoreState) (status : Status) (line' : LineState) (store' : StoreState) : Type 0 where
-  Turned_away : (status ≡ S.Usage) ⊎ (status ≡ S.NoMemory) → line' ≡ line → store' ≡ store → Answers_line words moment line store status line' store'
-  Held_one : (home : Address) → AreWords words home → HeldSession home moment line store status line' store' → Answers_line words moment line store status line' store'
+pub data Answers_line (words : List (List ℕ)) (moment : ℕ) (line : LineState) (store : StoreState) (told : Option ReportText) (status : Status) (line' : LineState) (store' : StoreState) : Type 0 where
+  Turned_away : told ≡ None → (status ≡ S.Usage) ⊎ (status ≡ S.NoMemory) → line' ≡ line → store' ≡ store → Answers_line words moment line store told status line' store'
+  Held_one : (side : Side) (home : Address) → AreWords words side home → HeldSession side home moment line store told status line' store' → Answers_line words moment line store told status line' store'
 
 -- What a stop may leave of a store that was only handed back: what it might have left before.
 pub record SameImages (store store' : StoreStand) : Type 0 where
@@ -50,18 +50,18 @@ pub record SameImages (store store' : StoreStand) : Type 0 where
   pub images : (k : ℕ) (e : Option Shelf) → store'.images k e → store.images k e
 
 -- What a stop may leave of a session's calls, and that each image has what was received when any call before it ended.
-pub record HeldImages (home : Address) (moment : ℕ) (line : LineState) (store : StoreStand) (status : Status) (line' : LineState) (store' : StoreStand) (held : HeldSession home moment line store.state status line' store'.state) : Type 0 where
+pub record HeldImages (side : Side) (home : Address) (moment : ℕ) (line : LineState) (store : StoreStand) (told : Option ReportText) (status : Status) (line' : LineState) (store' : StoreStand) (held : HeldSession side home moment line store.state told status line' store'.state) : Type 0 where
   pub ran : RanAt true (hub_stand store new_hub 0) held.session.last.events (hub_stand store' held.hub 0)
   pub kept : (k : ℕ) (e : Shelf) → store.moment < k → k ≤ store'.moment → store'.images k (Some e) → HasAt true (first_seat store.state new_hub) held.session.last.events ran.last ran.chain ran.times k e.state
 
-abbrev pub StopsOf : (words : List (List ℕ)) (moment : ℕ) (line : LineState) (store : StoreStand) (status : Status) (line' : LineState) (store' : StoreStand) → Answers_line words moment line store.state status line' store'.state → Type 0
-StopsOf words moment line store status line' store' (Turned_away why line_is store_is) = SameImages store store'
-StopsOf words moment line store status line' store' (Held_one home are held) = HeldImages home moment line store status line' store' held
+abbrev pub StopsOf : (words : List (List ℕ)) (moment : ℕ) (line : LineState) (store : StoreStand) (told : Option ReportText) (status : Status) (line' : LineState) (store' : StoreStand) → Answers_line words moment line store.state told status line' store'.state → Type 0
+StopsOf words moment line store told status line' store' (Turned_away none why line_is store_is) = SameImages store store'
+StopsOf words moment line store told status line' store' (Held_one side home are held) = HeldImages side home moment line store told status line' store' held
 
 -- the whole call: what it did, and what a stop at each moment since may leave of it
-pub record IsCall (words : List (List ℕ)) (moment : ℕ) (line : LineState) (store : StoreStand) (status : Status) (line' : LineState) (store' : StoreStand) : Type 0 where
-  pub answers : Answers_line words moment line store.state status line' store'.state
-  pub stops : StopsOf words moment line store status line' store' answers
+pub record IsCall (words : List (List ℕ)) (moment : ℕ) (line : LineState) (store : StoreStand) (told : Option ReportText) (status : Status) (line' : LineState) (store' : StoreStand) : Type 0 where
+  pub answers : Answers_line words moment line store.state told status line' store'.state
+  pub stops : StopsOf words moment line store told status line' store' answers
 
 -- a stop at any moment since leaves a durable state of which this holds
 abbrev pub EachStop : StoreStand → StoreStand → (Durable → Type 0) → Type 0
@@ -90,6 +90,25 @@ StatusCause S.Quiet line line' counts counts' = (60 ≤ line'.calm) × (line'.en
 StatusCause S.Endless line line' counts counts' = ReachesLimit line.bytes line'.bytes × (line'.ends ≡ line.ends)
 StatusCause status line line' counts counts' = line'.ends ≡ line.ends
 
+-- the same of a status that want of memory for the lines, or a put that fails, may have turned into NoMemory or OutFault
+abbrev pub TurnedCause : Status → (line line' : LineState) → (counts counts' : Counts) → Type 0
+TurnedCause S.NoMemory line line' counts counts' = Unit {0}
+TurnedCause S.OutFault line line' counts counts' = Unit {0}
+TurnedCause status line line' counts counts' = StatusCause status line line' counts counts'
+
+-- A put failed exactly at OutFault.
+abbrev pub OutCause : Status → SinkState → SinkState → Type 0
+OutCause S.OutFault out out' = out'.faults ≡ next_count out.faults
+OutCause status out out' = out'.faults ≡ out.faults
+
+-- the whole call, and then what was printed of it: the session's report where one was held, and the status that it had
+pub record TopCall (words : List (List ℕ)) (moment : ℕ) (line : LineState) (store : StoreStand) (out : SinkState) (status : Status) (line' : LineState) (store' : StoreStand) (out' : SinkState) : Type 0 where
+  pub told : Option ReportText
+  pub had : Status
+  pub call : IsCall words moment line store told had line' store'
+  pub cause : StatusCause had line line' store.state.counts store'.state.counts
+  pub prints : Prints told had status out out'
+
 -- no sender and key has two receipts
 abbrev pub HasOnceTold : Option Stored → Type 0
 HasOnceTold content = IfTold content (λ kept. HasOnce kept.stock.state)
@@ -113,4 +132,4 @@ pub record MayServe (store : StoreState) : Type 0 where
 -- calls of the program over one store, one after another: each begins with what the one before it left
 pub data Calls_in_turn (store : StoreState) : StoreState → Type 0 where
   none_yet : Calls_in_turn store store
-  one_more : {old new : StoreState} → Calls_in_turn store old → MayServe old → (words : List (List ℕ)) (moment : ℕ) (status : Status) (line line' : LineState) → Answers_line words moment line old status line' new → Calls_in_turn store new
+  one_more : {old new : StoreState} → Calls_in_turn store old → MayServe old → (words : List (List ℕ)) (moment : ℕ) (told : Option ReportText) (status : Status) (line line' : LineState) → Answers_line words moment line old told status line' new → Calls_in_turn store new

@@ -1,12 +1,15 @@
 //! How the program ends.
-ghost use Rattle.std.specs.Prelude.{◌≡◌};
+ghost use Rattle.std.specs.Prelude.{◌≡◌, ◌++◌, OnOk};
 ghost use Rattle.session_core.specs.Ends.{end_text};
-ghost use Rattle.binkp_mailer.specs.Statuses.{number_of_status, status_after};
+ghost use Rattle.binkp_mailer.specs.Statuses.{cause_word, fault_word, is_told, number_of_status, status_after, status_line, status_rest, status_text, status_word};
 
+use binkp_args::{ArgFault, escape};
+use ftn_addr::{Bytes, NoMemory};
 use session_core::{Cause, End};
+use std::alloc::Global;
 
 /// What came of a command. Its number is the program's exit status.
-#[derive(Clone, Copy, Debug, PartialEq, Eq)]
+#[derive(Debug, PartialEq, Eq, Drop)]
 pub enum Status {
     /// The session finished.
     Done,
@@ -21,19 +24,27 @@ pub enum Status {
     Dropped,
     /// Sixty reads or writes on end found nothing to move.
     Quiet,
+    /// The peer said M_ERR with that text.
+    PeerError(Bytes),
+    /// The peer said M_BSY.
+    PeerBusy,
+    /// The caller's password isn't the right one.
+    BadPassword,
     /// The peer's frame with that number was refused.
     Broke(Cause, u64),
     /// The bytes taken and written reached the limit.
     Endless,
+    /// What was to be printed couldn't be put.
+    OutFault,
+    NoMemory,
     /// As many sessions were open as the settings allow.
     TurnedAway,
-    NoMemory,
 }
 
 impl Status {
     /// The exit status.
     pub fn number(&self) -> u8
-        ensures { result ≡ number_of_status self.now }
+        ensures { result ≡ number_of_status (status_text self.now) }
     {
         match self {
             Status::Done => 0,
@@ -43,20 +54,57 @@ impl Status {
             Status::LineFault => 6,
             Status::Dropped => 7,
             Status::Quiet => 8,
+            Status::PeerError(_) => 9,
+            Status::PeerBusy => 10,
+            Status::BadPassword => 11,
             Status::Broke(_, _) => 12,
             Status::Endless => 13,
+            Status::OutFault => 16,
             Status::NoMemory => 17,
             Status::TurnedAway => 21,
+        }
+    }
+
+    /// Whether it has a line.
+    fn is_told(&self) -> bool
+        ensures { result ≡ is_told (status_text self.now) }
+    {
+        !matches!(self, Status::Done | Status::OutFault)
+    }
+
+    /// Its name.
+    fn word(&self) -> &'static [u8]
+        ensures { result.now ≡ status_word (status_text self.now) }
+    {
+        match self {
+            Status::Done => b"Done",
+            Status::Usage => b"Usage",
+            Status::DiskFault(_) => b"DiskFault",
+            Status::LedgerFull => b"LedgerFull",
+            Status::LineFault => b"LineFault",
+            Status::Dropped => b"Dropped",
+            Status::Quiet => b"Quiet",
+            Status::PeerError(_) => b"PeerError",
+            Status::PeerBusy => b"PeerBusy",
+            Status::BadPassword => b"BadPassword",
+            Status::Broke(_, _) => b"Broke",
+            Status::Endless => b"Endless",
+            Status::OutFault => b"OutFault",
+            Status::NoMemory => b"NoMemory",
+            Status::TurnedAway => b"TurnedAway",
         }
     }
 }
 
 /// The status of a command whose session ended so.
 pub fn status_of(end: End) -> Status
-    ensures { result ≡ status_after (end_text end) }
+    ensures { status_text result ≡ status_after (end_text end) }
 {
     match end {
         End::Finished => Status::Done,
+        End::PeerError(text) => Status::PeerError(text),
+        End::PeerBusy => Status::PeerBusy,
+        End::BadPassword(_, _) => Status::BadPassword,
         End::Broke(cause, frame) => Status::Broke(cause, frame),
         End::Dropped => Status::Dropped,
         End::LineFault => Status::LineFault,
@@ -69,29 +117,150 @@ pub fn status_of(end: End) -> Status
     }
 }
 
+/// The name of what was wrong with an argument.
+fn fault_word(fault: ArgFault) -> &'static [u8]
+    ensures { result.now ≡ fault_word fault }
+{
+    match fault {
+        ArgFault::MissingWord(_) => b"MissingWord",
+        ArgFault::BadNumber(_) => b"BadNumber",
+        ArgFault::LongName => b"LongName",
+        ArgFault::TooLarge => b"TooLarge",
+        ArgFault::PastEnd => b"PastEnd",
+        ArgFault::NoAddress => b"NoAddress",
+        ArgFault::NoMemory => b"NoMemory",
+    }
+}
+
+/// The name of what was wrong with a frame.
+fn cause_word(cause: Cause) -> &'static [u8]
+    ensures { result.now ≡ cause_word cause }
+{
+    match cause {
+        Cause::Arg(fault) => fault_word(fault),
+        Cause::OutOfTurn => b"OutOfTurn",
+        Cause::NotCalled => b"NotCalled",
+        Cause::Late => b"Late",
+        Cause::TooMuch => b"TooMuch",
+    }
+}
+
+/// Adds what a status tells behind its name.
+fn push_rest(alloc: Global, status: &Status, line: &mut Bytes) -> Result<(), NoMemory>
+    ensures { OnOk result (line.new.list ≡ line.old.list ++ status_rest (status_text status.now)) }
+{
+    match status {
+        Status::DiskFault(count) => {
+            line.push_slice(b" ")?;
+            line.push_number(alloc, *count)
+        }
+        Status::PeerError(text) => {
+            line.push_slice(b" ")?;
+            escape(alloc, text.as_slice(), line)
+        }
+        Status::Broke(cause, frame) => {
+            line.push_slice(b" ")?;
+            line.push_slice(cause_word(*cause))?;
+            line.push_slice(b" ")?;
+            line.push_number(alloc, *frame)
+        }
+        Status::Done
+        | Status::Usage
+        | Status::LedgerFull
+        | Status::LineFault
+        | Status::Dropped
+        | Status::Quiet
+        | Status::PeerBusy
+        | Status::BadPassword
+        | Status::Endless
+        | Status::OutFault
+        | Status::NoMemory
+        | Status::TurnedAway => Ok(()),
+    }
+}
+
+/// Adds the line `status N WORD ..`, which ends by LF. Done and OutFault have none.
+pub fn push_status(alloc: Global, status: &Status, out: &mut Bytes) -> Result<(), NoMemory>
+    ensures { OnOk result (out.new.list ≡ out.old.list ++ status_line (status_text status.now)) }
+{
+    if !status.is_told() {
+        return Ok(());
+    }
+    out.push_slice(b"status ")?;
+    out.push_number(alloc, u64::from(status.number()))?;
+    out.push_slice(b" ")?;
+    out.push_slice(status.word())?;
+    push_rest(alloc, status, out)?;
+    out.push_slice(b"\n")
+}
+
 #[cfg(test)]
 mod tests {
     use super::*;
-
-    #[test]
-    fn a_refused_frame_is_status_12(rt: HostRuntime) {
-        let status = status_of(End::Broke(Cause::TooMuch, 7));
-        assert_eq!(rt; status, Status::Broke(Cause::TooMuch, 7));
-        assert_eq!(rt; status.number(), 12);
-        assert_eq!(rt; status_of(End::Finished).number(), 0);
-    }
+    use std::test::Fail;
 
     // The numbers stand in the README's table; a sysop's scripts read them.
     #[test]
-    fn each_end_has_its_number(rt: HostRuntime) {
-        assert_eq!(rt; Status::Usage.number(), 1);
-        assert_eq!(rt; status_of(End::DiskFault(9)).number(), 3);
-        assert_eq!(rt; status_of(End::LedgerFull).number(), 5);
-        assert_eq!(rt; status_of(End::LineFault).number(), 6);
-        assert_eq!(rt; status_of(End::Dropped).number(), 7);
-        assert_eq!(rt; status_of(End::Quiet).number(), 8);
-        assert_eq!(rt; status_of(End::Endless).number(), 13);
-        assert_eq!(rt; status_of(End::NoMemory).number(), 17);
-        assert_eq!(rt; status_of(End::TurnedAway).number(), 21);
+    fn each_status_has_its_line(rt: HostRuntime) -> Result<(), Fail> {
+        let alloc = rt.alloc();
+        let text = Bytes::from_slice(alloc, b"no mail, \\go")?;
+        let cases: [(Status, u8, &[u8]); 15] = [
+            (Status::Done, 0, b""),
+            (Status::Usage, 1, b"status 1 Usage\n"),
+            (Status::DiskFault(9), 3, b"status 3 DiskFault 9\n"),
+            (Status::LedgerFull, 5, b"status 5 LedgerFull\n"),
+            (Status::LineFault, 6, b"status 6 LineFault\n"),
+            (Status::Dropped, 7, b"status 7 Dropped\n"),
+            (Status::Quiet, 8, b"status 8 Quiet\n"),
+            (
+                Status::PeerError(text),
+                9,
+                b"status 9 PeerError no\\x20mail\\x2c\\x20\\x5cgo\n",
+            ),
+            (
+                Status::PeerError(Bytes::new(alloc)),
+                9,
+                b"status 9 PeerError \n",
+            ),
+            (Status::PeerBusy, 10, b"status 10 PeerBusy\n"),
+            (Status::BadPassword, 11, b"status 11 BadPassword\n"),
+            (Status::Endless, 13, b"status 13 Endless\n"),
+            (Status::OutFault, 16, b""),
+            (Status::NoMemory, 17, b"status 17 NoMemory\n"),
+            (Status::TurnedAway, 21, b"status 21 TurnedAway\n"),
+        ];
+        for (status, number, wanted) in &cases {
+            assert_eq!(rt; status.number(), *number);
+            let mut line = Bytes::new(alloc);
+            push_status(alloc, status, &mut line)?;
+            assert_eq!(rt; line.as_slice(), *wanted);
+        }
+        Ok(())
+    }
+
+    #[test]
+    fn a_refused_frame_is_told_by_its_cause_and_number(rt: HostRuntime) -> Result<(), Fail> {
+        let alloc = rt.alloc();
+        let cases: [(Cause, &[u8]); 6] = [
+            (Cause::OutOfTurn, b"status 12 Broke OutOfTurn 7\n"),
+            (Cause::NotCalled, b"status 12 Broke NotCalled 7\n"),
+            (Cause::Late, b"status 12 Broke Late 7\n"),
+            (Cause::TooMuch, b"status 12 Broke TooMuch 7\n"),
+            (
+                Cause::Arg(ArgFault::MissingWord(3)),
+                b"status 12 Broke MissingWord 7\n",
+            ),
+            (
+                Cause::Arg(ArgFault::PastEnd),
+                b"status 12 Broke PastEnd 7\n",
+            ),
+        ];
+        for (cause, wanted) in &cases {
+            let status = status_of(End::Broke(*cause, 7));
+            let mut line = Bytes::new(alloc);
+            push_status(alloc, &status, &mut line)?;
+            assert_eq!(rt; line.as_slice(), *wanted);
+        }
+        Ok(())
     }
 }

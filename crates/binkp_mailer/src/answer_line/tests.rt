@@ -15,6 +15,7 @@ use std::test::Fail;
 
 mod lines;
 mod ordinary;
+mod printing;
 mod refusals;
 mod resumption;
 

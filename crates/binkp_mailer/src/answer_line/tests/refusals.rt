@@ -4,7 +4,7 @@ use super::{
 };
 use crate::Status;
 use binkp_args::ArgFault;
-use ftn_addr::NoMemory;
+use ftn_addr::{Bytes, NoMemory};
 use session_core::Cause;
 use std::alloc::Global;
 use std::test::Fail;
@@ -18,16 +18,23 @@ const DATA: &[u8] = b"\x00\x05hello";
 // M_NUL, and a command that isn't known.
 const PASSED_OVER: [&[u8]; 2] = [b"\x80\x06\x00SYS x", b"\x80\x02\x0bx"];
 
-// M_OK, M_GOT, M_ERR, M_BSY, M_GET and M_SKIP, and a password.
-const NOT_BUILT: [&[u8]; 7] = [
-    b"\x80\x07\x04secure",
+// M_OK, which the answering side passes over wherever it comes.
+const OK: &[u8] = b"\x80\x07\x04secure";
+
+// M_GOT, M_GET and M_SKIP of a file that isn't under way.
+const OTHER_FILES: [&[u8]; 3] = [
     b"\x80\x13\x06a.txt 5 1000000000",
-    b"\x80\x08\x07go away",
-    b"\x80\x05\x08busy",
     b"\x80\x15\x09a.txt 5 1000000000 0",
     b"\x80\x13\x0aa.txt 5 1000000000",
-    b"\x80\x07\x02secret",
 ];
+
+const GO_AWAY: &[u8] = b"\x80\x08\x07go away";
+
+const BUSY: &[u8] = b"\x80\x05\x08busy";
+
+const SECRET: &[u8] = b"\x80\x07\x02secret";
+
+const BAD_PASSWORD: &[u8] = b"\x80\x0d\x07bad password";
 
 // What came of a session: its status, what was written behind the greeting, and how many files were received.
 fn came_of(
@@ -53,11 +60,15 @@ fn a_frame_in_place_of_the_address(rt: HostRuntime) -> Result<(), Fail> {
         let came = came_of(alloc, &[call.as_slice()], &[BROKEN_FRAME])?;
         assert_eq!(rt; came, (Status::Broke(Cause::OutOfTurn, 2), true, 0));
     }
-    for frame in &NOT_BUILT {
+    for frame in &OTHER_FILES {
         let call = joined(alloc, &[frame, PASSWORD, OFFER, DATA, END])?;
         let came = came_of(alloc, &[call.as_slice()], &[BROKEN_FRAME])?;
         assert_eq!(rt; came, (Status::Broke(Cause::OutOfTurn, 1), true, 0));
     }
+    let came = came_of(alloc, &[OK, PASSWORD], &[BROKEN_FRAME])?;
+    assert_eq!(rt; came, (Status::Broke(Cause::OutOfTurn, 2), true, 0));
+    let came = came_of(alloc, &[SECRET, ADDRESS], &[BROKEN_FRAME])?;
+    assert_eq!(rt; came, (Status::Broke(Cause::OutOfTurn, 1), true, 0));
     for frame in later {
         let came = came_of(alloc, &[frame, PASSWORD], &[BROKEN_FRAME])?;
         assert_eq!(rt; came, (Status::Broke(Cause::OutOfTurn, 1), true, 0));
@@ -73,10 +84,14 @@ fn a_frame_in_place_of_the_password(rt: HostRuntime) -> Result<(), Fail> {
         let came = came_of(alloc, &[ADDRESS, frame, OFFER, DATA], &[BROKEN_FRAME])?;
         assert_eq!(rt; came, (Status::Broke(Cause::OutOfTurn, 3), true, 0));
     }
-    for frame in &NOT_BUILT {
+    for frame in &OTHER_FILES {
         let came = came_of(alloc, &[ADDRESS, frame, OFFER, DATA], &[BROKEN_FRAME])?;
         assert_eq!(rt; came, (Status::Broke(Cause::OutOfTurn, 2), true, 0));
     }
+    let came = came_of(alloc, &[ADDRESS, OK, OFFER, DATA], &[BROKEN_FRAME])?;
+    assert_eq!(rt; came, (Status::Broke(Cause::OutOfTurn, 3), true, 0));
+    let came = came_of(alloc, &[ADDRESS, SECRET, OFFER, DATA], &[BAD_PASSWORD])?;
+    assert_eq!(rt; came, (Status::BadPassword, true, 0));
     for frame in later {
         let came = came_of(alloc, &[ADDRESS, frame, OFFER], &[BROKEN_FRAME])?;
         assert_eq!(rt; came, (Status::Broke(Cause::OutOfTurn, 2), true, 0));
@@ -87,7 +102,7 @@ fn a_frame_in_place_of_the_password(rt: HostRuntime) -> Result<(), Fail> {
 #[test]
 fn a_frame_in_place_of_the_offer(rt: HostRuntime) -> Result<(), Fail> {
     let alloc = rt.alloc();
-    let dropped: &[&[u8]] = &[ADDRESS, PASSWORD, DATA, END];
+    let dropped: &[&[u8]] = &[ADDRESS, PASSWORD, DATA, END, OK, SECRET];
     for frame in &PASSED_OVER {
         let came = came_of(alloc, &[LOGIN, frame, DATA, END], &[WELCOME, END])?;
         assert_eq!(rt; came, (Status::Done, true, 0));
@@ -96,9 +111,9 @@ fn a_frame_in_place_of_the_offer(rt: HostRuntime) -> Result<(), Fail> {
         let came = came_of(alloc, &[LOGIN, frame, DATA, END], &[WELCOME, END])?;
         assert_eq!(rt; came, (Status::Done, true, 0));
     }
-    for frame in &NOT_BUILT {
-        let came = came_of(alloc, &[LOGIN, frame, DATA, END], &[WELCOME, BROKEN_FRAME])?;
-        assert_eq!(rt; came, (Status::Broke(Cause::OutOfTurn, 3), true, 0));
+    for frame in &OTHER_FILES {
+        let came = came_of(alloc, &[LOGIN, frame, DATA, END], &[WELCOME, END])?;
+        assert_eq!(rt; came, (Status::Done, true, 0));
     }
     Ok(())
 }
@@ -106,7 +121,7 @@ fn a_frame_in_place_of_the_offer(rt: HostRuntime) -> Result<(), Fail> {
 #[test]
 fn a_frame_in_place_of_the_data(rt: HostRuntime) -> Result<(), Fail> {
     let alloc = rt.alloc();
-    let without: &[&[u8]] = &[ADDRESS, PASSWORD, OFFER, END];
+    let without: &[&[u8]] = &[ADDRESS, PASSWORD, OFFER, END, OK, SECRET];
     for frame in &PASSED_OVER {
         let came = came_of(alloc, &[LOGIN, OFFER, frame, END], &[WELCOME, END])?;
         assert_eq!(rt; came, (Status::Dropped, true, 0));
@@ -115,9 +130,9 @@ fn a_frame_in_place_of_the_data(rt: HostRuntime) -> Result<(), Fail> {
         let came = came_of(alloc, &[LOGIN, OFFER, frame, END], &[WELCOME, END])?;
         assert_eq!(rt; came, (Status::Dropped, true, 0));
     }
-    for frame in &NOT_BUILT {
-        let came = came_of(alloc, &[LOGIN, OFFER, frame, END], &[WELCOME, BROKEN_FRAME])?;
-        assert_eq!(rt; came, (Status::Broke(Cause::OutOfTurn, 4), true, 0));
+    for frame in &OTHER_FILES {
+        let came = came_of(alloc, &[LOGIN, OFFER, frame, END], &[WELCOME, END])?;
+        assert_eq!(rt; came, (Status::Dropped, true, 0));
     }
     Ok(())
 }
@@ -125,7 +140,7 @@ fn a_frame_in_place_of_the_data(rt: HostRuntime) -> Result<(), Fail> {
 #[test]
 fn a_frame_in_place_of_the_end(rt: HostRuntime) -> Result<(), Fail> {
     let alloc = rt.alloc();
-    let passed: &[&[u8]] = &[ADDRESS, PASSWORD, DATA];
+    let passed: &[&[u8]] = &[ADDRESS, PASSWORD, DATA, OK, SECRET];
     for frame in &PASSED_OVER {
         let came = came_of(alloc, &[LOGIN, OFFER, DATA, frame], &[WELCOME, GOT])?;
         assert_eq!(rt; came, (Status::Dropped, true, 1));
@@ -134,13 +149,9 @@ fn a_frame_in_place_of_the_end(rt: HostRuntime) -> Result<(), Fail> {
         let came = came_of(alloc, &[LOGIN, OFFER, DATA, frame], &[WELCOME, GOT])?;
         assert_eq!(rt; came, (Status::Dropped, true, 1));
     }
-    for frame in &NOT_BUILT {
-        let came = came_of(
-            alloc,
-            &[LOGIN, OFFER, DATA, frame],
-            &[WELCOME, GOT, BROKEN_FRAME],
-        )?;
-        assert_eq!(rt; came, (Status::Broke(Cause::OutOfTurn, 5), true, 1));
+    for frame in &OTHER_FILES {
+        let came = came_of(alloc, &[LOGIN, OFFER, DATA, frame], &[WELCOME, GOT])?;
+        assert_eq!(rt; came, (Status::Dropped, true, 1));
     }
     let came = came_of(alloc, &[LOGIN, OFFER, DATA, OFFER], &[WELCOME, GOT, GOT])?;
     assert_eq!(rt; came, (Status::Dropped, true, 1));
@@ -165,5 +176,19 @@ fn an_argument_that_cannot_be_read_is_refused(rt: HostRuntime) -> Result<(), Fai
         came,
         (Status::Broke(Cause::Arg(ArgFault::NoAddress), 1), true, 0)
     );
+    Ok(())
+}
+
+#[test]
+fn a_peer_that_breaks_off_ends_the_session_unanswered(rt: HostRuntime) -> Result<(), Fail> {
+    let alloc = rt.alloc();
+    let cases: [(&[u8], &[u8]); 3] = [(b"", b""), (ADDRESS, b""), (LOGIN, WELCOME)];
+    for (before, behind) in &cases {
+        let came = came_of(alloc, &[before, GO_AWAY, END], &[behind])?;
+        let text = Bytes::from_slice(alloc, b"go away")?;
+        assert_eq!(rt; came, (Status::PeerError(text), true, 0));
+        let came = came_of(alloc, &[before, BUSY, END], &[behind])?;
+        assert_eq!(rt; came, (Status::PeerBusy, true, 0));
+    }
     Ok(())
 }

@@ -1,0 +1,178 @@
+//! What is printed of a session and of a call.
+ghost use Rattle.std.specs.Prelude.{◌≡◌, ◌++◌, IfOk, IsOk, OnOk, option_map};
+ghost use Rattle.std.specs.Fmt.{decimal};
+ghost use Rattle.ftn_addr.specs.Address.{address};
+ghost use Rattle.session_core.specs.Ends.{end_text};
+ghost use Rattle.session_run.specs.Reports.{report_text};
+ghost use Rattle.binkp_mailer.specs.Reports.{Prints, Puts_lines, end_word, had_of, lines_told, peer_word, session_line, told_of};
+ghost use Rattle.binkp_mailer.specs.Statuses.{Status as AnyStatus, status_line, status_text};
+
+use crate::status::{Status, push_status, status_of};
+use binkp_link::Sink;
+use ftn_addr::{Addr, Bytes, NoMemory, write_addr};
+use session_core::End;
+use session_run::Report;
+use std::alloc::Global;
+
+/// The line of NoMemory, which takes none.
+const NO_MEMORY_LINE: &[u8] = b"status 17 NoMemory\n";
+
+/// The name of an end.
+fn end_word(end: &End) -> &'static [u8]
+    ensures { result.now ≡ end_word (end_text end.now) }
+{
+    match end {
+        End::Finished => b"Finished",
+        End::PeerError(_) => b"PeerError",
+        End::PeerBusy => b"PeerBusy",
+        End::BadPassword(_, _) => b"BadPassword",
+        End::Broke(_, _) => b"Broke",
+        End::Dropped => b"Dropped",
+        End::LineFault => b"LineFault",
+        End::DiskFault(_) => b"DiskFault",
+        End::LedgerFull => b"LedgerFull",
+        End::Quiet => b"Quiet",
+        End::Endless => b"Endless",
+        End::TurnedAway => b"TurnedAway",
+        End::NoMemory => b"NoMemory",
+    }
+}
+
+/// Adds the peer's address, or `-` where there is none.
+fn push_peer(alloc: Global, peer: &Option<Addr>, line: &mut Bytes) -> Result<(), NoMemory>
+    ensures { OnOk result (line.new.list ≡ line.old.list ++ peer_word (option_map address peer.now)) }
+{
+    match peer {
+        Some(peer) => write_addr(alloc, peer, line),
+        None => line.push_slice(b"-"),
+    }
+}
+
+/// Adds a word and a number behind it.
+fn push_count(alloc: Global, word: &[u8], count: u32, line: &mut Bytes) -> Result<(), NoMemory>
+    ensures { OnOk result (line.new.list ≡ line.old.list ++ word.now ++ decimal count) }
+{
+    line.push_slice(word)?;
+    line.push_number(alloc, u64::from(count))
+}
+
+/// Adds the line `session N peer ADDR sent S received R skipped K end WORD`, which ends by LF.
+pub fn push_session(alloc: Global, report: &Report, line: &mut Bytes) -> Result<(), NoMemory>
+    ensures { OnOk result (line.new.list ≡ line.old.list ++ session_line (report_text report.now)) }
+{
+    push_count(alloc, b"session ", report.session, line)?;
+    line.push_slice(b" peer ")?;
+    push_peer(alloc, &report.peer, line)?;
+    push_count(alloc, b" sent ", report.sent, line)?;
+    push_count(alloc, b" received ", report.received, line)?;
+    push_count(alloc, b" skipped ", report.skipped, line)?;
+    line.push_slice(b" end ")?;
+    line.push_slice(end_word(&report.end))?;
+    line.push_slice(b"\n")
+}
+
+/// What came of a call, before anything is printed.
+#[derive(Debug, Drop)]
+pub enum Outcome {
+    /// The words are no command.
+    Usage,
+    /// There was no memory before a session began.
+    NoMemory,
+    /// A session was held.
+    Held(Report),
+}
+
+/// The line of the session, where one was held.
+fn session_lines(alloc: Global, outcome: &Outcome) -> Result<Bytes, NoMemory>
+    ensures { IfOk result (λ lines. (status : AnyStatus) → lines_told (told_of outcome.now) status ≡ lines.list ++ status_line status) }
+{
+    let mut lines = Bytes::new(alloc);
+    match outcome {
+        Outcome::Usage => {}
+        Outcome::NoMemory => {}
+        Outcome::Held(report) => push_session(alloc, report, &mut lines)?,
+    }
+    Ok(lines)
+}
+
+/// The status that a call has.
+fn had(outcome: Outcome) -> Status
+    ensures { status_text result ≡ had_of outcome }
+{
+    match outcome {
+        Outcome::Usage => Status::Usage,
+        Outcome::NoMemory => Status::NoMemory,
+        Outcome::Held(report) => status_of(report.end),
+    }
+}
+
+/// These lines, and behind them that of the status.
+fn with_status(
+    alloc: Global,
+    started: Result<Bytes, NoMemory>,
+    status: &Status,
+) -> Result<Bytes, NoMemory>
+    ensures { IfOk result (λ lines. IfOk started (λ before. lines.list ≡ before.list ++ status_line (status_text status.now)) × IsOk started) }
+{
+    let mut lines = started?;
+    push_status(alloc, status, &mut lines)?;
+    Ok(lines)
+}
+
+/// Puts the lines, and answers the status, or OutFault where the put fails.
+fn tell<O: Sink>(status: Status, lines: &[u8], out: &mut O) -> Status
+    ensures { Puts_lines lines.now (status_text status) (status_text result) (O.state out.old) (O.state out.new) }
+{
+    match out.put(lines) {
+        Ok(()) => status,
+        Err(_) => Status::OutFault,
+    }
+}
+
+/// Prints the lines of a call, in one put, and answers its status: the one that it has; or NoMemory, where no memory is
+/// left for the lines; or OutFault, where the put fails.
+pub fn print<O: Sink>(alloc: Global, outcome: Outcome, out: &mut O) -> Status
+    ensures { Prints (told_of outcome) (had_of outcome) (status_text result) (O.state out.old) (O.state out.new) }
+{
+    let started = session_lines(alloc, &outcome);
+    let status = had(outcome);
+    match with_status(alloc, started, &status) {
+        Ok(lines) => tell(status, lines.as_slice(), out),
+        Err(NoMemory) => tell(Status::NoMemory, NO_MEMORY_LINE, out),
+    }
+}
+
+#[cfg(test)]
+mod tests {
+    use super::*;
+    use session_core::Cause;
+    use std::test::Fail;
+
+    #[test]
+    fn a_report_is_one_line(rt: HostRuntime) -> Result<(), Fail> {
+        let alloc = rt.alloc();
+        let peer = Addr {
+            zone: 2,
+            net: 5020,
+            node: 7,
+            point: 3,
+            domain: Bytes::from_slice(alloc, b"fidonet")?,
+        };
+        let report = Report {
+            session: 4,
+            peer: Some(peer),
+            sent: 1,
+            received: 20,
+            skipped: 300,
+            taken: 5,
+            wrote: 6,
+            end: End::Broke(Cause::Late, 9),
+        };
+        let mut line = Bytes::new(alloc);
+        push_session(alloc, &report, &mut line)?;
+        let wanted: &[u8] =
+            b"session 4 peer 2:5020/7.3@fidonet sent 1 received 20 skipped 300 end Broke\n";
+        assert_eq!(rt; line.as_slice(), wanted);
+        Ok(())
+    }
+}
