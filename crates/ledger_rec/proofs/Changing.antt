@@ -1,8 +1,9 @@
 -- Changes of items, by what contracts see of them.
-use Rattle.std.proofs.Common.{◌≡◌, ℕ, zero, suc, ◌+◌, ◌<◌, ◌≤◌, Bool, true, false, not, ltb, cond, List, [], ◌∷◌, length, get_or, set, map, filter, Some, None, refl, sym, ap, ◌∙◌, inl, inr, arith}
-use Rattle.std.specs.Prelude.{position, unwrap_or, nat_lt}
-use Rattle.std.specs.List.{position_or_len, insert}
+use Rattle.std.proofs.Common.{◌≡◌, ℕ, zero, suc, ◌+◌, ◌<◌, ◌≤◌, Bool, true, false, not, ltb, cond, List, [], ◌∷◌, length, get_or, set, map, filter, Option, Some, None, refl, sym, ap, ◌∙◌, inl, inr, arith}
+use Rattle.std.specs.Prelude.{position, unwrap_or, nat_lt, is_some, option_map}
+use Rattle.std.specs.List.{position_or_len, insert, list_any}
 use Rattle.std.proofs.lemmas.Bool.{cases_Bool, ltb-false}
+use Rattle.std.proofs.lemmas.List.Folds.{list_any_at}
 use Rattle.std.proofs.lemmas.List.Quantifiers.{position-Some}
 use Rattle.ftn_addr.specs.Address.{Address, address}
 use Rattle.ftn_addr.specs.Files.{is_same}
@@ -43,6 +44,41 @@ past_end i len none =
 -- where none passes, none is changed
 pub none_changed : {X Y : Type 0} (view : X → Y) (p : Y → Bool) (f : Y → Y) (xs : List X) → position (λ x. p (view x)) xs ≡ None → changed p f (map view xs) ≡ None
 none_changed view p f xs none = none_before view p f xs (past_end (position_or_len (λ x. p (view x)) xs) (length xs) none)
+
+-- whether one passes, by where the first that passes stands
+
+pub found_any : {X : Type 0} (p : X → Bool) (xs : List X) (i : ℕ) → position p xs ≡ Some i → list_any p xs ≡ true
+found_any p [] i found = absurd (cc found)
+found_any p (x ∷ xs) i found =
+    let first = position-Some p (x ∷ xs) i x found in
+    list_any_at p (x ∷ xs) i x first.0 first.1
+
+pub none_any : {X : Type 0} (p : X → Bool) (xs : List X) → length xs ≤ position_or_len p xs → list_any p xs ≡ false
+none_any p [] all = refl
+none_any p (x ∷ xs) all =
+    elim (cases_Bool (p x)) as (λ _. list_any p (x ∷ xs) ≡ false) [
+      | inl passes ↦ absurd (let short : length (x ∷ xs) ≤ 0 = rw passes at all in omega arith)
+      | inr fails ↦ (let more : length (x ∷ xs) ≤ 1 + position_or_len p xs = rw fails at all in rw fails (none_any p xs (omega arith)))
+    ]
+
+pub position_any : {X : Type 0} (p : X → Bool) (xs : List X) → is_some (position p xs) ≡ list_any p xs
+position_any p xs = told (position p xs) refl
+  where
+    told : (o : Option ℕ) → position p xs ≡ o → is_some o ≡ list_any p xs
+    told None none = sym (none_any p xs (past_end (position_or_len p xs) (length xs) none))
+    told (Some i) found = sym (found_any p xs i found)
+
+mapped_some : {A B : Type 0} (f : A → B) (o : Option A) → is_some (option_map f o) ≡ is_some o
+mapped_some f None = refl
+mapped_some f (Some a) = refl
+
+-- whether one is changed
+pub changed_any : {X : Type 0} (p : X → Bool) (f : X → X) (xs : List X) → is_some (changed p f xs) ≡ list_any p xs
+changed_any p f [] = refl
+changed_any p f (x ∷ xs) = elim (cases_Bool (p x)) as (λ _. is_some (changed p f (x ∷ xs)) ≡ list_any p (x ∷ xs)) [
+  | inl passes ↦ rw passes refl
+  | inr fails ↦ rw fails (mapped_some (λ ys. x ∷ ys) (changed p f xs) ∙ changed_any p f xs)
+]
 
 pub unmarked_map : (from : Address) (key : Key) (xs : List MarkItem) → map part_mark (filter (λ (m : MarkItem). not (is_same from key (address m.from) (key_of m.key))) xs) ≡ unmarked from key (map part_mark xs)
 unmarked_map from key [] = refl

@@ -1,5 +1,5 @@
 -- One step of the fold, and its room.
-use Rattle.std.proofs.Common.{◌≡◌, ℕ, true, max, List, Result, Ok, Err, refl, ap, arith}
+use Rattle.std.proofs.Common.{◌≡◌, ℕ, true, max, List, Option, Result, Ok, Err, refl, ap, arith}
 use Rattle.std.specs.Prelude.{nat_lt}
 use Rattle.std.specs.List.{list_all}
 use Rattle.ledger_rec.specs.Fold.{State, after, changed, fold_step, is_live, numbers, settled}
@@ -35,3 +35,8 @@ room_for_both a b l one two =
       parts = omega (arith, parts_one, parts_two);
       takes = omega (arith, takes_one, takes_two);
     }
+
+-- nothing changes at an error
+pub step_kept : {X : Type 0} (e : FoldFault) (step : Option X) (old new : X) → Steps (Err e) step old new → new ≡ old
+step_kept BadFold step old new goes = goes.1
+step_kept NoMemory step old new goes = goes

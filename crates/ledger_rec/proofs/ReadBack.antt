@@ -49,7 +49,7 @@ same_text : (text : List ℕ) → pointwise nat_eq text text ≡ true
 same_text [] = refl
 same_text (x ∷ text) = rw (eq-eqb x x refl, same_text text) refl
 
-canonical_again : (home a : Address) → IsAddress a → canonical_at home (canonical a) ≡ Ok a
+pub canonical_again : (home a : Address) → IsAddress a → canonical_at home (canonical a) ≡ Ok a
 unfolding canonical_at
 canonical_again home a is = rw (reading-canonical a home is, same_text (canonical a)) refl
 
@@ -154,7 +154,7 @@ record-spelling home (Taken take) fits numbers = rw (one_again take numbers) ref
 record-spelling home (Acted number) fits numbers = rw (one_again number numbers) refl
 record-spelling home (Answered receipt) fits numbers = rw (one_again receipt numbers) refl
 
-record_of_payload : (home : Address) (payload : List ℕ) (r : RecordText) → HasNumbers r → Spells r payload → record_at home payload ≡ Ok r
+pub record_of_payload : (home : Address) (payload : List ℕ) (r : RecordText) → HasNumbers r → Spells r payload → record_at home payload ≡ Ok r
 record_of_payload home payload r numbers spells = ap (λ (l : List ℕ). record_at home l) spells.text ∙ record-spelling home r spells.fits numbers
 
 pub read_again : (home : Address) (payload : List ℕ) (read : Result Record RecFault) → Gives NoMemory record_of read (record_at home payload) → (r : RecordText) → HasNumbers r → Spells r payload → Gives NoMemory record_of read (Ok r)

@@ -1,5 +1,5 @@
 -- The fold of a ledger's records: the state that they leave, one record after another (own).
-use Rattle.std.specs.Prelude.{ℕ, ◌-◌, ◌==◌, Bool, true, false, not, ◌&&◌, ◌||◌, nat_lt, nat_le, nat_eq, IsTrue, List, [], ◌∷◌, ◌++◌, length, map, drop, filter, codes, Option, Some, None, option_map, if◌then◌else◌}
+use Rattle.std.specs.Prelude.{ℕ, ◌-◌, ◌==◌, Bool, true, false, not, ◌&&◌, ◌||◌, nat_lt, nat_le, nat_eq, IsTrue, List, [], ◌∷◌, ◌++◌, length, map, drop, filter, codes, Option, Some, None, option_map, option_and_then, if◌then◌else◌}
 use Rattle.std.specs.Char.{to_ascii_lowercase}
 use Rattle.std.specs.Cmp.Lexicographic.{pointwise}
 use Rattle.std.specs.List.{list_all, list_any}
@@ -168,6 +168,11 @@ after s (Answered number) = option_map (λ inbox. record s { inbox = inbox }) (c
 -- one step of the fold
 abbrev pub fold_step : State → RecordText → Option State
 fold_step s r = if list_all (λ n. nat_lt 0 n) (numbers r) then after s r else None
+
+-- the state after these records, one step after another; none where one of them breaks a rule
+abbrev pub fold_all : State → List RecordText → Option State
+fold_all s [] = Some s
+fold_all s (r ∷ rs) = option_and_then (λ t. fold_all t rs) (fold_step s r)
 
 abbrev pub is_held : Address → Key → List Hold → Bool
 is_held from key holds = list_any (λ (h : Hold). is_same from key h.from h.key) holds

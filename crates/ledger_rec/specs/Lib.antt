@@ -1,7 +1,13 @@
+pub mod Batch
 pub mod Fold
+pub mod Indexed
 pub mod Items
+pub mod Lengthen
 pub mod Limits
 pub mod Lists
+pub mod Order
+pub mod Payloads
+pub mod Planned
 pub mod Reading
 pub mod Record
 pub mod Spelling

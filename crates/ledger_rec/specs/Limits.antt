@@ -1,5 +1,5 @@
 -- What a record's fields may be.
-use Rattle.std.specs.Prelude.{ℕ, ◌<◌, ◌≤◌, ◌^◌, length}
+use Rattle.std.specs.Prelude.{ℕ, ◌<◌, ◌≤◌, ◌^◌, List, length, slice_index}
 use Rattle.ftn_addr.specs.Address.{Address}
 use Rattle.ftn_addr.specs.Key.{Key}
 use Rattle.ftn_addr.specs.Limits.{IsAddress, IsKey}
@@ -63,3 +63,7 @@ HasNumbers (Mark r) = IsCount r.part × (r.len < 2 ^ 64) × HasTime r.key
 HasNumbers (Taken take) = IsCount take
 HasNumbers (Acted number) = IsCount number
 HasNumbers (Answered receipt) = IsCount receipt
+
+-- each of these is a byte
+abbrev pub AreBytes : List ℕ → Type 0
+AreBytes bytes = (i : ℕ) → slice_index bytes i < 256

@@ -1,5 +1,5 @@
 -- Fields that are read from the front of bytes (own).
-use Rattle.std.specs.Prelude.{◌≡◌, ℕ, ◌==◌, ◌&&◌, nat_lt, nat_le, nat_eq, List, [], ◌∷◌, length, take, drop, Result, Ok, Err, if◌then◌else◌}
+use Rattle.std.specs.Prelude.{ℕ, ◌==◌, ◌&&◌, nat_lt, nat_le, nat_eq, List, [], ◌∷◌, length, take, drop, Result, Ok, Err, if◌then◌else◌}
 use Rattle.std.specs.Int.{w16, w32, w64, from_be_bytes}
 use Rattle.std.specs.Cmp.Lexicographic.{pointwise}
 use Rattle.ftn_addr.specs.Address.{Address}
@@ -10,7 +10,7 @@ use Rattle.ftn_addr.specs.Writing.{canonical}
 use Rattle.ftn_addr.specs.declared.reading.AddrFault.{AddrFault}
 use Rattle.ledger_rec.specs.Record.{NewFileText, ReceivedText, RefusedText, MarkText, RecordText, Queue, Done, Received, Refused, Mark, Taken, Acted, Answered}
 use Rattle.ledger_rec.specs.declared.fault.RecFault.{RecFault}
-use Rattle.ledger_rec.specs.declared.fault.RecFault.TheVariants.{BadRecord, NoMemory}
+use Rattle.ledger_rec.specs.declared.fault.RecFault.TheVariants.{BadRecord}
 
 -- what was read, and what is left behind it
 abbrev pub Read : Type 0 → Type 0

@@ -1,5 +1,6 @@
 -- The bytes of a record (own). Numbers are high byte first.
 use Rattle.std.specs.Prelude.{◌≡◌, ℕ, Bool, List, [], ◌∷◌, ◌++◌, length, if◌then◌else◌}
+use Rattle.std.specs.List.{AllByRecursion}
 use Rattle.std.specs.Int.{w16, w32, w64, to_be_bytes}
 use Rattle.ftn_addr.specs.Address.{Address}
 use Rattle.ftn_addr.specs.Key.{Key}
@@ -69,3 +70,7 @@ pub record Spells (r : RecordText) (payload : List ℕ) : Type 0 where
 -- no record has these bytes
 abbrev pub SpellsNone : List ℕ → Type 0
 SpellsNone payload = (r : RecordText) → HasNumbers r → Spells r payload → ⊥
+
+-- records whose numbers and fields keep their limits
+abbrev pub AreRecords : List RecordText → Type 0
+AreRecords = AllByRecursion (λ (r : RecordText). HasNumbers r × Fits r)

@@ -9,6 +9,7 @@ ghost use Rattle.ledger_rec.specs.Record.{record_of};
 ghost use Rattle.ledger_rec.specs.declared.fault.FoldFault.TheVariants.{BadFold as BreaksRule, NoMemory as OutOfMemory};
 
 use crate::changes::make_room;
+use crate::index::Index;
 use crate::items::{Held, InboxItem, MarkItem, QueueItem, RefusedItem};
 use crate::lists::Lists;
 use crate::rules::is_same;
@@ -20,26 +21,29 @@ use std::marker::Model;
 
 /// The state that the records so far leave, and the senders and keys that are held.
 ///
-/// It has lists, and walks them: folding one more record, or ending a hold, takes time in proportion to
-/// the items and holds that are there.
+/// Ordered indices stand beside its lists, so that folding one more record takes steps in proportion to the
+/// logarithm of the items, and to the marks that stand; ending a hold walks the holds. The indices take
+/// memory beside the room for records: where there is none, look-ups walk the lists instead.
 #[derive(Debug, Drop)]
 pub struct Folded {
-    lists: Lists,
+    pub(crate) lists: Lists,
     holds: Vec<Held>,
-    room: u32,
+    pub(crate) room: u32,
 }
 
 impl Model for Folded {
     ghost use Rattle.std.specs.Prelude.{map};
     ghost use Rattle.ledger_rec.specs.Fold.{Folding};
+    ghost use Rattle.ledger_rec.specs.Indexed.{Agrees};
     ghost use Rattle.ledger_rec.specs.Items.{hold};
     ghost use Rattle.ledger_rec.specs.Lists.{state_of, HasRoom};
+    ghost use Rattle.ledger_rec.specs.Order.{IsOrderly};
 
     ghost Value = { Folding };
 
     ghost view = { λ f. record { state = state_of f.lists; holds = map hold f.holds.items; room = f.room } };
 
-    ghost invariant = { λ f. HasRoom f.room f.lists };
+    ghost invariant = { λ f. HasRoom f.room f.lists × Agrees f.lists.index (state_of f.lists) × IsOrderly (state_of f.lists) };
 }
 
 // Where the first hold of the sender and key stands.
@@ -73,6 +77,7 @@ impl Folded {
                 marks: Vec::new(alloc),
                 parts: Vec::new(alloc),
                 takes: Vec::new(alloc),
+                index: Index::new(alloc),
             },
             holds: Vec::new(alloc),
             room: 0,
@@ -95,8 +100,7 @@ impl Folded {
 
     /// Folds one more record in, which is given away. After an error all is as before.
     ///
-    /// With room, no memory is taken for a record that is Done, Taken, Acted or Answered, nor for one that
-    /// is a Mark or Received and whose sender and key are held. A record that is folded uses one place.
+    /// With room, no record is refused for memory. A record that is folded uses one place.
     pub fn add_owned(&mut self, rec: Record) -> Result<(), FoldFault>
         ensures ok { OnOk result (fold_step self.old.state (record_of rec) ≡ Some self.new.state) }
         ensures bad { IsErrOf result BreaksRule → fold_step self.old.state (record_of rec) ≡ None }
@@ -104,6 +108,7 @@ impl Folded {
         ensures holds { self.new.holds ≡ self.old.holds }
         ensures room { self.old.room ≤ self.new.room + 1 }
         ensures within { 0 < self.old.room → IsPrepared (record_of rec) self.old.holds → IsErrOf result OutOfMemory → ⊥ }
+        ensures roomy { 0 < self.old.room → IsErrOf result OutOfMemory → ⊥ }
     {
         add(rec, &mut self.lists)?;
         self.room = self.room.saturating_sub(1);
@@ -170,5 +175,19 @@ impl Folded {
         ensures { map part_mark result.now ≡ self.now.state.marks }
     {
         self.lists.marks.as_slice()
+    }
+
+    /// The numbers of all parts and receipts so far.
+    pub fn parts(&self) -> &[u32]
+        ensures { result.now ≡ self.now.state.parts }
+    {
+        self.lists.parts.as_slice()
+    }
+
+    /// The takes that are recorded.
+    pub fn takes(&self) -> &[u32]
+        ensures { result.now ≡ self.now.state.takes }
+    {
+        self.lists.takes.as_slice()
     }
 }

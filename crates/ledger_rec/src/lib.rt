@@ -6,6 +6,10 @@
 //! refused and marked. With [`Folded::reserve`] and [`Folded::hold`] a caller makes sure that a record
 //! that must be folded later takes no memory then.
 //!
+//! Files that are queued together are a [`Batch`]: [`Folded::prepare`] says whether its records follow, and
+//! once they are durable [`Folded::add_batch`] folds them in. [`Folded::lengthen`] makes a standing mark
+//! longer.
+//!
 //! ```
 //! let mut payload = Bytes::new(alloc);
 //! write_record(&Record::Done(number, session), &mut payload)?;
@@ -16,13 +20,17 @@
 //! Left out: the ledger's file with its gates and lengths, the bytes of files, and what was given away.
 #![tactic(auto)]
 
+mod batch;
 mod changes;
 mod fault;
 mod fields;
 mod folded;
+mod index;
 mod items;
 mod laws;
+mod lengthen;
 mod lists;
+mod planned;
 mod reading;
 mod record;
 mod rules;
@@ -31,10 +39,15 @@ mod steps;
 mod tests;
 mod writing;
 
+pub use batch::Batch;
 pub use fault::{FoldFault, RecFault};
 pub use folded::Folded;
 pub use items::{InboxItem, MarkItem, QueueItem, RefusedItem};
-pub use laws::{fits_a_payload, one_record_at_most};
+pub use laws::{
+    each_fold_is_orderly, fits_a_payload, more_records_fold_on, one_payload_more,
+    one_record_at_most, read_is_spelled, spelled_is_read,
+};
+pub use lengthen::Lengthened;
 pub use reading::read_record;
 pub use record::{MarkRec, NewFileRec, ReceivedRec, Record, RefusedRec};
 pub use writing::write_record;

@@ -1,4 +1,5 @@
 //! The lists that records leave.
+use crate::index::Index;
 use crate::items::{InboxItem, MarkItem, QueueItem, RefusedItem};
 
 /// The lists of a fold.
@@ -13,4 +14,5 @@ pub(crate) struct Lists {
     pub parts: Vec<u32>,
     /// The takes that are recorded.
     pub takes: Vec<u32>,
+    pub index: Index,
 }

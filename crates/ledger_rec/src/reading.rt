@@ -1,8 +1,9 @@
 //! The record of a payload.
-ghost use Rattle.std.specs.Prelude.{◌≡◌, ◌++◌, Ok, IfOk, IsErrOf};
+ghost use Rattle.std.specs.Prelude.{◌≡◌, ◌≢◌, ◌++◌, Ok, IfOk, IsErrOf};
 ghost use Rattle.ftn_addr.specs.Address.{address};
 ghost use Rattle.ledger_rec.specs.Limits.{HasNumbers, IsNewFile, IsReceived, IsRefused, IsMark};
 ghost use Rattle.ftn_addr.specs.Outcomes.{Gives, GivesExactly};
+ghost use Rattle.ledger_rec.specs.Payloads.{record_in};
 ghost use Rattle.ledger_rec.specs.Reading.{new_file_at, received_at, refused_at, mark_at, pair_at, one_at, fields_at, record_at};
 ghost use Rattle.ledger_rec.specs.Record.{RecordText, Queue, Received, Refused, Mark, record_of, new_file, received, refused, mark};
 ghost use Rattle.ledger_rec.specs.Spelling.{Spells, SpellsNone, field_bytes, number_bytes};
@@ -138,6 +139,7 @@ fn one_at(bytes: &[u8]) -> Result<u32, RecFault>
 
 #[tactic(auto, unfolding(crate::specs::Reading::record_at, crate::specs::Reading::fields_at))]
 fn record_at(alloc: Global, payload: &[u8], home: &Addr) -> Result<Record, RecFault>
+    ensures numbers { IfOk result (λ rec. HasNumbers (record_of rec)) }
     ensures gives { Gives RecFault.NoMemory record_of result (record_at (address home.now) payload.now) }
     ensures spelled { IfOk result (λ r. Spells (record_of r) payload.now) }
 {
@@ -164,9 +166,12 @@ fn record_at(alloc: Global, payload: &[u8], home: &Addr) -> Result<Record, RecFa
 ///
 /// [`RecFault::BadRecord`] comes exactly where the payload spells no record.
 pub fn read_record(alloc: Global, payload: &[u8], home: &Addr) -> Result<Record, RecFault>
+    ensures numbers { IfOk result (λ rec. HasNumbers (record_of rec)) }
     ensures read { IfOk result (λ rec. Spells (record_of rec) payload.now) }
     ensures again { (r : RecordText) → HasNumbers r → Spells r payload.now → Gives RecFault.NoMemory record_of result (Ok r) }
     ensures bad { IsErrOf result NoRecord → SpellsNone payload.now }
+    ensures is { IfOk result (λ rec. record_in payload.now ≡ Ok (record_of rec)) }
+    ensures none { IsErrOf result NoRecord → (r : RecordText) → record_in payload.now ≢ Ok r }
 {
     record_at(alloc, payload, home)
 }

@@ -2,12 +2,18 @@ ghost use Rattle.std.specs.Prelude.{◌≡◌, ◌<◌, ◌≤◌, length, IfOk}
 ghost use Rattle.ftn_addr.specs.Address.{address};
 ghost use Rattle.ftn_addr.specs.Key.{key_of};
 ghost use Rattle.ftn_addr.specs.Limits.{IsAddress, IsKey};
-ghost use Rattle.ledger_rec.specs.Limits.{Fits};
-ghost use Rattle.ledger_rec.specs.Record.{record_of};
+ghost use Rattle.ledger_rec.specs.Limits.{Fits, IsMark, IsNewFile};
+ghost use Rattle.ledger_rec.specs.Record.{record_of, mark, new_file};
+
+mod batches;
+mod folds;
+mod longer_marks;
+mod many_files;
 
 use crate::{
     FoldFault, Folded, MarkRec, NewFileRec, RecFault, ReceivedRec, Record, RefusedRec,
-    fits_a_payload, one_record_at_most, read_record, write_record,
+    fits_a_payload, one_record_at_most, read_is_spelled, read_record, spelled_is_read,
+    write_record,
 };
 use ftn_addr::{Addr, Bytes, FileKey};
 use std::alloc::Global;
@@ -41,17 +47,23 @@ fn key(alloc: Global, name: &[u8]) -> Result<FileKey, Fail>
     })
 }
 
-fn queued(alloc: Global, number: u32, name: &[u8]) -> Result<Record, Fail>
-    ensures { 0 < length name.now → length name.now ≤ 200 → IfOk result (λ rec. Fits (record_of rec)) }
+fn new_file(alloc: Global, number: u32, name: &[u8]) -> Result<NewFileRec, Fail>
+    ensures { 0 < length name.now → length name.now ≤ 200 → IfOk result (λ rec. IsNewFile (new_file rec)) }
 {
-    Ok(Record::Queue(NewFileRec {
+    Ok(NewFileRec {
         number,
         dest: peer(alloc)?,
         key: key(alloc, name)?,
         source: bytes(alloc, b"/out/a.txt")?,
         action: 1,
         flavour: 3,
-    }))
+    })
+}
+
+fn queued(alloc: Global, number: u32, name: &[u8]) -> Result<Record, Fail>
+    ensures { 0 < length name.now → length name.now ≤ 200 → IfOk result (λ rec. Fits (record_of rec)) }
+{
+    Ok(Record::Queue(new_file(alloc, number, name)?))
 }
 
 fn received(alloc: Global, receipt: u32, name: &[u8], session: u32) -> Result<Record, Fail>
@@ -77,15 +89,21 @@ fn refused(alloc: Global, name: &[u8], session: u32) -> Result<Record, Fail>
     }))
 }
 
-fn mark(alloc: Global, part: u32, name: &[u8], len: u64) -> Result<Record, Fail>
-    ensures { 0 < length name.now → length name.now ≤ 200 → IfOk result (λ rec. Fits (record_of rec)) }
+fn mark_rec(alloc: Global, part: u32, name: &[u8], len: u64) -> Result<MarkRec, Fail>
+    ensures { 0 < length name.now → length name.now ≤ 200 → IfOk result (λ rec. IsMark (mark rec)) }
 {
-    Ok(Record::Mark(MarkRec {
+    Ok(MarkRec {
         part,
         from: peer(alloc)?,
         key: key(alloc, name)?,
         length: len,
-    }))
+    })
+}
+
+fn mark(alloc: Global, part: u32, name: &[u8], len: u64) -> Result<Record, Fail>
+    ensures { 0 < length name.now → length name.now ≤ 200 → IfOk result (λ rec. Fits (record_of rec)) }
+{
+    Ok(Record::Mark(mark_rec(alloc, part, name, len)?))
 }
 
 const QUEUE: &[u8] =
@@ -198,6 +216,8 @@ fn each_kind_is_read_and_copied(rt: HostRuntime) -> Result<(), Fail> {
     }
     fits_a_payload();
     one_record_at_most();
+    read_is_spelled();
+    spelled_is_read();
     Ok(())
 }
 
@@ -243,131 +263,5 @@ fn payloads_that_spell_no_record(rt: HostRuntime) -> Result<(), Fail> {
         let fault = read_record(rt.alloc(), payload, &home).err();
         assert_eq!(rt; fault, Some(RecFault::BadRecord));
     }
-    Ok(())
-}
-
-#[test]
-fn a_queued_file_is_acted_on_and_done_once(rt: HostRuntime) -> Result<(), Fail> {
-    let alloc = rt.alloc();
-    let mut folded = Folded::new(alloc);
-    let rows = [
-        (Says::Done(7, 1), false),
-        (Says::Queue(0, b"a.txt"), false),
-        (Says::Queue(2, b"a.txt"), true),
-        (Says::Queue(2, b"b.txt"), false),
-        (Says::Queue(3, b"a.txt"), false),
-        (Says::Acted(3), false),
-        (Says::Acted(2), true),
-        (Says::Acted(2), false),
-        (Says::Done(2, 0), false),
-        (Says::Done(2, 1), true),
-        (Says::Done(2, 1), false),
-        (Says::Queue(3, b"a.txt"), false),
-    ];
-    assert_eq!(rt; first_other(alloc, &mut folded, &rows)?, None);
-    assert_eq!(rt; folded.queue().len(), 1);
-    assert!(rt; folded.queue().iter().all(|item| item.acted && !item.live));
-    Ok(())
-}
-
-#[test]
-fn a_mark_only_grows_and_a_receipt_takes_it_away(rt: HostRuntime) -> Result<(), Fail> {
-    let alloc = rt.alloc();
-    let mut folded = Folded::new(alloc);
-    let rows = [
-        (Says::Mark(0, b"p.txt", 3), false),
-        (Says::Mark(1, b"p.txt", 0), false),
-        (Says::Mark(1, b"p.txt", 6), false),
-        (Says::Mark(1, b"p.txt", 3), true),
-        (Says::Mark(1, b"p.txt", 2), false),
-        (Says::Mark(2, b"p.txt", 4), false),
-        (Says::Mark(1, b"q.txt", 4), false),
-        (Says::Mark(1, b"p.txt", 5), true),
-        (Says::Received(1, b"q.txt", 1), false),
-    ];
-    assert_eq!(rt; first_other(alloc, &mut folded, &rows)?, None);
-    assert_eq!(rt; folded.marks().len(), 1);
-    let rows = [
-        (Says::Received(1, b"p.txt", 1), true),
-        (Says::Mark(2, b"p.txt", 5), false),
-    ];
-    assert_eq!(rt; first_other(alloc, &mut folded, &rows)?, None);
-    assert_eq!(rt; folded.marks().len(), 0);
-    Ok(())
-}
-
-#[test]
-fn a_key_is_settled_once(rt: HostRuntime) -> Result<(), Fail> {
-    let alloc = rt.alloc();
-    let mut folded = Folded::new(alloc);
-    let rows = [
-        (Says::Received(0, b"a.txt", 1), false),
-        (Says::Received(1, b"a.txt", 0), false),
-        (Says::Refused(b"r.txt", 0), false),
-        (Says::Received(1, b"a.txt", 1), true),
-        (Says::Received(2, b"a.txt", 1), false),
-        (Says::Refused(b"a.txt", 1), false),
-        (Says::Mark(2, b"r.txt", 5), true),
-        (Says::Refused(b"r.txt", 1), true),
-        (Says::Refused(b"r.txt", 1), false),
-        (Says::Received(3, b"r.txt", 1), false),
-        (Says::Received(2, b"s.txt", 1), false),
-    ];
-    assert_eq!(rt; first_other(alloc, &mut folded, &rows)?, None);
-    assert_eq!(rt; folded.inbox().len(), 1);
-    assert_eq!(rt; folded.refused().len(), 1);
-    assert_eq!(rt; folded.marks().len(), 0);
-    Ok(())
-}
-
-#[test]
-fn takes_and_answers_are_recorded_once(rt: HostRuntime) -> Result<(), Fail> {
-    let alloc = rt.alloc();
-    let mut folded = Folded::new(alloc);
-    let rows = [
-        (Says::Taken(0), false),
-        (Says::Taken(2), true),
-        (Says::Taken(2), false),
-        (Says::Taken(1), true),
-        (Says::Received(1, b"a.txt", 1), true),
-        (Says::Received(2, b"W.REQ", 1), true),
-        (Says::Answered(1), false),
-        (Says::Answered(3), false),
-        (Says::Answered(2), true),
-        (Says::Answered(2), false),
-    ];
-    assert_eq!(rt; first_other(alloc, &mut folded, &rows)?, None);
-    Ok(())
-}
-
-#[test]
-fn marks_rise_by_part(rt: HostRuntime) -> Result<(), Fail> {
-    let alloc = rt.alloc();
-    let mut folded = Folded::new(alloc);
-    let rows = [
-        (Says::Mark(5, b"e.txt", 1), true),
-        (Says::Mark(9, b"i.txt", 1), true),
-        (Says::Mark(2, b"b.txt", 1), true),
-        (Says::Mark(5, b"e.txt", 2), true),
-    ];
-    assert_eq!(rt; first_other(alloc, &mut folded, &rows)?, None);
-    let mut parts = Vec::new(alloc);
-    for item in folded.marks() {
-        parts.push(item.part)?;
-    }
-    assert_eq!(rt; parts.as_slice(), [2, 5, 9].as_slice());
-    Ok(())
-}
-
-#[test]
-fn a_held_mark_is_folded_with_room(rt: HostRuntime) -> Result<(), Fail> {
-    let alloc = rt.alloc();
-    let mut folded = Folded::new(alloc);
-    let (from, key) = (peer(alloc)?, key(alloc, b"a.txt")?);
-    folded.hold(alloc, &from, &key)?;
-    folded.reserve(1)?;
-    folded.add(alloc, &mark(alloc, 1, b"a.txt", 3)?)?;
-    folded.unhold(&from, &key);
-    assert_eq!(rt; folded.marks().len(), 1);
     Ok(())
 }

@@ -5,7 +5,7 @@ ghost use Rattle.ftn_addr.specs.Address.{address};
 ghost use Rattle.ftn_addr.specs.Key.{key_of};
 ghost use Rattle.ftn_addr.specs.Limits.{IsAddress, IsKey};
 ghost use Rattle.ftn_addr.specs.Writing.{canonical, point_text};
-ghost use Rattle.ledger_rec.specs.Limits.{Fits, IsNewFile, IsReceived, IsRefused, IsMark};
+ghost use Rattle.ledger_rec.specs.Limits.{Fits, HasNumbers, HasTime, IsNewFile, IsReceived, IsRefused, IsMark};
 ghost use Rattle.ledger_rec.specs.Record.{record_of, new_file, received, refused, mark, Queue, Received, Refused, Mark};
 ghost use Rattle.ledger_rec.specs.Spelling.{number_bytes, wide_bytes, address_bytes, key_bytes, path_bytes, field_bytes, spelling};
 
@@ -127,6 +127,7 @@ fn push_address(addr: &Addr, out: &mut Bytes)
 fn push_key(key: &FileKey, out: &mut Bytes)
     requires key { IsKey (key_of key.now) }
     requires room { 217 ≤ out.old.spare }
+    ensures time { HasTime (key_of key.now) }
     ensures list { out.new.list ≡ out.old.list ++ key_bytes (key_of key.now) }
     ensures room { out.old.spare ≤ out.new.spare + 217 }
     ensures kept { out.old.spare + length out.old.list ≤ out.new.spare + length out.new.list }
@@ -151,6 +152,7 @@ fn push_path(path: &Bytes, out: &mut Bytes)
 fn push_new_file(rec: &NewFileRec, out: &mut Bytes)
     requires rec { IsNewFile (new_file rec.now) }
     requires room { 1399 ≤ out.old.spare }
+    ensures numbers { HasNumbers (Queue (new_file rec.now)) }
     ensures list { out.new.list ≡ out.old.list ++ field_bytes (Queue (new_file rec.now)) }
     ensures kept { out.old.spare + length out.old.list ≤ out.new.spare + length out.new.list }
 {
@@ -164,6 +166,7 @@ fn push_new_file(rec: &NewFileRec, out: &mut Bytes)
 fn push_received(rec: &ReceivedRec, out: &mut Bytes)
     requires rec { IsReceived (received rec.now) }
     requires room { 1399 ≤ out.old.spare }
+    ensures numbers { HasNumbers (Received (received rec.now)) }
     ensures list { out.new.list ≡ out.old.list ++ field_bytes (Received (received rec.now)) }
     ensures kept { out.old.spare + length out.old.list ≤ out.new.spare + length out.new.list }
 {
@@ -177,6 +180,7 @@ fn push_received(rec: &ReceivedRec, out: &mut Bytes)
 fn push_refused(rec: &RefusedRec, out: &mut Bytes)
     requires rec { IsRefused (refused rec.now) }
     requires room { 1399 ≤ out.old.spare }
+    ensures numbers { HasNumbers (Refused (refused rec.now)) }
     ensures list { out.new.list ≡ out.old.list ++ field_bytes (Refused (refused rec.now)) }
     ensures kept { out.old.spare + length out.old.list ≤ out.new.spare + length out.new.list }
 {
@@ -189,6 +193,7 @@ fn push_refused(rec: &RefusedRec, out: &mut Bytes)
 fn push_mark(rec: &MarkRec, out: &mut Bytes)
     requires rec { IsMark (mark rec.now) }
     requires room { 1399 ≤ out.old.spare }
+    ensures numbers { HasNumbers (Mark (mark rec.now)) }
     ensures list { out.new.list ≡ out.old.list ++ field_bytes (Mark (mark rec.now)) }
     ensures kept { out.old.spare + length out.old.list ≤ out.new.spare + length out.new.list }
 {
@@ -202,6 +207,7 @@ fn push_mark(rec: &MarkRec, out: &mut Bytes)
 fn push_record(rec: &Record, out: &mut Bytes)
     requires rec { Fits (record_of rec.now) }
     requires room { 1400 ≤ out.old.spare }
+    ensures numbers { HasNumbers (record_of rec.now) }
     ensures list { out.new.list ≡ out.old.list ++ spelling (record_of rec.now) }
     ensures kept { out.old.spare + length out.old.list ≤ out.new.spare + length out.new.list }
 {
@@ -248,6 +254,7 @@ fn push_record(rec: &Record, out: &mut Bytes)
 /// A record has at most 1,400 bytes. With room for these this takes no memory.
 pub fn write_record(rec: &Record, out: &mut Bytes) -> Result<(), NoMemory>
     requires { Fits (record_of rec.now) }
+    ensures numbers { OnOk result (HasNumbers (record_of rec.now)) }
     ensures ok { OnOk result (out.new.list ≡ out.old.list ++ spelling (record_of rec.now)) }
     ensures err { OnErr result (out.new.list ≡ out.old.list) }
     ensures within { 1400 ≤ out.old.spare → IsOk result }

@@ -1,12 +1,21 @@
-use Rattle.std.proofs.Common.{ℕ, subst, rules}
+use Rattle.std.proofs.Common.{ℕ, subst, sym, rules}
+use Rattle.ledger_rec.proofs.Agreeing.{agrees_same}
 use Rattle.ledger_rec.proofs.Folding.{room_for_both}
-use Rattle.ledger_rec.specs.Lists.{HasRoom}
+use Rattle.ledger_rec.specs.Lists.{HasRoom, state_of}
+use Rattle.ledger_rec.specs.Order.{IsOrderly}
 use Rattle.ledger_rec.proofs.folded.Folded.reserve.Goals as goal
 
 pub invariant_of-self : goal.invariant_of-self
-invariant_of-self c = c.make_room.ensures.kept c.self.inside.room c.self.invariant
+invariant_of-self c =
+    let made = c.make_room.ensures in
+    let old = c.self.inside.lists in
+    let new = c.make_room.new.lists in
+    (made.kept c.self.inside.room c.self.invariant.0, agrees_same old.index new.index (state_of old) (state_of new) made.index made.state c.self.invariant.1, subst IsOrderly (sym made.state) c.self.invariant.2)
 
 pub invariant_of-self-2 : goal.invariant_of-self-2
 invariant_of-self-2 c =
-    let both = room_for_both c.self.inside.room c.args.n c.make_room.new.lists (c.make_room.ensures.kept c.self.inside.room c.self.invariant) (search rules) in
-    subst (λ (n : ℕ). HasRoom n c.make_room.new.lists) (search rules) both
+    let made = c.make_room.ensures in
+    let old = c.self.inside.lists in
+    let new = c.make_room.new.lists in
+    let both = room_for_both c.self.inside.room c.args.n new (made.kept c.self.inside.room c.self.invariant.0) (search rules) in
+    (subst (λ (n : ℕ). HasRoom n new) (search rules) both, agrees_same old.index new.index (state_of old) (state_of new) made.index made.state c.self.invariant.1, subst IsOrderly (sym made.state) c.self.invariant.2)

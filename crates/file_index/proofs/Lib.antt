@@ -1,0 +1,3 @@
+mod Filing
+pub mod Order
+mod Places

@@ -1,0 +1,65 @@
+use crate::{FileIndex, NumberIndex};
+use ftn_addr::{Addr, Bytes, FileKey};
+use std::alloc::Global;
+use std::test::Fail;
+
+fn addr(alloc: Global, node: u16) -> Result<Addr, Fail> {
+    Ok(Addr {
+        zone: 2,
+        net: 5047,
+        node,
+        point: 0,
+        domain: Bytes::from_slice(alloc, b"fidonet")?,
+    })
+}
+
+fn key(alloc: Global, size: u64) -> Result<FileKey, Fail> {
+    Ok(FileKey {
+        name: Bytes::from_slice(alloc, b"a.txt")?,
+        size,
+        time: 1_000_000_000,
+    })
+}
+
+#[test]
+fn a_noted_file_is_found_for_its_address_alone(rt: HostRuntime) -> Result<(), Fail> {
+    let alloc = rt.alloc();
+    let noted = addr(alloc, 13)?;
+    let other = addr(alloc, 14)?;
+    let file = key(alloc, 5)?;
+    let mut index = FileIndex::new(alloc);
+    assert_eq!(rt; index.find(&noted, &file), Some(false));
+    index.note(&noted, &file);
+    assert_eq!(rt; index.find(&noted, &file), Some(true));
+    assert_eq!(rt; index.find(&other, &file), Some(false));
+    Ok(())
+}
+
+#[test]
+fn a_noted_file_is_not_one_of_another_key(rt: HostRuntime) -> Result<(), Fail> {
+    let alloc = rt.alloc();
+    let noted = addr(alloc, 13)?;
+    let file = key(alloc, 5)?;
+    let longer = key(alloc, 6)?;
+    let mut index = FileIndex::new(alloc);
+    index.note(&noted, &file);
+    assert_eq!(rt; index.find(&noted, &longer), Some(false));
+    Ok(())
+}
+
+#[test]
+fn a_number_stands_where_it_came_first(rt: HostRuntime) -> Result<(), Fail> {
+    let mut index = NumberIndex::new(rt.alloc());
+    assert_eq!(rt; index.find(7), Some(false));
+    assert_eq!(rt; index.start(7, 0), 0);
+    index.note(9, 0);
+    index.note(7, 1);
+    index.note(9, 2);
+    index.note(7, 3);
+    assert_eq!(rt; index.find(7), Some(true));
+    assert_eq!(rt; index.find(8), Some(false));
+    assert_eq!(rt; index.start(9, 4), 0);
+    assert_eq!(rt; index.start(7, 4), 1);
+    assert_eq!(rt; index.start(8, 4), 4);
+    Ok(())
+}
