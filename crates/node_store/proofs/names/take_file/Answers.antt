@@ -1,0 +1,16 @@
+use Rattle.std.proofs.Common.{◌≡◌, Some, refl}
+use Rattle.ftn_addr.specs.Address.{address}
+use Rattle.node_store.specs.Names.{take_name}
+use Rattle.node_store.proofs.FileNames.{is_take_name}
+use Rattle.node_store.proofs.names.take_file.Goals as goal
+
+pub unwrap-requires : goal.unwrap-requires
+unwrap-requires c =
+    let name = is_take_name c.args.take (address c.args.addr.now) c.args.kind c.ranges.take.fits c.take_bytes-name.ensures.place in
+    rw (c.new.ensures, c.take_bytes-name.ensures.bytes, name) refl
+
+pub returns : goal.returns
+returns c =
+    let name = is_take_name c.args.take (address c.args.addr.now) c.args.kind c.ranges.take.fits c.take_bytes-name.ensures.place in
+    let made : c.new.result ≡ Some (take_name c.args.take (address c.args.addr.now) c.args.kind) = rw (c.new.ensures, c.take_bytes-name.ensures.bytes, name) refl in
+    cc (c.unwrap.ensures, made)

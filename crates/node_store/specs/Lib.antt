@@ -1,0 +1,11 @@
+pub mod Books
+pub mod Contents
+pub mod Logs
+pub mod Lookups
+pub mod Names
+pub mod Numbers
+pub mod Outlines
+pub mod Recording
+pub mod Stored
+pub mod Tied
+pub mod Worlds

@@ -1,0 +1,177 @@
+//! The store on a disk, with what it has in memory.
+ghost use Rattle.std.specs.Prelude.{◌≡◌, ◌≤◌, length, option_map, None, true};
+ghost use Rattle.ftn_addr.specs.Address.{address};
+ghost use Rattle.ftn_addr.specs.Key.{key_of as key_in};
+ghost use Rattle.node_model.specs.Durable.{mark_of as mark_in};
+ghost use Rattle.node_model.specs.StoreWords.{part_at};
+ghost use Rattle.node_model.specs.Stocks.{known_in};
+ghost use Rattle.node_model.specs.Stores.{By_seat, IsOpen, Part_put, Release, Reserve, StoreKept, Well, well_answer};
+ghost use Rattle.disk_model.specs.Changes.{Every};
+ghost use Rattle.disk_model.specs.Moments.{Now};
+ghost use Rattle.node_model.specs.StoreStates.{shelf_of};
+ghost use Rattle.node_store.specs.Stored.{stand_of, stored_in};
+ghost use Rattle.node_store.specs.Worlds.{OpensAs};
+
+use crate::books::Books;
+use crate::lookups::{known, mark_of};
+use crate::names::in_file;
+use crate::part::{OpenPart, StagedFile, grow, have_of};
+use disk_model::Disk;
+use ftn_addr::{Addr, Bytes, FileKey};
+use ledger_file::AppendFault;
+use node_model::{Known, PartAt, StoreFault};
+use std::marker::Model;
+
+/// A store on a disk: a ledger, and the own files beside it.
+///
+/// It is begun: its calls so far are those that touch no file.
+///
+/// What a stop may leave of the disk opens to what the store keeps, unless the disk failed. So the disk is never lent for
+/// writing.
+#[derive(Drop)]
+pub struct NodeStore<D: Disk> {
+    disk: D,
+    books: Books,
+    given: Vec<u32>,
+    parts: Vec<OpenPart>,
+    staged: Vec<StagedFile>,
+    drawn: u32,
+    last_staged: u32,
+    seat: u32,
+    last_given: u32,
+    text: Bytes,
+    fulls: u64,
+    broken: Option<u64>,
+}
+
+impl<D: Disk> Model for NodeStore<D> {
+    ghost use Rattle.std.specs.Prelude.{◌+◌, ◌≤◌, length};
+    ghost use Rattle.node_store.specs.Stored.{Holding, Memory, IsSound};
+
+    ghost Value = { Holding D };
+
+    ghost view = { λ s. record { disk = s.disk; memory = record { books = s.books; given = s.given.items; parts = s.parts.items; staged = s.staged.items; drawn = s.drawn; last_staged = s.last_staged; seat = s.seat; last_given = s.last_given; fulls = s.fulls; broken = s.broken } } };
+
+    // There is room for the text of a record.
+    ghost invariant = { λ s. IsSound D.tells D.content D.moment D.images s.disk (record { books = s.books; given = s.given.items; parts = s.parts.items; staged = s.staged.items; drawn = s.drawn; last_staged = s.last_staged; seat = s.seat; last_given = s.last_given; fulls = s.fulls; broken = s.broken }) × (1400 ≤ s.text.spare + length s.text.list) };
+}
+
+impl<D: Disk> NodeStore<D> {
+    /// The disk, for reading.
+    pub fn disk(&self) -> &D
+        ensures { result.now ≡ self.now.disk }
+    {
+        &self.disk
+    }
+
+    /// The disk. It takes no memory.
+    pub fn into_disk(self) -> D
+        ensures { result ≡ self.disk }
+    {
+        self.disk
+    }
+
+    /// What a whole store tells, over a disk that tells, is what an opening of that disk finds, as it reads and as each stop now
+    /// may leave it. It does nothing.
+    pub fn opens_as_told(&self)
+        requires { self.now.memory.broken ≡ None }
+        ensures read { D.tells ≡ true → OpensAs (D.content self.now.disk) (shelf_of (stored_in (D.content self.now.disk) self.now.memory)) }
+        ensures stopped { D.tells ≡ true → Every (Now D.moment D.images self.now.disk) (λ w. OpensAs w (shelf_of (stored_in (D.content self.now.disk) self.now.memory))) }
+    {
+        let _seat = self.seat;
+    }
+
+    /// How often a call of the disk failed.
+    pub fn faults(&self) -> u64
+        ensures { result ≡ (stand_of D.tells D.content D.fault_count D.moment D.images self.now).state.counts.faults }
+    {
+        self.disk.faults()
+    }
+
+    /// How often a call answered [`StoreFault::Full`].
+    pub fn fulls(&self) -> u64
+        ensures { result ≡ (stand_of D.tells D.content D.fault_count D.moment D.images self.now).state.counts.fulls }
+    {
+        self.fulls
+    }
+
+    /// The count of faults after the call that answered [`StoreFault::Disk`]; `None` for a store that is whole.
+    pub fn broken(&self) -> Option<u64>
+        ensures { result ≡ (stand_of D.tells D.content D.fault_count D.moment D.images self.now).state.counts.broken }
+    {
+        self.broken
+    }
+
+    /// How many records were appended since the store was opened.
+    pub fn appended(&self) -> u64
+        ensures { result ≡ (stand_of D.tells D.content D.fault_count D.moment D.images self.now).state.appended }
+    {
+        self.books.appended()
+    }
+
+    /// Where a sender and key stand. It takes no memory.
+    pub fn known(&self, from: &Addr, key: &FileKey) -> Known
+        ensures { result ≡ known_in (address from.now) (key_in key.now) (stand_of D.tells D.content D.fault_count D.moment D.images self.now).state.stock.state }
+    {
+        known(from, key, self.books.folded())
+    }
+
+    /// The mark of a sender and key. It takes no memory.
+    pub fn mark_of(&self, from: &Addr, key: &FileKey) -> Option<PartAt>
+        ensures { result ≡ option_map part_at (mark_in (address from.now) (key_in key.now) (stand_of D.tells D.content D.fault_count D.moment D.images self.now).state.stock.state) }
+    {
+        mark_of(from, key, self.books.folded())
+    }
+
+    /// The records appended from now on are this seat's. It takes no memory.
+    pub fn by(&mut self, seat: u32)
+        requires { self.old.memory.broken ≡ None }
+        ensures { StoreKept (stand_of D.tells D.content D.fault_count D.moment D.images self.old) (By_seat seat) Well (stand_of D.tells D.content D.fault_count D.moment D.images self.new) }
+    {
+        self.seat = seat;
+    }
+
+    /// Gives reserved places back. It takes no memory.
+    pub fn release(&mut self, places: u32)
+        requires whole { self.old.memory.broken ≡ None }
+        requires reserved { places ≤ self.old.memory.books.reserved }
+        ensures { StoreKept (stand_of D.tells D.content D.fault_count D.moment D.images self.old) (Release places) Well (stand_of D.tells D.content D.fault_count D.moment D.images self.new) }
+    {
+        self.books.release(places);
+    }
+
+    /// Reserves places for the next `places` records.
+    pub fn reserve(&mut self, places: u32) -> Result<(), StoreFault>
+        requires { self.old.memory.broken ≡ None }
+        ensures { StoreKept (stand_of D.tells D.content D.fault_count D.moment D.images self.old) (Reserve places) (well_answer result) (stand_of D.tells D.content D.fault_count D.moment D.images self.new) }
+    {
+        match self.books.reserve(places) {
+            Ok(()) => Ok(()),
+            Err(AppendFault::NoMemory) => Err(StoreFault::NoMemory),
+            Err(AppendFault::Full) => {
+                self.fulls = self.fulls.saturating_add(1);
+                Err(StoreFault::Full)
+            }
+            Err(AppendFault::Disk) => unreachable!(),
+        }
+    }
+
+    /// Puts bytes behind those of an open part. It takes no memory.
+    pub fn part_put(&mut self, part: u32, bytes: &[u8]) -> Result<(), StoreFault>
+        requires whole { self.old.memory.broken ≡ None }
+        requires fits { IsOpen part (length bytes.now) (stand_of D.tells D.content D.fault_count D.moment D.images self.old).state }
+        ensures { StoreKept (stand_of D.tells D.content D.fault_count D.moment D.images self.old) (Part_put part bytes.now) (well_answer result) (stand_of D.tells D.content D.fault_count D.moment D.images self.new) }
+    {
+        let at = have_of(part, self.parts.as_slice());
+        match self.disk.write_at(&in_file(part), at, bytes) {
+            Ok(()) => {
+                grow(part, bytes.len(), &mut self.parts);
+                Ok(())
+            }
+            Err(_) => {
+                self.broken = Some(self.disk.faults());
+                Err(StoreFault::Disk)
+            }
+        }
+    }
+}
