@@ -1,0 +1,33 @@
+//! Rows over two sessions that talk to one another: two nodes, each a hub over a store in memory, at the two ends of a
+//! line in memory.
+//!
+//! [`Node`] is a node that no session uses: who it is, and what it keeps. A [`Half`] is one end of a line with the session
+//! that a node holds over it, and [`talk`] lets two of these make their turns, one after the other, and carries what each
+//! wrote to the other.
+//!
+//! ```
+//! let near = Node::new(alloc, 1)?.queued(alloc, 2, Offered { index: 1, size: 4097 })?;
+//! let mut near = Half::new(alloc, near, Side::Calls(address(alloc, 2)?))?;
+//! let mut far = Half::new(alloc, Node::new(alloc, 2)?, Side::Answers)?;
+//! talk(alloc, &mut near, &mut far, u64::MAX)?;
+//! ```
+//!
+//! Nothing names this crate. Its tests stand here, above all that they run through, so that no crate of the program
+//! waits for them.
+#![tactic(auto)]
+
+mod half;
+mod node;
+mod offered;
+mod peer;
+mod talking;
+#[cfg(test)]
+mod tests;
+mod words;
+
+pub use half::{Half, Holding, Talk};
+pub use node::{Node, Who};
+pub use offered::{Offered, address};
+pub use peer::Peer;
+pub use talking::talk;
+pub use words::Words;
