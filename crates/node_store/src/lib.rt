@@ -13,7 +13,7 @@
 //! record of it; `books` is the ledger in memory with its fold; `lookups` finds files in the fold; `part` has open parts and
 //! staged files; `store` is the store; `laws` says what holds of every name, ledger and world.
 //!
-//! Left out: its opening, and the calls for parts, queued files, giving and acting.
+//! Left out: its opening, and the calls that open, mark and commit a part, and those for queued files, giving and acting.
 #![tactic(auto)]
 
 mod books;

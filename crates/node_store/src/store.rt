@@ -24,7 +24,7 @@ use std::marker::Model;
 
 /// A store on a disk: a ledger, and the own files beside it.
 ///
-/// It is begun: its calls so far are those that touch no file.
+/// It is begun: its calls so far reserve places, give them back, look files up, and put bytes into an open part.
 ///
 /// What a stop may leave of the disk opens to what the store keeps, unless the disk failed. So the disk is never lent for
 /// writing.
