@@ -50,7 +50,7 @@ reserved_whole v w places unbroken k whole =
     let more : Fitted (record v.state { reserved = v.state.reserved + places }) (no_seats plain_settings) = record { keeps = f.keeps; tells = f.tells; fits = reserved_fits f.keeps v.state places k.made.0 f.fits } in
     record {
       fitted = λ still. subst (λ (s : StoreState). Fitted s (no_seats plain_settings)) (sym k.made.1) more;
-      settled = λ still. k.now tt;
+      settled = k.now;
     }
 
 pub reserved_unbroken : (v w : StoreStand) (places : ℕ) → v.state.counts.broken ≡ None → StoreKept v (Reserve places) Well w → w.state.counts.broken ≡ None

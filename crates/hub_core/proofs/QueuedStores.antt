@@ -65,7 +65,7 @@ staged_fitted settings bytes s f =
 pub staged_whole : (settings : Settings) (w v : StoreStand) (bytes : List ℕ) (number : ℕ) → w.state.counts.broken ≡ None → StoreKept w (Stage bytes) (Staged_as number) v → IsWhole w (no_seats settings) → IsWhole v (no_seats settings)
 staged_whole settings w v bytes number unbroken kept whole = record {
   fitted = λ _. subst (λ (s : StoreState). Fitted s (no_seats settings)) (sym kept.made.2) (staged_fitted settings bytes w.state (whole.fitted unbroken));
-  settled = λ _. kept.now tt;
+  settled = kept.now;
 }
 
 -- Queueing.
@@ -126,5 +126,5 @@ queued_fitted settings f s batch few room fitted =
 pub queued_whole : (settings : Settings) (w v : StoreStand) (f : NewEntry) (slots : List Slot) → w.state.counts.broken ≡ None → IsNewBatch None None (f ∷ []) w.state → f.number ≤ w.state.staged → StoreKept w (Queue_all None None (f ∷ [])) (Slots slots) v → IsWhole w (no_seats settings) → IsWhole v (no_seats settings)
 queued_whole settings w v f slots unbroken batch few kept whole = record {
   fitted = λ _. subst (λ (s : StoreState). Fitted s (no_seats settings)) (sym kept.made.2) (queued_fitted settings f w.state batch few kept.made.1 (whole.fitted unbroken));
-  settled = λ _. kept.now tt;
+  settled = kept.now;
 }
