@@ -1,5 +1,5 @@
 -- What is read of a home within the limits is an address within the limits.
-use Rattle.std.proofs.Common.{◌≡◌, ℕ, ◌+◌, ◌<◌, ◌≤◌, Bool, true, false, not, ◌&&◌, ltb, List, [], ◌∷◌, length, map, Option, Some, None, Result, Ok, Err, refl, subst, arith}
+use Rattle.std.proofs.Common.{◌≡◌, ℕ, ◌+◌, ◌<◌, ◌≤◌, Bool, true, false, not, ◌&&◌, ltb, List, [], ◌∷◌, length, map, Option, Some, None, Result, Ok, Err, refl, sym, subst, arith}
 use Rattle.std.specs.Prelude.{◌||◌, nat_le, if◌then◌else◌, IfOk}
 use Rattle.std.specs.Char.{to_ascii_lowercase}
 use Rattle.std.specs.List.{list_all}
@@ -44,7 +44,7 @@ lower_byte c = go (ltb c 65) (ltb c 91) refl refl
         rw (s, t, below, past) refl
     go false false s t = rw (s, t, s, t) refl
 
-lower_lower : (bytes : List ℕ) → map to_ascii_lowercase (map to_ascii_lowercase bytes) ≡ map to_ascii_lowercase bytes
+pub lower_lower : (bytes : List ℕ) → map to_ascii_lowercase (map to_ascii_lowercase bytes) ≡ map to_ascii_lowercase bytes
 lower_lower [] = refl
 lower_lower (x ∷ xs) = rw (lower_byte x, lower_lower xs) refl
 
@@ -61,7 +61,7 @@ lower_bytes : (bytes : List ℕ) → list_all domain_byte bytes ≡ true → lis
 lower_bytes [] h = refl
 lower_bytes (x ∷ xs) h = let parts = and_parts (domain_byte x) (list_all domain_byte xs) h in and_from _ _ (lower_domain_byte x parts.0) (lower_bytes xs parts.1)
 
-lower_domain : (bytes : List ℕ) → is_domain bytes ≡ true → is_domain (map to_ascii_lowercase bytes) ≡ true
+pub lower_domain : (bytes : List ℕ) → is_domain bytes ≡ true → is_domain (map to_ascii_lowercase bytes) ≡ true
 lower_domain bytes h =
     let outer = and_parts (ltb 0 (length bytes) && nat_le (length bytes) 32) (list_all domain_byte bytes) h in
     rw length-map (and_from _ _ outer.0 (lower_bytes bytes outer.1))
@@ -82,28 +82,46 @@ good_or : (p : Option Piece) (missing d : List ℕ) → IsDomain missing → dom
 good_or None missing d good e = let same : missing ≡ d = cc in subst IsDomain same good
 good_or (Some piece) missing d good e = good_domain piece d e
 
-of_pieces : (p : Option Pieces) (home a : Address) → IsAddress home → reading_of p home ≡ Ok a → IsAddress a
-of_pieces None home a is e = absurd (let clash : Err NoNet ≡ Ok a = e in cc)
-of_pieces (Some pieces) home a is e =
+-- what is read of a home with such a domain is within the limits, if its zone is
+pieces_within : (p : Option Pieces) (home a : Address) → IsDomain home.domain → reading_of p home ≡ Ok a → a.zone ≤ 32767 → IsAddress a
+pieces_within None home a good e small = absurd (let clash : Err NoNet ≡ Ok a = e in cc)
+pieces_within (Some pieces) home a good e small =
     let zone = steps_ok (number_or pieces.zone home.zone) _ a e in
     let net = steps_ok (number_at pieces.net) _ a zone.2 in
     let node = steps_ok (number_at pieces.node) _ a net.2 in
     let point = steps_ok (number_or pieces.point 0) _ a node.2 in
     let domain = steps_ok (domain_or pieces.domain home.domain) _ a point.2 in
-    let good = good_or pieces.domain home.domain domain.0 (is.domain, is.lower_case) domain.1 in
+    let kept = good_or pieces.domain home.domain domain.0 good domain.1 in
     let read : Address = record { zone = zone.0; net = net.0; node = node.0; point = point.0; domain = domain.0 } in
     let same : read ≡ a = cc in
     subst IsAddress same (record {
-      zone = small_or pieces.zone home.zone zone.0 is.zone zone.1;
+      zone = subst (λ (b : Address). b.zone ≤ 32767) (sym same) small;
       net = small_number pieces.net net.0 net.1;
       node = small_number pieces.node node.0 node.1;
       point = small_or pieces.point 0 point.0 (omega arith) point.1;
-      domain = good.0;
-      lower_case = good.1;
+      domain = kept.0;
+      lower_case = kept.1;
     })
 
+-- a home's zone within the limits keeps the zone within them
+zone_within : (p : Option Pieces) (home a : Address) → home.zone ≤ 32767 → reading_of p home ≡ Ok a → a.zone ≤ 32767
+zone_within None home a small e = absurd (let clash : Err NoNet ≡ Ok a = e in cc)
+zone_within (Some pieces) home a small e =
+    let zone = steps_ok (number_or pieces.zone home.zone) _ a e in
+    let net = steps_ok (number_at pieces.net) _ a zone.2 in
+    let node = steps_ok (number_at pieces.node) _ a net.2 in
+    let point = steps_ok (number_or pieces.point 0) _ a node.2 in
+    let domain = steps_ok (domain_or pieces.domain home.domain) _ a point.2 in
+    let read : Address = record { zone = zone.0; net = net.0; node = node.0; point = point.0; domain = domain.0 } in
+    let same : read ≡ a = cc in
+    subst (λ (b : Address). b.zone ≤ 32767) same (small_or pieces.zone home.zone zone.0 small zone.1)
+
+-- the same of a home whose zone may be any, as where a text names none
+pub reading_within_zone : (text : List ℕ) (home a : Address) → IsDomain home.domain → reading text home ≡ Ok a → a.zone ≤ 32767 → IsAddress a
+reading_within_zone text home a good e small = pieces_within (pieces_of text) home a good e small
+
 pub reading-limits : (text : List ℕ) (home a : Address) → IsAddress home → reading text home ≡ Ok a → IsAddress a
-reading-limits text home a is e = of_pieces (pieces_of text) home a is e
+reading-limits text home a is e = pieces_within (pieces_of text) home a (is.domain, is.lower_case) e (zone_within (pieces_of text) home a is.zone e)
 
 pub read_within : (text : List ℕ) (home : Address) (read : Result Addr AddrFault) → Gives NoMemory address read (reading text home) → IsAddress home → IfOk read (λ addr. IsAddress (address addr))
 read_within text home (Ok addr) gives is = reading-limits text home (address addr) is gives

@@ -1,1 +1,2 @@
 pub mod KnownAddresses
+pub mod Limits

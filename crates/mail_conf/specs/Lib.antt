@@ -6,6 +6,7 @@ pub mod Draft
 pub mod Drafted
 pub mod Host
 pub mod Known
+pub mod Limits
 pub mod Line
 pub mod Values
 pub mod Views

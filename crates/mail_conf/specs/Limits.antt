@@ -1,0 +1,16 @@
+-- What settings that were read keep to (own).
+use Rattle.std.specs.Prelude.{◌≡◌, ℕ, ◌<◌, List, length, Ok}
+use Rattle.std.specs.List.{All}
+use Rattle.ftn_addr.specs.Limits.{IsAddress}
+use Rattle.mail_conf.specs.Conf.{ConfText, conf_of}
+use Rattle.mail_conf.specs.Host.{NodeText}
+
+-- one own address at least, and each address within the limits, also those of other nodes
+pub record KeepsLimits (c : ConfText) : Type 0 where
+  pub some : 0 < length c.addresses
+  pub addresses : All IsAddress c.addresses
+  pub nodes : All (λ (node : NodeText). IsAddress node.addr) c.nodes
+
+-- so it is with the settings of each text
+abbrev pub EachKeepsLimits : Type 0
+EachKeepsLimits = (text : List ℕ) (c : ConfText) → conf_of text ≡ Ok c → KeepsLimits c
