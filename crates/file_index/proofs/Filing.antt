@@ -16,11 +16,11 @@ use Rattle.ftn_addr.specs.declared.addr.FileKey.{FileKey}
 use Rattle.file_index.specs.Filed.{has, has_address}
 use Rattle.file_index.proofs.Order.{by_address, by_key, address-cmp, key-cmp, same_key_is, same_key-flips, same_address-flips}
 
-lookup_same : {K X : Type 0} (p q : K → Bool) → ((k : K) → p k ≡ q k) → (es : List (K × X)) → lookup p es ≡ lookup q es
+pub lookup_same : {K X : Type 0} (p q : K → Bool) → ((k : K) → p k ≡ q k) → (es : List (K × X)) → lookup p es ≡ lookup q es
 lookup_same p q same [] = refl
 lookup_same p q same (e ∷ es) = rw (same e.0, lookup_same p q same es) refl
 
-any_same : {K : Type 0} (p q : K → Bool) → ((k : K) → p k ≡ q k) → (ks : List K) → list_any p ks ≡ list_any q ks
+pub any_same : {K : Type 0} (p q : K → Bool) → ((k : K) → p k ≡ q k) → (ks : List K) → list_any p ks ≡ list_any q ks
 any_same p q same [] = refl
 any_same p q same (k ∷ ks) = rw (same k, any_same p q same ks) refl
 

@@ -1,3 +1,4 @@
-mod Filing
+pub mod Filing
 pub mod Order
 mod Places
+pub mod Turning

@@ -1,10 +1,10 @@
 -- Where keys and addresses compare equal.
-use Rattle.std.proofs.Common.{◌≡◌, ℕ, Bool, true, false, List, [], ◌∷◌, refl, sym, ap, subst, ◌∙◌, inl, inr, rules, arith}
+use Rattle.std.proofs.Common.{◌≡◌, ℕ, Bool, true, false, List, refl, sym, subst, ◌∙◌, inl, inr, arith}
 use Rattle.std.specs.Prelude.{◌==◌, ◌&&◌, nat_eq}
 use Rattle.std.specs.declared.cmp.Ordering.{Ordering}
 use Rattle.std.specs.declared.cmp.Ordering.TheVariants.{Less, Equal, Greater}
 use Rattle.std.specs.Ordering.{is_eq, ordering_then, nat_cmp}
-use Rattle.std.specs.Cmp.Lexicographic.{slice_cmp, pointwise}
+use Rattle.std.specs.Cmp.Lexicographic.{pointwise}
 use Rattle.std.proofs.lemmas.Bool.Decides.{nat_tests, Decides-eqb}
 use Rattle.std.proofs.lemmas.Bool.{cases_Bool, true≢false}
 use Rattle.std.proofs.lemmas.Slice.Eq.{slice_eq-Decides}
@@ -27,10 +27,10 @@ then_eq Less p = refl
 then_eq Equal p = refl
 then_eq Greater p = refl
 
-nat_eq_cmp : (a b : ℕ) → is_eq (nat_cmp a b) ≡ (a == b)
+pub nat_eq_cmp : (a b : ℕ) → is_eq (nat_cmp a b) ≡ (a == b)
 nat_eq_cmp a b = grind (arith, nat_tests)
 
-then_and : (o p : Ordering) (a b : Bool) → is_eq o ≡ a → is_eq p ≡ b → is_eq (ordering_then o p) ≡ (a && b)
+pub then_and : (o p : Ordering) (a b : Bool) → is_eq o ≡ a → is_eq p ≡ b → is_eq (ordering_then o p) ≡ (a && b)
 then_and o p a b one two = then_eq o p ∙ rw (one, two) refl
 
 pub address-cmp : (a b : Addr) → is_eq (by_address a b) ≡ same_address (address a) (address b)

@@ -1,15 +1,18 @@
-//! Ordered indices beside lists: which files of which addresses stand in a list, and where a number stands.
+//! Ordered indices beside lists: which files of which addresses stand in a list, where a number stands, and whose turn
+//! comes next.
 //!
 //! A look-up takes steps in proportion to the logarithm of what is noted, and no memory. To note one more
 //! takes memory; where there is none, the index isn't whole any more, and its caller walks the list.
 //!
-//! Left out: the lists themselves, and taking anything out.
+//! Left out: the lists themselves, and taking files and numbers out.
 #![tactic(auto)]
 
 mod files;
 mod numbers;
 #[cfg(test)]
 mod tests;
+mod turns;
 
 pub use files::FileIndex;
 pub use numbers::NumberIndex;
+pub use turns::{Turn, TurnIndex};

@@ -1,4 +1,4 @@
-use crate::{FileIndex, NumberIndex};
+use crate::{FileIndex, NumberIndex, Turn, TurnIndex};
 use ftn_addr::{Addr, Bytes, FileKey};
 use std::alloc::Global;
 use std::test::Fail;
@@ -61,5 +61,52 @@ fn a_number_stands_where_it_came_first(rt: HostRuntime) -> Result<(), Fail> {
     assert_eq!(rt; index.start(9, 4), 0);
     assert_eq!(rt; index.start(7, 4), 1);
     assert_eq!(rt; index.start(8, 4), 4);
+    Ok(())
+}
+
+// By rank, then by number.
+const FIRST: Turn = Turn { rank: 0, number: 9 };
+
+const SECOND: Turn = Turn { rank: 3, number: 7 };
+
+const THIRD: Turn = Turn { rank: 3, number: 8 };
+
+fn waiting(alloc: Global, to: &Addr) -> TurnIndex {
+    let mut index = TurnIndex::new(alloc);
+    index.note(to, THIRD);
+    index.note(to, FIRST);
+    index.note(to, SECOND);
+    index
+}
+
+#[test]
+fn turns_come_by_rank_and_then_by_number(rt: HostRuntime) -> Result<(), Fail> {
+    let to = addr(rt.alloc(), 13)?;
+    let index = waiting(rt.alloc(), &to);
+    assert_eq!(rt; index.next(&to, None), Some(Some(FIRST)));
+    assert_eq!(rt; index.next(&to, Some(FIRST)), Some(Some(SECOND)));
+    assert_eq!(rt; index.next(&to, Some(SECOND)), Some(Some(THIRD)));
+    assert_eq!(rt; index.next(&to, Some(THIRD)), Some(None));
+    Ok(())
+}
+
+#[test]
+fn no_turn_of_another_address_comes(rt: HostRuntime) -> Result<(), Fail> {
+    let to = addr(rt.alloc(), 13)?;
+    let other = addr(rt.alloc(), 14)?;
+    let index = waiting(rt.alloc(), &to);
+    assert_eq!(rt; index.next(&other, None), Some(None));
+    Ok(())
+}
+
+#[test]
+fn a_turn_that_was_taken_out_comes_no_more(rt: HostRuntime) -> Result<(), Fail> {
+    let to = addr(rt.alloc(), 13)?;
+    let mut index = waiting(rt.alloc(), &to);
+    index.remove(&to, SECOND);
+    assert_eq!(rt; index.next(&to, Some(FIRST)), Some(Some(THIRD)));
+    index.remove(&to, FIRST);
+    index.remove(&to, FIRST);
+    assert_eq!(rt; index.next(&to, None), Some(Some(THIRD)));
     Ok(())
 }

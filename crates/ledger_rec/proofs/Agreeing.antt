@@ -1,5 +1,5 @@
 -- The indices, once the lists change.
-use Rattle.std.proofs.Common.{◌≡◌, ℕ, zero, suc, ◌+◌, Bool, true, false, ◌&&◌, ◌||◌, List, [], ◌∷◌, ◌++◌, length, map, Option, Some, None, Result, Ok, Err, refl, sym, ap, subst, ◌∙◌, inl, inr, arith}
+use Rattle.std.proofs.Common.{◌≡◌, ℕ, Bool, true, false, ◌&&◌, ◌||◌, List, [], ◌∷◌, ◌++◌, map, Option, Some, None, Result, Ok, Err, refl, sym, ap, subst, ◌∙◌, inl, inr, arith}
 use Rattle.std.specs.Prelude.{nat_lt, option_map, if◌then◌else◌}
 use Rattle.std.specs.List.{list_all, list_any}
 use Rattle.std.proofs.lemmas.Bool.{cases_Bool, and_parts}
@@ -11,7 +11,7 @@ use Rattle.file_index.specs.Filed.{Files}
 use Rattle.file_index.specs.Numbered.{Numbers}
 use Rattle.file_index.specs.declared.files.FileIndex.{FileIndex}
 use Rattle.file_index.specs.declared.numbers.NumberIndex.{NumberIndex}
-use Rattle.ledger_rec.specs.Fold.{State, is_known, is_received, is_refused, changed, new_entry, new_receipt, new_refusal, with_queued, with_receipt, with_refusal, with_number}
+use Rattle.ledger_rec.specs.Fold.{State, is_received, is_refused, changed, new_entry, new_receipt, new_refusal, with_queued, with_receipt, with_refusal, with_number}
 use Rattle.ledger_rec.specs.Indexed.{Agrees, is_queued, are_below, is_empty}
 use Rattle.ledger_rec.specs.Items.{Entry, Receipt, Refusal}
 use Rattle.ledger_rec.specs.Record.{NewFileText, ReceivedText, RefusedText}
@@ -89,10 +89,11 @@ below_last r es n rising =
 pub agrees_queued : (x y : Index) (s : State) (r : NewFileText) → Agrees x s → are_below r.number s.queue ≡ true
     → Files y.queued (λ dest key. is_queued dest key s.queue || is_same dest key r.dest r.key)
     → Numbers y.numbers (map (λ (e : Entry). e.number) s.queue ++ r.number ∷ [])
-    → y.greatest ≡ r.number → y.known ≡ x.known → y.receipts ≡ x.receipts → y.parts ≡ x.parts → y.takes ≡ x.takes
+    → y.greatest ≡ r.number → y.received ≡ x.received → y.refused ≡ x.refused → y.receipts ≡ x.receipts → y.parts ≡ x.parts → y.takes ≡ x.takes
     → Agrees y (with_queued r s)
-agrees_queued x y s r agrees rising queued numbers greatest known receipts parts takes = record {
-  known = subst (λ (f : FileIndex). Files f (λ from key. is_known from key s)) (sym known) agrees.known;
+agrees_queued x y s r agrees rising queued numbers greatest received refused receipts parts takes = record {
+  received = subst (λ (f : FileIndex). Files f (λ from key. is_received from key s.inbox)) (sym received) agrees.received;
+  refused = subst (λ (f : FileIndex). Files f (λ from key. is_refused from key s.refused)) (sym refused) agrees.refused;
   queued = files_alike y.queued _ _ (λ a k. sym (any_more (λ (e : Entry). is_same a k e.dest e.key) s.queue (new_entry r))) queued;
   numbers = numbers_alike y.numbers _ _ (map_more (λ (e : Entry). e.number) s.queue (new_entry r)) numbers;
   receipts = subst (λ (f : NumberIndex). Numbers f (map (λ (i : Receipt). i.number) s.inbox)) (sym receipts) agrees.receipts;
@@ -101,28 +102,16 @@ agrees_queued x y s r agrees rising queued numbers greatest known receipts parts
   below = λ n. below_last r s.queue n rising ∙ ap (λ (g : ℕ). is_empty (s.queue ++ new_entry r ∷ []) || nat_lt g n) (sym greatest);
 }
 
-swap : (a b c : Bool) → ((a || b) || c) ≡ ((a || c) || b)
-swap true b c = refl
-swap false true true = refl
-swap false true false = refl
-swap false false true = refl
-swap false false false = refl
-
-behind : (a b c : Bool) → ((a || b) || c) ≡ (a || (b || c))
-behind true b c = refl
-behind false b c = refl
-
 -- a file more in the inbox
 pub agrees_received : (x y : Index) (s : State) (r : ReceivedText) → Agrees x s
-    → Files y.known (λ from key. is_known from key s || is_same from key r.from r.key)
+    → Files y.received (λ from key. is_received from key s.inbox || is_same from key r.from r.key)
     → Numbers y.receipts (map (λ (i : Receipt). i.number) s.inbox ++ r.receipt ∷ [])
     → Numbers y.parts (with_number r.receipt s.parts)
-    → y.queued ≡ x.queued → y.numbers ≡ x.numbers → y.takes ≡ x.takes → y.greatest ≡ x.greatest
+    → y.refused ≡ x.refused → y.queued ≡ x.queued → y.numbers ≡ x.numbers → y.takes ≡ x.takes → y.greatest ≡ x.greatest
     → Agrees y (with_receipt r s)
-agrees_received x y s r agrees known receipts parts queued numbers takes greatest = record {
-  known = files_alike y.known _ _ (λ a k.
-      swap (is_received a k s.inbox) (is_refused a k s.refused) (is_same a k r.from r.key)
-      ∙ ap (λ (b : Bool). b || is_refused a k s.refused) (sym (any_more (λ (i : Receipt). is_same a k i.from i.key) s.inbox (new_receipt r)))) known;
+agrees_received x y s r agrees received receipts parts refused queued numbers takes greatest = record {
+  received = files_alike y.received _ _ (λ a k. sym (any_more (λ (i : Receipt). is_same a k i.from i.key) s.inbox (new_receipt r))) received;
+  refused = subst (λ (f : FileIndex). Files f (λ from key. is_refused from key s.refused)) (sym refused) agrees.refused;
   queued = subst (λ (f : FileIndex). Files f (λ dest key. is_queued dest key s.queue)) (sym queued) agrees.queued;
   numbers = subst (λ (f : NumberIndex). Numbers f (map (λ (e : Entry). e.number) s.queue)) (sym numbers) agrees.numbers;
   receipts = numbers_alike y.receipts _ _ (map_more (λ (i : Receipt). i.number) s.inbox (new_receipt r)) receipts;
@@ -133,13 +122,12 @@ agrees_received x y s r agrees known receipts parts queued numbers takes greates
 
 -- a file more that is refused
 pub agrees_refused : (x y : Index) (s : State) (r : RefusedText) → Agrees x s
-    → Files y.known (λ from key. is_known from key s || is_same from key r.from r.key)
-    → y.queued ≡ x.queued → y.numbers ≡ x.numbers → y.receipts ≡ x.receipts → y.parts ≡ x.parts → y.takes ≡ x.takes → y.greatest ≡ x.greatest
+    → Files y.refused (λ from key. is_refused from key s.refused || is_same from key r.from r.key)
+    → y.received ≡ x.received → y.queued ≡ x.queued → y.numbers ≡ x.numbers → y.receipts ≡ x.receipts → y.parts ≡ x.parts → y.takes ≡ x.takes → y.greatest ≡ x.greatest
     → Agrees y (with_refusal r s)
-agrees_refused x y s r agrees known queued numbers receipts parts takes greatest = record {
-  known = files_alike y.known _ _ (λ a k.
-      behind (is_received a k s.inbox) (is_refused a k s.refused) (is_same a k r.from r.key)
-      ∙ ap (λ (b : Bool). is_received a k s.inbox || b) (sym (any_more (λ (i : Refusal). is_same a k i.from i.key) s.refused (new_refusal r)))) known;
+agrees_refused x y s r agrees refused received queued numbers receipts parts takes greatest = record {
+  received = subst (λ (f : FileIndex). Files f (λ from key. is_received from key s.inbox)) (sym received) agrees.received;
+  refused = files_alike y.refused _ _ (λ a k. sym (any_more (λ (i : Refusal). is_same a k i.from i.key) s.refused (new_refusal r))) refused;
   queued = subst (λ (f : FileIndex). Files f (λ dest key. is_queued dest key s.queue)) (sym queued) agrees.queued;
   numbers = subst (λ (f : NumberIndex). Numbers f (map (λ (e : Entry). e.number) s.queue)) (sym numbers) agrees.numbers;
   receipts = subst (λ (f : NumberIndex). Numbers f (map (λ (i : Receipt). i.number) s.inbox)) (sym receipts) agrees.receipts;
@@ -150,11 +138,11 @@ agrees_refused x y s r agrees known queued numbers receipts parts takes greatest
 
 -- one item changed: what doesn't read the change is the same
 
-mapped_some : {A B : Type 0} (f : A → B) (o : Option A) (b : B) → option_map f o ≡ Some b → (a : A) × (o ≡ Some a) × (f a ≡ b)
+pub mapped_some : {A B : Type 0} (f : A → B) (o : Option A) (b : B) → option_map f o ≡ Some b → (a : A) × (o ≡ Some a) × (f a ≡ b)
 mapped_some f None b is = absurd (cc is)
 mapped_some f (Some a) b is = (a, refl, cc is)
 
-changed_map : {A B : Type 0} (p : A → Bool) (f : A → A) (g : A → B) → ((x : A) → g (f x) ≡ g x) → (xs ys : List A) → changed p f xs ≡ Some ys → map g ys ≡ map g xs
+pub changed_map : {A B : Type 0} (p : A → Bool) (f : A → A) (g : A → B) → ((x : A) → g (f x) ≡ g x) → (xs ys : List A) → changed p f xs ≡ Some ys → map g ys ≡ map g xs
 changed_map p f g same [] ys is = absurd (cc is)
 changed_map p f g same (x ∷ xs) ys is = elim (cases_Bool (p x)) as (λ _. map g ys ≡ map g (x ∷ xs)) [
   | inl here ↦ (let now : Some (f x ∷ xs) ≡ Some ys = sym (ap (λ (b : Bool). if b then Some (f x ∷ xs) else option_map (λ zs. x ∷ zs) (changed p f xs)) here) ∙ is in
@@ -191,7 +179,8 @@ empty_map g (x ∷ xs) = refl
 -- a queue of the same names
 pub agrees_names : (x : Index) (s : State) (queue : List Entry) → map named queue ≡ map named s.queue → Agrees x s → Agrees x (record s { queue = queue })
 agrees_names x s queue same agrees = record {
-  known = agrees.known;
+  received = agrees.received;
+  refused = agrees.refused;
   queued = files_alike x.queued _ _ (λ a k.
       sym (any_map (λ (n : Named). is_same a k n.1 n.2) named s.queue) ∙ ap (list_any (λ (n : Named). is_same a k n.1 n.2)) (sym same) ∙ any_map (λ (n : Named). is_same a k n.1 n.2) named queue) agrees.queued;
   numbers = numbers_alike x.numbers _ _ (sym (map_map (λ (n : Named). n.0) named s.queue) ∙ ap (map (λ (n : Named). n.0)) (sym same) ∙ map_map (λ (n : Named). n.0) named queue) agrees.numbers;
@@ -214,8 +203,9 @@ filed r = (r.number, r.from, r.key)
 -- an inbox of the same names
 pub agrees_filed : (x : Index) (s : State) (inbox : List Receipt) → map filed inbox ≡ map filed s.inbox → Agrees x s → Agrees x (record s { inbox = inbox })
 agrees_filed x s inbox same agrees = record {
-  known = files_alike x.known _ _ (λ a k. ap (λ (b : Bool). b || is_refused a k s.refused)
-      (sym (any_map (λ (n : Filed). is_same a k n.1 n.2) filed s.inbox) ∙ ap (list_any (λ (n : Filed). is_same a k n.1 n.2)) (sym same) ∙ any_map (λ (n : Filed). is_same a k n.1 n.2) filed inbox)) agrees.known;
+  received = files_alike x.received _ _ (λ a k.
+      sym (any_map (λ (n : Filed). is_same a k n.1 n.2) filed s.inbox) ∙ ap (list_any (λ (n : Filed). is_same a k n.1 n.2)) (sym same) ∙ any_map (λ (n : Filed). is_same a k n.1 n.2) filed inbox) agrees.received;
+  refused = agrees.refused;
   queued = agrees.queued;
   numbers = agrees.numbers;
   receipts = numbers_alike x.receipts _ _ (sym (map_map (λ (n : Filed). n.0) filed s.inbox) ∙ ap (map (λ (n : Filed). n.0)) (sym same) ∙ map_map (λ (n : Filed). n.0) filed inbox) agrees.receipts;

@@ -1,14 +1,13 @@
 -- The fold of records, one after another.
 use Rattle.std.proofs.Common.{◌≡◌, List, [], ◌∷◌, ◌++◌, Bool, true, false, ◌&&◌, map, Option, Some, None, ℕ, refl, sym, ap, subst, ◌∙◌, inl, inr, append_assoc}
-use Rattle.std.specs.Prelude.{option_and_then, option_map, is_some, IsSome, not, nat_lt, ◌||◌, if◌then◌else◌}
-use Rattle.std.specs.List.{list_any}
+use Rattle.std.specs.Prelude.{option_and_then, option_map, is_some, IsSome, not, nat_lt, if◌then◌else◌}
 use Rattle.std.proofs.lemmas.Bool.{cases_Bool, and_parts}
 use Rattle.std.proofs.lemmas.List.{map-append}
 use Rattle.ledger_rec.proofs.Agreeing.{map_more}
 use Rattle.ledger_rec.specs.Batch.{queue_records, taken_records, answered_records, may_follow, all_queued}
-use Rattle.ledger_rec.specs.Fold.{State, fold_step, fold_all, may_queue, with_queued, new_entry, changed, waits_for_answer, answered, is_among}
+use Rattle.ledger_rec.specs.Fold.{State, fold_step, fold_all, may_queue, new_entry, changed, waits_for_answer, answered, is_among}
 use Rattle.ledger_rec.specs.Items.{Entry, Receipt}
-use Rattle.ledger_rec.specs.Record.{NewFileText, RecordText, Queue, Taken, Answered}
+use Rattle.ledger_rec.specs.Record.{NewFileText, RecordText, Queue}
 
 -- the state, and what is folded from it
 abbrev pub then_all : List RecordText → Option State → Option State

@@ -1,5 +1,5 @@
 -- What one home reads, each home reads.
-use Rattle.std.proofs.Common.{◌≡◌, ◌≢◌, ℕ, Bool, true, false, List, ◌∷◌, [], Result, Ok, Err, refl, sym, ap, ◌∙◌, subst, arith, inl, inr, nat_eq}
+use Rattle.std.proofs.Common.{◌≡◌, ◌≢◌, ℕ, Bool, true, false, List, Result, Ok, Err, refl, sym, ap, ◌∙◌, subst, arith, inl, inr, nat_eq}
 use Rattle.std.specs.Prelude.{if◌then◌else◌, ◌==◌, IfOk}
 use Rattle.std.specs.Cmp.Lexicographic.{pointwise}
 use Rattle.std.proofs.lemmas.Bool.{cases_Bool}
@@ -15,8 +15,8 @@ use Rattle.ftn_addr.specs.declared.reading.AddrFault.{AddrFault}
 use Rattle.ledger_rec.proofs.ReadBack.{canonical_again, record_of_payload}
 use Rattle.ledger_rec.specs.Limits.{HasNumbers}
 use Rattle.ledger_rec.specs.Payloads.{nowhere, record_in}
-use Rattle.ledger_rec.specs.Reading.{Read, if_canonical, byte_at, number_at, canonical_at, bytes_at, address_at, key_at, path_at, wide_at, if_last, new_file_at, received_at, refused_at, mark_at, pair_at, one_at, fields_at, record_at}
-use Rattle.ledger_rec.specs.Record.{record_of, RecordText, Queue, Done, Received, Refused, Mark, Taken, Acted, Answered, NewFileText, ReceivedText, RefusedText, MarkText}
+use Rattle.ledger_rec.specs.Reading.{if_canonical, byte_at, number_at, canonical_at, bytes_at, address_at, new_file_at, received_at, refused_at, mark_at, fields_at, record_at}
+use Rattle.ledger_rec.specs.Record.{record_of, RecordText, NewFileText, ReceivedText, RefusedText, MarkText}
 use Rattle.ledger_rec.specs.Spelling.{Spells}
 use Rattle.ledger_rec.specs.declared.fault.RecFault.{RecFault}
 use Rattle.ledger_rec.specs.declared.fault.RecFault.TheVariants.{BadRecord, NoMemory}

@@ -1,23 +1,26 @@
 -- A mark that stands, and is made longer.
-use Rattle.std.proofs.Common.{◌≡◌, ℕ, zero, suc, ◌+◌, ◌<◌, ◌≤◌, Bool, true, false, ◌&&◌, List, [], ◌∷◌, ◌++◌, length, get_or, map, Some, None, refl, sym, ap, subst, ◌∙◌, inl, inr, arith}
+use Rattle.std.proofs.Common.{◌≡◌, ℕ, zero, suc, ◌<◌, Bool, true, false, ◌&&◌, List, [], ◌∷◌, ◌++◌, length, get_or, map, Some, None, refl, sym, ap, subst, ◌∙◌, inl, inr, arith}
 use Rattle.std.specs.Prelude.{position, nat_lt, ◌==◌, ◌||◌, if◌then◌else◌}
-use Rattle.std.specs.List.{AllByRecursion, list_any, position_or_len, remove}
+use Rattle.std.specs.List.{AllByRecursion, position_or_len, remove}
 use Rattle.std.proofs.lemmas.Bool.{cases_Bool, and_parts, eqb-true, false≢true}
 use Rattle.std.proofs.lemmas.List.Quantifiers.{position-Some}
 use Rattle.file_index.proofs.Order.{same_address_is, same_key_is}
-use Rattle.file_index.specs.Numbered.{Numbers}
+use Rattle.file_index.specs.Turns.{Turns}
+use Rattle.file_index.specs.declared.turns.TurnIndex.{TurnIndex}
 use Rattle.ftn_addr.specs.Address.{Address, address, same_address}
 use Rattle.ftn_addr.specs.Files.{is_same}
 use Rattle.ftn_addr.specs.Key.{Key, key_of, same_key}
 use Rattle.ledger_rec.proofs.Changing.{past_end, found_any, none_any}
 use Rattle.ledger_rec.proofs.Mapped.{list_any_map}
 use Rattle.ledger_rec.proofs.OrderFold.{order_step}
+use Rattle.ledger_rec.proofs.Waits.{indexed_step, turns_same}
 use Rattle.ledger_rec.specs.Fold.{State, is_among, is_part_of, new_mark, unmarked, in_place, may_mark, with_number, with_mark, fold_step}
 use Rattle.ledger_rec.specs.Indexed.{Agrees}
 use Rattle.ledger_rec.specs.Items.{PartMark, part_mark}
 use Rattle.ledger_rec.specs.Lengthen.{Lengthens}
 use Rattle.ledger_rec.specs.Order.{IsOrderly}
 use Rattle.ledger_rec.specs.Record.{MarkText, Mark}
+use Rattle.ledger_rec.specs.Waiting.{is_waiting}
 use Rattle.ledger_rec.specs.declared.lengthen.Lengthened.{Lengthened}
 use Rattle.ledger_rec.specs.declared.lengthen.Lengthened.TheVariants.{Longer, NoMark, BadFold}
 use Rattle.ledger_rec.specs.declared.index.Index.{Index}
@@ -84,7 +87,7 @@ longer_state r s marks is used =
 
 -- the indices say nothing of marks
 pub agrees_marks : (x : Index) (s : State) (marks : List PartMark) → Agrees x s → Agrees x (record s { marks = marks })
-agrees_marks x s marks agrees = record { known = agrees.known; queued = agrees.queued; numbers = agrees.numbers; receipts = agrees.receipts; parts = agrees.parts; takes = agrees.takes; below = agrees.below }
+agrees_marks x s marks agrees = record { received = agrees.received; refused = agrees.refused; queued = agrees.queued; numbers = agrees.numbers; receipts = agrees.receipts; parts = agrees.parts; takes = agrees.takes; below = agrees.below }
 
 pub mark_folds : (r : MarkText) (s : State) → (nat_lt 0 r.part && may_mark r s) ≡ true → fold_step s (Mark r) ≡ Some (with_mark r s)
 mark_folds r s keeps = let parts = and_parts (nat_lt 0 r.part) (may_mark r s) keeps in rw (parts.0, parts.1) refl
@@ -100,3 +103,9 @@ pub order_longer : (result : Lengthened) (r : MarkText) (old new : State) → Le
 order_longer Longer r old new (stood, goes) orderly = order_step old (Mark r) new goes orderly
 order_longer NoMark r old new (stood, same) orderly = subst IsOrderly (sym same) orderly
 order_longer BadFold r old new (stood, breaks, same) orderly = subst IsOrderly (sym same) orderly
+
+-- a mark leaves the files that wait
+pub waits_longer : (index : TurnIndex) (result : Lengthened) (r : MarkText) (old new : State) → Lengthens result r old new → IsOrderly old → Turns index (is_waiting old.queue) → Turns index (is_waiting new.queue)
+waits_longer index Longer r old new (stood, goes) orderly turns = indexed_step index old (Mark r) new goes orderly turns
+waits_longer index NoMark r old new (stood, same) orderly turns = turns_same index old.queue new.queue (ap (λ (s : State). s.queue) (sym same)) turns
+waits_longer index BadFold r old new (stood, breaks, same) orderly turns = turns_same index old.queue new.queue (ap (λ (s : State). s.queue) (sym same)) turns

@@ -18,3 +18,5 @@ mod Planning
 pub mod ReadBack
 mod Spelled
 mod Starting
+mod Differing
+mod Waits

@@ -135,6 +135,7 @@ order_received s r may o =
     (λ part. part_alone r.receipt r.from r.key s.marks part o.apart)
     (λ new. all_left (λ (m : PartMark). m.number ≢ r.receipt) r.from r.key s.marks (unused_apart r.receipt s.parts s.marks (is_false (is_among r.receipt s.parts) new) o.marks)) numbered in
     record {
+      queue = o.queue;
       marks = all_left (λ (m : PartMark). is_among m.number (with_number r.receipt s.parts) ≡ true) r.from r.key s.marks
           (all_map (λ (m : PartMark). is_among m.number s.parts ≡ true) (λ (m : PartMark). is_among m.number (with_number r.receipt s.parts) ≡ true) (λ m among. among_more m.number r.receipt s.parts among) s.marks o.marks);
       inbox = all_last (λ (x : Receipt). is_among x.number (with_number r.receipt s.parts) ≡ true) s.inbox (new_receipt r)
@@ -158,6 +159,7 @@ order_marked s r may o =
     (⊎_elim (λ goes. part_number r.part x.number r.from r.key s.marks (part_goes_on r s.marks goes) known.1) (λ new same. true≢false (sym known.0 ∙ ap (λ (k : ℕ). is_among k s.parts) (sym same) ∙ unused new)) numbered)
     (all_left (λ (m : PartMark). m.number ≢ x.number) r.from r.key s.marks known.1) in
     record {
+      queue = o.queue;
       marks = all_placed (λ (m : PartMark). is_among m.number (with_number r.part s.parts) ≡ true) (new_mark r) (unmarked r.from r.key s.marks) (among_now r.part s.parts)
           (all_left (λ (m : PartMark). is_among m.number (with_number r.part s.parts) ≡ true) r.from r.key s.marks
           (all_map (λ (m : PartMark). is_among m.number s.parts ≡ true) (λ (m : PartMark). is_among m.number (with_number r.part s.parts) ≡ true) (λ m among. among_more m.number r.part s.parts among) s.marks o.marks));

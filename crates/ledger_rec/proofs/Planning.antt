@@ -1,13 +1,10 @@
 -- Files that are to be queued, and what is told of them.
-use Rattle.std.proofs.Common.{◌≡◌, ℕ, ◌+◌, ◌<◌, List, [], ◌∷◌, ◌++◌, length, get_or, take, drop, Bool, true, false, ◌&&◌, map, refl, sym, ap, subst, ◌∙◌, append_assoc, add-one, drop-cons}
+use Rattle.std.proofs.Common.{◌≡◌, ℕ, ◌+◌, ◌<◌, List, [], ◌∷◌, ◌++◌, length, get_or, take, drop, Bool, true, false, ◌&&◌, map, sym, ap, ◌∙◌, append_assoc, add-one, drop-cons}
 use Rattle.std.specs.Prelude.{◌||◌, not, nat_lt}
-use Rattle.std.specs.List.{list_any}
 use Rattle.std.proofs.lemmas.Bool.{and_parts}
 use Rattle.std.proofs.lemmas.List.{append-nil, map-append, take-append-drop, take_more}
 use Rattle.std.proofs.lemmas.List.Folds.{list_any-append}
-use Rattle.ftn_addr.specs.Address.{Address}
 use Rattle.ftn_addr.specs.Files.{is_same}
-use Rattle.ftn_addr.specs.Key.{Key}
 use Rattle.file_index.specs.Filed.{Files}
 use Rattle.ledger_rec.proofs.Agreeing.{files_alike, any_more, map_more, not_empty, below_last}
 use Rattle.ledger_rec.specs.Batch.{all_queued, may_follow}

@@ -1,7 +1,7 @@
 -- What is read as a record is the spelling of that record.
-use Rattle.std.proofs.Common.{◌≡◌, ℕ, zero, suc, ◌+◌, ◌<◌, ◌≤◌, ◌^◌, Bool, true, false, ◌&&◌, nat_eq, List, [], ◌∷◌, ◌++◌, length, get_or, take, drop, Result, Ok, Err, refl, sym, ap, subst, ◌∙◌, inl, inr, arith, append_assoc, eqb-true}
+use Rattle.std.proofs.Common.{◌≡◌, ℕ, zero, suc, ◌+◌, ◌<◌, ◌≤◌, ◌^◌, Bool, false, ◌&&◌, List, [], ◌∷◌, ◌++◌, length, get_or, take, drop, Result, Ok, Err, refl, sym, ap, subst, ◌∙◌, inl, inr, arith, append_assoc, eqb-true}
 use Rattle.std.specs.Prelude.{nat_lt, nat_le, ◌==◌, if◌then◌else◌}
-use Rattle.std.specs.Int.{w16, w32, w64, from_be_bytes, to_be_bytes}
+use Rattle.std.specs.Int.{w16, w32, w64, from_be_bytes}
 use Rattle.std.proofs.lemmas.Bool.{cases_Bool, and_parts, ltb-false, leb-true}
 use Rattle.std.proofs.lemmas.Bool.Decides.{nat_tests}
 use Rattle.std.proofs.lemmas.List.{append-nil, get_or-append-add, length-take-le, take-append-drop}
@@ -12,12 +12,11 @@ use Rattle.ftn_addr.specs.Address.{Address}
 use Rattle.ftn_addr.specs.Key.{Key}
 use Rattle.ftn_addr.specs.Limits.{IsAddress, IsKey}
 use Rattle.ftn_addr.specs.Outcomes.{◌>>=◌}
-use Rattle.ftn_addr.specs.Writing.{canonical}
 use Rattle.ledger_rec.proofs.Fronts.{front_of_bytes}
 use Rattle.ledger_rec.proofs.Homes.{of_canonical, nowhere_is}
-use Rattle.ledger_rec.specs.Limits.{AreBytes, Fits, HasNumbers, HasTime, IsNewFile, IsReceived, IsRefused, IsMark}
+use Rattle.ledger_rec.specs.Limits.{AreBytes, Fits, HasNumbers, HasTime}
 use Rattle.ledger_rec.specs.Payloads.{nowhere, record_in}
-use Rattle.ledger_rec.specs.Reading.{Read, within, bytes_at, byte_at, short_at, number_at, wide_at, canonical_at, address_at, key_at, path_at, if_last, new_file_at, received_at, refused_at, mark_at, pair_at, one_at, fields_at, record_at}
+use Rattle.ledger_rec.specs.Reading.{Read, bytes_at, byte_at, short_at, number_at, wide_at, canonical_at, address_at, key_at, path_at, if_last, new_file_at, received_at, refused_at, mark_at, pair_at, one_at, fields_at, record_at}
 use Rattle.ledger_rec.specs.Record.{NewFileText, ReceivedText, RefusedText, MarkText, RecordText, Queue, Done, Received, Refused, Mark, Taken, Acted, Answered}
 use Rattle.ledger_rec.specs.Spelling.{short_bytes, number_bytes, wide_bytes, address_bytes, key_bytes, path_bytes, flag_byte, kind_byte, field_bytes, spelling, Spells}
 use Rattle.ledger_rec.specs.declared.fault.RecFault.{RecFault}

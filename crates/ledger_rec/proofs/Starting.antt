@@ -1,5 +1,5 @@
 -- The first that passes stands behind those that can't pass.
-use Rattle.std.proofs.Common.{◌≡◌, ℕ, zero, suc, ◌+◌, ◌-◌, ◌==◌, Bool, true, false, ◌&&◌, ◌||◌, cond, List, [], ◌∷◌, length, map, take, drop, Option, Some, None, refl, sym, ap, ◌∙◌, inl, inr, arith}
+use Rattle.std.proofs.Common.{◌≡◌, ℕ, zero, suc, ◌+◌, ◌-◌, ◌==◌, Bool, true, false, ◌&&◌, ◌||◌, List, [], ◌∷◌, length, map, take, drop, Option, Some, None, refl, sym, ap, ◌∙◌, inl, inr, arith}
 use Rattle.std.specs.Prelude.{position}
 use Rattle.std.specs.List.{position_from}
 use Rattle.std.proofs.lemmas.Bool.{cases_Bool, true≢false, and_parts}
@@ -65,3 +65,6 @@ started_view view p number n numbered k xs none =
 -- a number and more
 pub is_number : (a n : ℕ) (b : Bool) → (a == n && b) ≡ true → a ≡ n
 is_number a n b both = let e = (and_parts (a == n) b both).0 in grind (arith, nat_tests)
+
+pub same_number : (a n : ℕ) → (a == n) ≡ true → a ≡ n
+same_number a n same = grind (arith, nat_tests)

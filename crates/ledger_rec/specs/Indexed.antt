@@ -6,7 +6,7 @@ use Rattle.ftn_addr.specs.Files.{is_same}
 use Rattle.ftn_addr.specs.Key.{Key}
 use Rattle.file_index.specs.Filed.{Files}
 use Rattle.file_index.specs.Numbered.{Numbers}
-use Rattle.ledger_rec.specs.Fold.{State, is_known}
+use Rattle.ledger_rec.specs.Fold.{State, is_received, is_refused}
 use Rattle.ledger_rec.specs.Items.{Entry, Receipt}
 use Rattle.ledger_rec.specs.declared.index.Index.{Index}
 
@@ -23,7 +23,8 @@ is_empty (x ∷ xs) = false
 
 -- each index that is whole has what its list has, and the greatest number of the queue is told
 pub record Agrees (x : Index) (s : State) : Type 0 where
-  pub known : Files x.known (λ from key. is_known from key s)
+  pub received : Files x.received (λ from key. is_received from key s.inbox)
+  pub refused : Files x.refused (λ from key. is_refused from key s.refused)
   pub queued : Files x.queued (λ dest key. is_queued dest key s.queue)
   pub numbers : Numbers x.numbers (map (λ (e : Entry). e.number) s.queue)
   pub receipts : Numbers x.receipts (map (λ (r : Receipt). r.number) s.inbox)

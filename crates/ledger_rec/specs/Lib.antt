@@ -11,3 +11,4 @@ pub mod Planned
 pub mod Reading
 pub mod Record
 pub mod Spelling
+pub mod Waiting

@@ -194,7 +194,7 @@ pub(crate) fn put_receipt(rec: ReceivedRec, lists: &mut Lists)
     };
     unmark(&item.from, &item.key, &mut lists.marks);
     use_number(item.receipt, &mut lists.index.parts, &mut lists.parts);
-    lists.index.known.note(&item.from, &item.key);
+    lists.index.received.note(&item.from, &item.key);
     lists.index.receipts.note(item.receipt, lists.inbox.len());
     push(item, &mut lists.inbox);
 }
@@ -211,7 +211,7 @@ pub(crate) fn put_refusal(rec: RefusedRec, lists: &mut Lists)
         from: rec.from,
         key: rec.key,
     };
-    lists.index.known.note(&item.from, &item.key);
+    lists.index.refused.note(&item.from, &item.key);
     push(item, &mut lists.refused);
 }
 

@@ -1,20 +1,24 @@
 //! The fold of a ledger's records.
-ghost use Rattle.std.specs.Prelude.{◌≡◌, ◌+◌, ◌<◌, ◌≤◌, [], ◌∷◌, ◌++◌, map, position, Some, None, OnOk, OnErr, IsErrOf, IsOk};
+ghost use Rattle.std.specs.Prelude.{◌≡◌, ◌+◌, ◌<◌, ◌≤◌, false, [], ◌∷◌, ◌++◌, length, map, take, position, Some, None, OnOk, OnErr, IsErrOf, IsOk};
 ghost use Rattle.ftn_addr.specs.Address.{address};
+ghost use Rattle.file_index.specs.Turns.{NextTurn};
 ghost use Rattle.ftn_addr.specs.Files.{is_same};
 ghost use Rattle.ftn_addr.specs.Key.{key_of};
-ghost use Rattle.ledger_rec.specs.Fold.{fold_step, nothing_folded, without_hold, IsPrepared};
+ghost use Rattle.ledger_rec.specs.Fold.{fold_step, is_among, is_received, is_refused, nothing_folded, without_hold, IsPrepared};
 ghost use Rattle.ledger_rec.specs.Items.{entry, receipt, refusal, part_mark, hold};
 ghost use Rattle.ledger_rec.specs.Record.{record_of};
+ghost use Rattle.ledger_rec.specs.Waiting.{is_waiting};
 ghost use Rattle.ledger_rec.specs.declared.fault.FoldFault.TheVariants.{BadFold as BreaksRule, NoMemory as OutOfMemory};
 
 use crate::changes::make_room;
 use crate::index::Index;
 use crate::items::{Held, InboxItem, MarkItem, QueueItem, RefusedItem};
 use crate::lists::Lists;
-use crate::rules::is_same;
+use crate::rules::{is_received, is_refused, is_same};
 use crate::steps::add;
+use crate::waiting::{Wait, first_waiting};
 use crate::{FoldFault, Record};
+use file_index::{Turn, TurnIndex};
 use ftn_addr::{Addr, FileKey, NoMemory};
 use std::alloc::Global;
 use std::marker::Model;
@@ -27,23 +31,26 @@ use std::marker::Model;
 #[derive(Debug, Drop)]
 pub struct Folded {
     pub(crate) lists: Lists,
+    waiting: TurnIndex,
     holds: Vec<Held>,
     pub(crate) room: u32,
 }
 
 impl Model for Folded {
     ghost use Rattle.std.specs.Prelude.{map};
+    ghost use Rattle.file_index.specs.Turns.{Turns};
     ghost use Rattle.ledger_rec.specs.Fold.{Folding};
     ghost use Rattle.ledger_rec.specs.Indexed.{Agrees};
-    ghost use Rattle.ledger_rec.specs.Items.{hold};
+    ghost use Rattle.ledger_rec.specs.Items.{entry, hold};
     ghost use Rattle.ledger_rec.specs.Lists.{state_of, HasRoom};
     ghost use Rattle.ledger_rec.specs.Order.{IsOrderly};
+    ghost use Rattle.ledger_rec.specs.Waiting.{is_waiting};
 
     ghost Value = { Folding };
 
     ghost view = { λ f. record { state = state_of f.lists; holds = map hold f.holds.items; room = f.room } };
 
-    ghost invariant = { λ f. HasRoom f.room f.lists × Agrees f.lists.index (state_of f.lists) × IsOrderly (state_of f.lists) };
+    ghost invariant = { λ f. HasRoom f.room f.lists × Agrees f.lists.index (state_of f.lists) × IsOrderly (state_of f.lists) × Turns f.waiting (is_waiting (map entry f.lists.queue.items)) };
 }
 
 // Where the first hold of the sender and key stands.
@@ -79,6 +86,7 @@ impl Folded {
                 takes: Vec::new(alloc),
                 index: Index::new(alloc),
             },
+            waiting: TurnIndex::new(alloc),
             holds: Vec::new(alloc),
             room: 0,
         }
@@ -110,7 +118,9 @@ impl Folded {
         ensures within { 0 < self.old.room → IsPrepared (record_of rec) self.old.holds → IsErrOf result OutOfMemory → ⊥ }
         ensures roomy { 0 < self.old.room → IsErrOf result OutOfMemory → ⊥ }
     {
+        let wait = Wait::of(&rec);
         add(rec, &mut self.lists)?;
+        wait.note(&self.lists, &mut self.waiting);
         self.room = self.room.saturating_sub(1);
         Ok(())
     }
@@ -154,6 +164,52 @@ impl Folded {
         ensures { map entry result.now ≡ self.now.state.queue }
     {
         self.lists.queue.as_slice()
+    }
+
+    /// The first live file for an address behind that turn, or the first of all. It takes no memory.
+    pub fn next_waiting(&self, dest: &Addr, after: Option<Turn>) -> Option<Turn>
+        ensures { NextTurn (is_waiting self.now.state.queue (address dest.now)) after result }
+    {
+        match self.waiting.next(dest, after) {
+            Some(next) => next,
+            None => first_waiting(self.lists.queue.as_slice(), dest, after),
+        }
+    }
+
+    /// A place in the queue, before which no file has that number: its own, but where memory was wanting. It takes no memory.
+    pub fn queue_start(&self, number: u32) -> usize
+        ensures within { result ≤ length self.now.state.queue }
+        ensures none { is_among number (take result (map (λ e. e.number) self.now.state.queue)) ≡ false }
+    {
+        self.lists
+            .index
+            .numbers
+            .start(number, self.lists.queue.len())
+    }
+
+    /// A place in the inbox, before which no file has that receipt: its own, but where memory was wanting. It takes no memory.
+    pub fn inbox_start(&self, receipt: u32) -> usize
+        ensures within { result ≤ length self.now.state.inbox }
+        ensures none { is_among receipt (take result (map (λ r. r.number) self.now.state.inbox)) ≡ false }
+    {
+        self.lists
+            .index
+            .receipts
+            .start(receipt, self.lists.inbox.len())
+    }
+
+    /// Whether a sender and key are received. It takes no memory.
+    pub fn is_received(&self, from: &Addr, key: &FileKey) -> bool
+        ensures { result ≡ is_received (address from.now) (key_of key.now) self.now.state.inbox }
+    {
+        is_received(from, key, &self.lists)
+    }
+
+    /// Whether a sender and key are refused. It takes no memory.
+    pub fn is_refused(&self, from: &Addr, key: &FileKey) -> bool
+        ensures { result ≡ is_refused (address from.now) (key_of key.now) self.now.state.refused }
+    {
+        is_refused(from, key, &self.lists)
     }
 
     /// The files received, in the order of their records.

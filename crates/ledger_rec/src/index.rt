@@ -10,8 +10,10 @@ use std::alloc::Global;
 /// What stands in the lists, so that a look-up walks none.
 #[derive(Debug, Drop)]
 pub(crate) struct Index {
-    /// The files received or refused.
-    pub known: FileIndex,
+    /// The files received.
+    pub received: FileIndex,
+    /// The files refused.
+    pub refused: FileIndex,
     /// The files queued.
     pub queued: FileIndex,
     /// The numbers of the queue.
@@ -33,7 +35,8 @@ impl Index {
         ensures { Agrees result nothing_folded }
     {
         Index {
-            known: FileIndex::new(alloc),
+            received: FileIndex::new(alloc),
+            refused: FileIndex::new(alloc),
             queued: FileIndex::new(alloc),
             numbers: NumberIndex::new(alloc),
             receipts: NumberIndex::new(alloc),

@@ -37,10 +37,12 @@ mod rules;
 mod steps;
 #[cfg(test)]
 mod tests;
+mod waiting;
 mod writing;
 
 pub use batch::Batch;
 pub use fault::{FoldFault, RecFault};
+pub use file_index::Turn;
 pub use folded::Folded;
 pub use items::{InboxItem, MarkItem, QueueItem, RefusedItem};
 pub use laws::{

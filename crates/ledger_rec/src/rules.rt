@@ -46,7 +46,7 @@ pub(crate) fn is_among(number: u32, numbers: &[u32]) -> bool
     numbers.iter().any(|n| *n == number)
 }
 
-fn is_received(from: &Addr, key: &FileKey, inbox: &[InboxItem]) -> bool
+fn is_in_inbox(from: &Addr, key: &FileKey, inbox: &[InboxItem]) -> bool
     ensures { result ≡ list_any (λ i. is_same (address from.now) (key_of key.now) (address i.from) (key_of i.key)) inbox.now }
 {
     inbox
@@ -54,7 +54,7 @@ fn is_received(from: &Addr, key: &FileKey, inbox: &[InboxItem]) -> bool
         .any(|item| is_same(from, key, &item.from, &item.key))
 }
 
-fn is_refused(from: &Addr, key: &FileKey, refused: &[RefusedItem]) -> bool
+fn is_in_refused(from: &Addr, key: &FileKey, refused: &[RefusedItem]) -> bool
     ensures { result ≡ list_any (λ i. is_same (address from.now) (key_of key.now) (address i.from) (key_of i.key)) refused.now }
 {
     refused
@@ -214,24 +214,36 @@ fn first_request(number: u32, inbox: &[InboxItem]) -> Option<usize>
     })
 }
 
+/// Whether the sender and key are received.
+#[tactic(auto, using(crate::proofs::Mapped::list_any_map))]
+pub(crate) fn is_received(from: &Addr, key: &FileKey, lists: &Lists) -> bool
+    requires { Agrees lists.now.index (state_of lists.now) }
+    ensures { result ≡ is_received (address from.now) (key_of key.now) (state_of lists.now).inbox }
+{
+    match lists.index.received.find(from, key) {
+        Some(found) => found,
+        None => is_in_inbox(from, key, lists.inbox.as_slice()),
+    }
+}
+
+/// Whether the sender and key are refused.
+#[tactic(auto, using(crate::proofs::Mapped::list_any_map))]
+pub(crate) fn is_refused(from: &Addr, key: &FileKey, lists: &Lists) -> bool
+    requires { Agrees lists.now.index (state_of lists.now) }
+    ensures { result ≡ is_refused (address from.now) (key_of key.now) (state_of lists.now).refused }
+{
+    match lists.index.refused.find(from, key) {
+        Some(found) => found,
+        None => is_in_refused(from, key, lists.refused.as_slice()),
+    }
+}
+
 /// Whether the sender and key are received or refused.
-#[tactic(auto, using(crate::proofs::Mapped::list_any_map, crate::proofs::Mapped::list_all_map))]
 pub(crate) fn is_known(from: &Addr, key: &FileKey, lists: &Lists) -> bool
     requires { Agrees lists.now.index (state_of lists.now) }
     ensures { result ≡ is_known (address from.now) (key_of key.now) (state_of lists.now) }
 {
-    match lists.index.known.find(from, key) {
-        Some(found) => found,
-        None => is_in_lists(from, key, lists),
-    }
-}
-
-#[tactic(auto, using(crate::proofs::Mapped::list_any_map, crate::proofs::Mapped::list_all_map))]
-fn is_in_lists(from: &Addr, key: &FileKey, lists: &Lists) -> bool
-    ensures { result ≡ is_known (address from.now) (key_of key.now) (state_of lists.now) }
-{
-    is_received(from, key, lists.inbox.as_slice())
-        || is_refused(from, key, lists.refused.as_slice())
+    is_received(from, key, lists) || is_refused(from, key, lists)
 }
 
 #[tactic(auto, using(crate::proofs::Mapped::list_any_map, crate::proofs::Mapped::list_all_map))]

@@ -9,6 +9,7 @@ mod batches;
 mod folds;
 mod longer_marks;
 mod many_files;
+mod waiting;
 
 use crate::{
     FoldFault, Folded, MarkRec, NewFileRec, RecFault, ReceivedRec, Record, RefusedRec,

@@ -2,7 +2,7 @@ use Rattle.std.proofs.Common.{◌≡◌, List, ◌++◌, ◌∷◌, [], ◌+◌,
 use Rattle.ledger_rec.proofs.FoldAll.{files_more, files_break}
 use Rattle.ledger_rec.proofs.Planning.{files_next, files_split, below_of}
 use Rattle.ledger_rec.specs.Batch.{may_follow, all_queued, queue_records}
-use Rattle.ledger_rec.specs.Fold.{State, fold_all}
+use Rattle.ledger_rec.specs.Fold.{fold_all}
 use Rattle.ledger_rec.specs.Lists.{state_of}
 use Rattle.ledger_rec.specs.Planned.{Plans}
 use Rattle.ledger_rec.specs.Record.{NewFileText, new_file}

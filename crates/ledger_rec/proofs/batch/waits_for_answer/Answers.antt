@@ -1,4 +1,4 @@
-use Rattle.std.proofs.Common.{◌≡◌, map, sym, ap, ◌∙◌, rules}
+use Rattle.std.proofs.Common.{◌≡◌, map, sym, ◌∙◌, rules}
 use Rattle.std.specs.Prelude.{position, is_some}
 use Rattle.ledger_rec.proofs.Changing.{position_any, changed_any}
 use Rattle.ledger_rec.proofs.Mapped.{list_any_map}

@@ -1,9 +1,7 @@
-use Rattle.std.proofs.Common.{◌≡◌, List, map, ap, ◌∙◌}
-use Rattle.ftn_addr.specs.Address.{address}
-use Rattle.ftn_addr.specs.Key.{key_of}
+use Rattle.std.proofs.Common.{List, map, ap, ◌∙◌}
 use Rattle.ledger_rec.proofs.Lengthening.{longer_marks, longer_state}
 use Rattle.ledger_rec.specs.Fold.{in_place, unmarked}
-use Rattle.ledger_rec.specs.Items.{PartMark, part_mark}
+use Rattle.ledger_rec.specs.Items.{part_mark}
 use Rattle.ledger_rec.specs.Lists.{state_of}
 use Rattle.ledger_rec.specs.Record.{mark}
 use Rattle.ledger_rec.specs.declared.items.MarkItem.{MarkItem}

@@ -12,11 +12,11 @@ pub returns-clause-agrees : goal.returns-clause-agrees
 returns-clause-agrees c =
     let s = state_of c.args.lists.now in
     let x = c.args.lists.now.index in
-    let y : Index = record { known = x.known; queued = c.note.new.self; numbers = c.note-2.new.self; receipts = x.receipts; parts = x.parts; takes = x.takes; greatest = c.args.rec.number } in
+    let y : Index = record { received = x.received; refused = x.refused; queued = c.note.new.self; numbers = c.note-2.new.self; receipts = x.receipts; parts = x.parts; takes = x.takes; greatest = c.args.rec.number } in
     let len : c.len.result ≡ length c.args.lists.now.queue.items = search rules in
     let queue = sym (ap (map entry) c.push.ensures.items ∙ sym (map_more entry c.args.lists.now.queue.items _)) in
     subst (λ (l : List Entry). Agrees y (record s { queue = l })) queue
     (agrees_queued x y s (new_file c.args.rec) c.requires.agrees c.requires.rising
     (c.note.ensures (λ dest key. is_queued dest key s.queue) c.requires.agrees.queued)
     (c.note-2.ensures (map (λ (e : Entry). e.number) s.queue) (len ∙ length_twice (λ (e : Entry). e.number) entry c.args.lists.now.queue.items) c.requires.agrees.numbers)
-    refl refl refl refl refl)
+    refl refl refl refl refl refl)

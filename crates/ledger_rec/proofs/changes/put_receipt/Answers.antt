@@ -2,7 +2,7 @@ use Rattle.std.proofs.Common.{◌≡◌, length, map, List, [], ◌∷◌, ◌++
 use Rattle.file_index.specs.Numbered.{Numbers}
 use Rattle.ledger_rec.proofs.Agreeing.{agrees_received, map_more}
 use Rattle.ledger_rec.proofs.Starting.{length_twice}
-use Rattle.ledger_rec.specs.Fold.{is_known, new_receipt, unmarked}
+use Rattle.ledger_rec.specs.Fold.{is_received, new_receipt, unmarked}
 use Rattle.ledger_rec.specs.Indexed.{Agrees}
 use Rattle.ledger_rec.specs.Items.{Receipt, receipt, PartMark, part_mark}
 use Rattle.ledger_rec.specs.Lists.{state_of}
@@ -14,13 +14,13 @@ pub returns-clause-agrees : goal.returns-clause-agrees
 returns-clause-agrees c =
     let s = state_of c.args.lists.now in
     let x = c.args.lists.now.index in
-    let y : Index = record { known = c.note.new.self; queued = x.queued; numbers = x.numbers; receipts = c.note-2.new.self; parts = c.use_number.new.index; takes = x.takes; greatest = x.greatest } in
+    let y : Index = record { received = c.note.new.self; refused = x.refused; queued = x.queued; numbers = x.numbers; receipts = c.note-2.new.self; parts = c.use_number.new.index; takes = x.takes; greatest = x.greatest } in
     let len : c.len.result ≡ length c.args.lists.now.inbox.items = search rules in
     let used = subst (λ (l : List ℕ). Numbers c.use_number.new.index l) c.use_number.ensures.items c.use_number.ensures.index in
     let agrees = agrees_received x y s (received c.args.rec) c.requires.agrees
-    (c.note.ensures (λ from key. is_known from key s) c.requires.agrees.known)
+    (c.note.ensures (λ from key. is_received from key s.inbox) c.requires.agrees.received)
     (c.note-2.ensures (map (λ (r : Receipt). r.number) s.inbox) (len ∙ length_twice (λ (r : Receipt). r.number) receipt c.args.lists.now.inbox.items) c.requires.agrees.receipts)
-    used refl refl refl refl in
+    used refl refl refl refl refl in
     let inbox = sym (ap (map receipt) c.push.ensures.items ∙ sym (map_more receipt c.args.lists.now.inbox.items _)) in
     let r = received c.args.rec in
     let numbers = c.use_number.new.numbers.items in

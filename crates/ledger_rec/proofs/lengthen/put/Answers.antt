@@ -1,10 +1,9 @@
-use Rattle.std.proofs.Common.{◌≡◌, true, refl, sym, ◌∙◌, ap, Some}
+use Rattle.std.proofs.Common.{refl, sym, ◌∙◌, ap, Some}
 use Rattle.std.specs.Prelude.{position}
 use Rattle.ledger_rec.proofs.Lengthening.{stands_for, stands_there, stands_nowhere, part_used, mark_folds, mark_breaks}
-use Rattle.ledger_rec.specs.Fold.{State, is_part_of}
+use Rattle.ledger_rec.specs.Fold.{State}
 use Rattle.ledger_rec.specs.Lists.{state_of}
 use Rattle.ledger_rec.specs.Record.{mark}
-use Rattle.ledger_rec.specs.declared.items.MarkItem.{MarkItem}
 use Rattle.ledger_rec.proofs.lengthen.put.Goals as goal
 
 pub returns-in_default-clause-step : goal.returns-in_default-clause-step

@@ -1,4 +1,4 @@
-use Rattle.std.proofs.Common.{◌≡◌, ◌∙◌, sym, ap, Some, None, map}
+use Rattle.std.proofs.Common.{◌∙◌, sym, ap, map}
 use Rattle.std.specs.Prelude.{position}
 use Rattle.ledger_rec.specs.Fold.{is_live}
 use Rattle.ledger_rec.specs.Items.{Entry, entry}

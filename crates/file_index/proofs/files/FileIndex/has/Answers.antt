@@ -1,4 +1,4 @@
-use Rattle.std.proofs.Common.{◌≡◌, ◌∙◌, sym, ap}
+use Rattle.std.proofs.Common.{◌∙◌, ap}
 use Rattle.file_index.proofs.Filing.{get-has, is_in}
 use Rattle.file_index.proofs.files.FileIndex.has.Goals as goal
 

@@ -1,5 +1,5 @@
-use Rattle.std.proofs.Common.{◌≡◌, ◌∙◌, sym, ap, subst, rules, Some, List, Option, cond, true, Bool}
-use Rattle.std.specs.Prelude.{IsSome, ◌||◌}
+use Rattle.std.proofs.Common.{◌∙◌, sym, ap, cond, true}
+use Rattle.std.specs.Prelude.{◌||◌}
 use Rattle.std.specs.BTreeMap.{BTreeMap, is_at}
 use Rattle.std.specs.BTreeSet.{BTreeSet}
 use Rattle.ftn_addr.specs.Address.{Address, address}

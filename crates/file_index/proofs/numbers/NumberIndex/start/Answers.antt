@@ -1,4 +1,4 @@
-use Rattle.std.proofs.Common.{◌≡◌, ◌≤◌, ◌∙◌, sym, ap, arith}
+use Rattle.std.proofs.Common.{◌∙◌, sym, ap, arith}
 use Rattle.std.specs.Prelude.{is_some}
 use Rattle.file_index.proofs.Places.{first-any, first-before, none-before}
 use Rattle.file_index.proofs.numbers.NumberIndex.start.Goals as goal

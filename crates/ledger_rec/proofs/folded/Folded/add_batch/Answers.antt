@@ -1,8 +1,7 @@
-use Rattle.std.proofs.Common.{◌≡◌, List, ◌++◌, map, sym, ◌∙◌, Some}
+use Rattle.std.proofs.Common.{◌++◌, map, ◌∙◌}
 use Rattle.ledger_rec.proofs.FoldAll.{front_follows, rest_follows, fold_joined}
-use Rattle.ledger_rec.specs.Batch.{answered_records, batch_records, queue_records, taken_records}
-use Rattle.ledger_rec.specs.Fold.{fold_all}
-use Rattle.ledger_rec.specs.Record.{RecordText, new_file}
+use Rattle.ledger_rec.specs.Batch.{answered_records, queue_records, taken_records}
+use Rattle.ledger_rec.specs.Record.{new_file}
 use Rattle.ledger_rec.proofs.folded.Folded.add_batch.Goals as goal
 
 pub put_files-requires-clause-follows : goal.put_files-requires-clause-follows
