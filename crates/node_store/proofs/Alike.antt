@@ -39,7 +39,7 @@ entry_alike d c e same = ap (λ (b : N.Body). record (entry_by (contents_in d) e
     go true now = ap (λ (f : Option (List ℕ)). N.Live (bytes_of f)) (now refl)
     go false now = refl
 
-entries_alike : (d c : World) (es : List Entry) → AllByRecursion (λ (e : Entry). e.live ≡ true → c.own (out_name e.number) ≡ d.own (out_name e.number)) es → map (entry_by (contents_in c)) es ≡ map (entry_by (contents_in d)) es
+pub entries_alike : (d c : World) (es : List Entry) → AllByRecursion (λ (e : Entry). e.live ≡ true → c.own (out_name e.number) ≡ d.own (out_name e.number)) es → map (entry_by (contents_in c)) es ≡ map (entry_by (contents_in d)) es
 entries_alike d c [] same = refl
 entries_alike d c (e ∷ es) same = λ i. entry_alike d c e same.0 i ∷ entries_alike d c es same.1 i
 
@@ -47,7 +47,7 @@ receipt_alike : (d c : World) (r : Receipt) → c.gifts ≡ d.gifts → c.own (i
 receipt_alike d c r gifts own = λ i.
     record { number = r.number; from = r.from; key = r.key; bytes = or_else (own i) (gift_of (in_name r.number) r.key.size (gifts i)); secure = r.secure; answered = r.answered; given = is_absent (own i) }
 
-receipts_alike : (d c : World) → c.gifts ≡ d.gifts → (rs : List Receipt) → AllByRecursion (λ (r : Receipt). c.own (in_name r.number) ≡ d.own (in_name r.number)) rs → map (receipt_by (contents_in c)) rs ≡ map (receipt_by (contents_in d)) rs
+pub receipts_alike : (d c : World) → c.gifts ≡ d.gifts → (rs : List Receipt) → AllByRecursion (λ (r : Receipt). c.own (in_name r.number) ≡ d.own (in_name r.number)) rs → map (receipt_by (contents_in c)) rs ≡ map (receipt_by (contents_in d)) rs
 receipts_alike d c gifts [] same = refl
 receipts_alike d c gifts (r ∷ rs) same = λ i. receipt_alike d c r gifts same.0 i ∷ receipts_alike d c gifts rs same.1 i
 
@@ -57,7 +57,7 @@ mark_alike d c m front same =
     ap (λ (b : List ℕ). record (mark_by (contents_in d) m) { bytes = b })
     (ap (λ (f : Option (List ℕ)). take m.len (bytes_of f)) new.1 ∙ new.2 ∙ sym (ap (λ (f : Option (List ℕ)). take m.len (bytes_of f)) front.1))
 
-marks_alike : (d c : World) (ms : List PartMark) → AllByRecursion (λ (m : PartMark). HasFront (in_name m.number) m.len d) ms → AllByRecursion (λ (m : PartMark). SameFront (in_name m.number) m.len d c) ms → map (mark_by (contents_in c)) ms ≡ map (mark_by (contents_in d)) ms
+pub marks_alike : (d c : World) (ms : List PartMark) → AllByRecursion (λ (m : PartMark). HasFront (in_name m.number) m.len d) ms → AllByRecursion (λ (m : PartMark). SameFront (in_name m.number) m.len d c) ms → map (mark_by (contents_in c)) ms ≡ map (mark_by (contents_in d)) ms
 marks_alike d c [] fronts same = refl
 marks_alike d c (m ∷ ms) fronts same = λ i. mark_alike d c m fronts.0 same.0 i ∷ marks_alike d c ms fronts.1 same.1 i
 
@@ -86,17 +86,17 @@ alike_shelf s d c has a =
 
 -- and all its files
 
-live_files : (d c : World) (es : List Entry) → AllByRecursion (λ (e : Entry). e.live ≡ true → HasLength (out_name e.number) e.key.size d) es → AllByRecursion (λ (e : Entry). e.live ≡ true → c.own (out_name e.number) ≡ d.own (out_name e.number)) es
+pub live_files : (d c : World) (es : List Entry) → AllByRecursion (λ (e : Entry). e.live ≡ true → HasLength (out_name e.number) e.key.size d) es → AllByRecursion (λ (e : Entry). e.live ≡ true → c.own (out_name e.number) ≡ d.own (out_name e.number)) es
     → AllByRecursion (λ (e : Entry). e.live ≡ true → HasLength (out_name e.number) e.key.size c) es
 live_files d c [] has same = tt
 live_files d c (e ∷ es) has same = (λ live. let f = has.0 live in (f.0, same.0 live ∙ f.1, f.2), live_files d c es has.1 same.1)
 
-received_files : (d c : World) (rs : List Receipt) → AllByRecursion (λ (r : Receipt). HasNoOther (in_name r.number) r.key.size d) rs → AllByRecursion (λ (r : Receipt). c.own (in_name r.number) ≡ d.own (in_name r.number)) rs
+pub received_files : (d c : World) (rs : List Receipt) → AllByRecursion (λ (r : Receipt). HasNoOther (in_name r.number) r.key.size d) rs → AllByRecursion (λ (r : Receipt). c.own (in_name r.number) ≡ d.own (in_name r.number)) rs
     → AllByRecursion (λ (r : Receipt). HasNoOther (in_name r.number) r.key.size c) rs
 received_files d c [] has same = tt
 received_files d c (r ∷ rs) has same = (λ b is. has.0 b (sym same.0 ∙ is), received_files d c rs has.1 same.1)
 
-marked_files : (d c : World) (ms : List PartMark) → AllByRecursion (λ (m : PartMark). HasFront (in_name m.number) m.len d) ms → AllByRecursion (λ (m : PartMark). SameFront (in_name m.number) m.len d c) ms → AllByRecursion (λ (m : PartMark). HasFront (in_name m.number) m.len c) ms
+pub marked_files : (d c : World) (ms : List PartMark) → AllByRecursion (λ (m : PartMark). HasFront (in_name m.number) m.len d) ms → AllByRecursion (λ (m : PartMark). SameFront (in_name m.number) m.len d c) ms → AllByRecursion (λ (m : PartMark). HasFront (in_name m.number) m.len c) ms
 marked_files d c [] has same = tt
 marked_files d c (m ∷ ms) has same =
     let front = has.0 in
@@ -161,14 +161,14 @@ ledger_alike s d c only =
     (all_of (λ (m : PartMark). SameFront (in_name m.number) m.len d c) (λ m b is long. (b, only.others (in_name m.number) (in_not_ledger m.number) ∙ is, refl)) s.marks)
     only.outside only.gifts
 
+pub shorter_take : (i j : ℕ) (xs : List ℕ) → i ≤ j → take i (take j xs) ≡ take i xs
+shorter_take zero j xs le = refl
+shorter_take (suc i) zero xs le = absurd (omega (arith, le))
+shorter_take (suc i) (suc j) [] le = refl
+shorter_take (suc i) (suc j) (x ∷ xs) le = ap (λ (l : List ℕ). x ∷ l) (shorter_take i j xs (omega (arith, le)))
+
 -- bytes were put behind those of an open part
 module _ (number at n : ℕ) (d c : World) (step : OnOwn (Rewrites (in_name number) (Torn at n)) d c) where
-  shorter_take : (i j : ℕ) (xs : List ℕ) → i ≤ j → take i (take j xs) ≡ take i xs
-  shorter_take zero j xs le = refl
-  shorter_take (suc i) zero xs le = absurd (omega (arith, le))
-  shorter_take (suc i) (suc j) [] le = refl
-  shorter_take (suc i) (suc j) (x ∷ xs) le = ap (λ (l : List ℕ). x ∷ l) (shorter_take i j xs (omega (arith, le)))
-
   front : (m : PartMark) → (m.number ≡ number → m.len ≤ at) → SameFront (in_name m.number) m.len d c
   front m within b is long = elim (cases_eq m.number number) [
     | inl same ↦

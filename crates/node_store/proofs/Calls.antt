@@ -1,5 +1,5 @@
 -- Calls that change nothing that outlives a stop.
-use Rattle.std.proofs.Common.{◌≡◌, inl, ℕ, Option, Some, Bool, true, false, refl, sym, ◌∙◌, arith}
+use Rattle.std.proofs.Common.{◌≡◌, inl, ℕ, Option, Some, None, Bool, true, false, refl, sym, ◌∙◌, arith}
 use Rattle.disk_model.specs.World.{World}
 use Rattle.disk_model.specs.Changes.{Every}
 use Rattle.disk_model.specs.Moments.{Now}
@@ -35,7 +35,7 @@ module _ {D : Type 0} (tells : Bool) (content : D → World) (faults : D → ℕ
 
   -- a call without a call of the disk, after which the same is told
   pub still_call : (disk : D) (m m' : Memory) (call : StoreCall) (answer : StoreAnswer)
-      → fold_of m.books.payloads ≡ Some m.books.folding.state → Every (Now moment images disk) (IsKept tells (content disk) m)
+      → fold_of m.books.payloads ≡ Some m.books.folding.state → (m'.broken ≡ None → Every (Now moment images disk) (IsKept tells (content disk) m))
       → shelf_of (stored_in (content disk) m') ≡ shelf_of (stored_in (content disk) m)
       → StoreMade (state_of tells (content disk) (faults disk) m) call answer (state_of tells (content disk) (faults disk) m')
       → StoreKept (standing disk m) call answer (standing disk m')
@@ -44,8 +44,8 @@ module _ {D : Type 0} (tells : Bool) (content : D → World) (faults : D → ℕ
     later = omega arith;
     before = λ k o le left. left;
     since = λ k o from to left. absurd (omega (arith, from, to));
-    now = λ settles o left.
+    now = λ whole o left.
         opens_weaker (λ d. d ≡ shelf_of (stored_in (content disk) m)) (IsShelf (state_of tells (content disk) (faults disk) m').content)
         (λ d is. is_told tells left.0 (content disk) (faults disk) m' d (is ∙ sym same)) o
-        (settled disk (content disk) m folds kept o left);
+        (settled disk (content disk) m folds (kept whole) o left);
   }

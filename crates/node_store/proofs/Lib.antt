@@ -1,21 +1,76 @@
+mod Counted
+mod Cutting
+mod Finds
+mod Folds
+mod FoundLedger
+mod Greatest
+mod Kept
+mod ListedItems
+mod Looked
+mod OpenSound
+mod Opened
+mod Recovering
+mod Removing
+mod Rest
+mod Straying
+mod Tended
+mod Unrefused
+mod Untouched
 pub mod Alike
+pub mod AppendCall
+pub mod AppendTold
 pub mod Appended
+pub mod BatchFollows
+pub mod BegunParts
 pub mod Calls
+pub mod ClosedParts
+pub mod CommitCall
+pub mod Committed
+pub mod CopyCall
 pub mod FileNames
+pub mod FirstParts
 pub mod Fitting
+pub mod FoldMarks
+pub mod Found
 pub mod Grown
 pub mod HexDigits
+pub mod KeyLookups
 pub mod Known
+pub mod Listed
+pub mod MadeReady
+pub mod MarkCall
+pub mod Marked
+pub mod Marks
 pub mod Mirrors
 pub mod NameLaws
 pub mod NumberNames
 pub mod Numbered
+pub mod Offering
+pub mod OneRecord
+pub mod OpenCall
+pub mod OpenTold
 pub mod Openings
+pub mod PartOpened
+pub mod PartRecord
 pub mod Places
+pub mod PlanLemmas
+pub mod Positive
 pub mod PutCall
 pub mod PutSound
 pub mod Puts
+pub mod QueueCall
+pub mod QueueKeeps
+pub mod QueueTold
 pub mod Quiet
+pub mod ReadCall
+pub mod ReadKeys
+pub mod Receipts
 pub mod RecordCall
+pub mod RecordTold
 pub mod Recorded
+pub mod RefuseCall
+pub mod ReplacedParts
+pub mod SettleCall
+pub mod StageCall
+pub mod Syncing
 pub mod TellAlike

@@ -25,7 +25,7 @@ map-append f [] ys = refl
 map-append f (x ∷ xs) ys = ap (λ l. f x ∷ l) (map-append f xs ys)
 
 -- a test on the number
-eqb_apart : (k n : ℕ) → k ≢ n → (k == n) ≡ false
+pub eqb_apart : (k n : ℕ) → k ≢ n → (k == n) ≡ false
 eqb_apart k n other = go (k == n) refl
   where
     go : (b : Bool) → (k == n) ≡ b → (k == n) ≡ false

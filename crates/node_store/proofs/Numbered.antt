@@ -71,11 +71,11 @@ receipt_differs r s may o =
 
 -- one record more
 
-if_may_some : (b : Bool) (x t : State) → if_may b x ≡ Some t → (b ≡ true) × (x ≡ t)
+pub if_may_some : (b : Bool) (x t : State) → if_may b x ≡ Some t → (b ≡ true) × (x ≡ t)
 if_may_some true x t is = (refl, some_inj is)
 if_may_some false x t is = none_some is
 
-mapped_some : {A : Type 0} (f : A → State) (o : Option A) (t : State) → option_map f o ≡ Some t → (a : A) × (o ≡ Some a) × (f a ≡ t)
+pub mapped_some : {A : Type 0} (f : A → State) (o : Option A) (t : State) → option_map f o ≡ Some t → (a : A) × (o ≡ Some a) × (f a ≡ t)
 mapped_some f None t is = none_some is
 mapped_some f (Some a) t is = (a, refl, some_inj is)
 
@@ -121,9 +121,13 @@ numbered_from o [] t so is = so t is
 numbered_from None (p ∷ ps) t so is = numbered_from None ps t (λ s none. none_some none) is
 numbered_from (Some s) (p ∷ ps) t so is = numbered_from (stepped (Some s) p) ps t (λ u step. numbered_read s (record_in p) u step (so s refl)) is
 
+pub orderly_fold : (ps : List (List ℕ)) (s : State) → fold_of ps ≡ Some s → IsOrderly s
+orderly_fold ps s is =
+    (numbered_from (Some nothing_folded) ps s (λ t same. subst (λ (x : State). IsOrderly x × IsNumbered x) (some_inj same) (record { queue = tt; marks = tt; inbox = tt; apart = tt; free = tt }, record { queue = tt; inbox = tt })) is).0
+
 pub numbered_fold : (ps : List (List ℕ)) (s : State) → fold_of ps ≡ Some s → IsNumbered s
 numbered_fold ps s is =
-    (numbered_from (Some nothing_folded) ps s (λ t same. subst (λ (x : State). IsOrderly x × IsNumbered x) (some_inj same) (record { marks = tt; inbox = tt; apart = tt; free = tt }, record { queue = tt; inbox = tt })) is).1
+    (numbered_from (Some nothing_folded) ps s (λ t same. subst (λ (x : State). IsOrderly x × IsNumbered x) (some_inj same) (record { queue = tt; marks = tt; inbox = tt; apart = tt; free = tt }, record { queue = tt; inbox = tt })) is).1
 
 -- one record more is the node's change for it
 

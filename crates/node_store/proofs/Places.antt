@@ -1,5 +1,5 @@
 -- A store with other places reserved.
-use Rattle.std.proofs.Common.{◌≡◌, ℕ, ◌≤◌, List, [], ◌∷◌, Bool, sym, ◌∙◌, ap, subst}
+use Rattle.std.proofs.Common.{◌≡◌, ℕ, ◌≤◌, List, [], ◌∷◌, Bool, true, sym, ◌∙◌, ap, subst}
 use Rattle.std.specs.List.{AllByRecursion}
 use Rattle.disk_model.specs.World.{World}
 use Rattle.ledger_file.specs.Ledger.{LedgerIs}
@@ -8,7 +8,7 @@ use Rattle.ledger_rec.specs.Items.{Entry, Receipt, PartMark, Hold}
 use Rattle.node_model.specs.StoreStates.{shelf_of}
 use Rattle.node_store.specs.Books.{Books, IsBooks, AreSame}
 use Rattle.node_store.specs.Worlds.{shelf_in, HasFiles}
-use Rattle.node_store.specs.Stored.{Part, Memory, IsPart, IsPut, IsMemory, IsKept, IsSound, state_of, stored_in}
+use Rattle.node_store.specs.Stored.{Part, Memory, has_receipt, IsPart, IsPut, IsMemory, IsKept, IsSound, state_of, stored_in}
 
 -- the same books, but for places and room
 abbrev rebooked : Books → List (List ℕ) → ℕ → ℕ → List ℕ → State → Books
@@ -27,11 +27,11 @@ same_stored w m b same = λ i.
 
 -- what fits together still does
 
-part_same : (f g : Folding) (p : Part) → g.state ≡ f.state → g.holds ≡ f.holds → IsPart f p → IsPart g p
+pub part_same : (f g : Folding) (p : Part) → g.state ≡ f.state → g.holds ≡ f.holds → IsPart f p → IsPart g p
 part_same f g p state holds is =
     subst (λ (h : List Hold). IsPart (record { state = g.state; holds = h; room = g.room }) p) (sym holds)
     (subst (λ (s : State). IsPart (record { state = s; holds = f.holds; room = g.room }) p) (sym state)
-    (record { from = is.from; key = is.key; sizes = is.sizes; within = is.within; receipt = is.receipt; held = is.held; unknown = is.unknown; number = is.number; marks = is.marks; received = is.received }))
+    (record { from = is.from; key = is.key; sizes = is.sizes; within = is.within; receipt = is.receipt; next = is.next; held = is.held; unknown = is.unknown; number = is.number; marks = is.marks; received = is.received }))
 
 parts_same : (f g : Folding) (ps : List Part) → g.state ≡ f.state → g.holds ≡ f.holds → AllByRecursion (IsPart f) ps → AllByRecursion (IsPart g) ps
 parts_same f g [] state holds all = tt
@@ -44,6 +44,8 @@ memory_same m b same books is = record {
   parts = parts_same m.books.folding b.folding m.parts same.state same.holds is.parts;
   marked = subst (λ (s : State). AllByRecursion (λ (k : PartMark). k.number ≤ m.drawn) s.marks) (sym same.state) is.marked;
   received = subst (λ (s : State). AllByRecursion (λ (r : Receipt). r.number ≤ m.drawn) s.inbox) (sym same.state) is.received;
+  numbers = subst (λ (s : State). AllByRecursion (λ n. n ≤ m.drawn) s.parts) (sym same.state) is.numbers;
+  given = subst (λ (s : State). AllByRecursion (λ n. has_receipt n s.inbox ≡ true) m.given) (sym same.state) is.given;
   staged = subst (λ (s : State). AllByRecursion (IsPut m.last_staged s) m.staged) (sym same.state) is.staged;
   queued = subst (λ (s : State). AllByRecursion (λ (e : Entry). e.number ≤ m.last_staged) s.queue) (sym same.state) is.queued;
 }

@@ -31,7 +31,7 @@ use Rattle.node_store.proofs.Quiet.{IsQuiet, quiet_kept, quiet_now, quiet_call, 
 
 -- the first part with that number
 
-pub found_of : (cs : Contents ℕ) (number : ℕ) (ps : List Part) → part_in number (map (part_by cs) ps) ≡ option_map (part_by cs) (find (λ (p : Part). p.number == number) ps)
+pub found_of : {B : Type 0} (cs : Contents B) (number : ℕ) (ps : List Part) → part_in number (map (part_by cs) ps) ≡ option_map (part_by cs) (find (λ (p : Part). p.number == number) ps)
 found_of cs number [] = refl
 found_of cs number (p ∷ ps) = go (p.number == number) (found_of cs number ps)
   where
@@ -188,7 +188,7 @@ module _ {D : Type 0} (tells : Bool) (content : D → World) (files : D → Worl
 
   pub failed_sound : IsSound tells content moment images new failed
   failed_sound = record {
-    memory = record { books = p.sound.memory.books; orderly = p.sound.memory.orderly; parts = p.sound.memory.parts; marked = p.sound.memory.marked; received = p.sound.memory.received; staged = p.sound.memory.staged; queued = p.sound.memory.queued };
+    memory = record { books = p.sound.memory.books; orderly = p.sound.memory.orderly; parts = p.sound.memory.parts; marked = p.sound.memory.marked; received = p.sound.memory.received; numbers = p.sound.memory.numbers; given = p.sound.memory.given; staged = p.sound.memory.staged; queued = p.sound.memory.queued };
     kept = λ whole. none_some (sym whole);
     bodies = λ whole. none_some (sym whole);
   }

@@ -1,5 +1,5 @@
 -- A store after a put is as sound.
-use Rattle.std.proofs.Common.{◌≡◌, ℕ, ◌+◌, ◌==◌, ◌≤◌, List, [], ◌∷◌, length, map, Some, Bool, true, false, refl, sym, ◌∙◌, arith}
+use Rattle.std.proofs.Common.{◌≡◌, inl, inr, ⊎_elim, ℕ, ◌+◌, ◌==◌, ◌≤◌, List, [], ◌∷◌, length, map, Some, Bool, true, false, refl, sym, ◌∙◌, arith}
 use Rattle.std.specs.Prelude.{if◌then◌else◌}
 use Rattle.std.specs.List.{AllByRecursion}
 use Rattle.std.proofs.lemmas.Bool.Decides.{Decides-eqb}
@@ -52,9 +52,10 @@ module _ (number n : ℕ) where
         sizes = is.sizes;
         within = most;
         receipt = is.receipt;
+        next = is.next;
         held = is.held;
         unknown = is.unknown;
-        number = is.number;
+        number = ⊎_elim (λ k. inl (record { marked = k.marked; given_away = k.given_away })) (λ u. inr (record { unused = u.unused; unmarked = u.unmarked; first = u.first })) is.number;
         marks = longer have le f.state.marks is.marks;
         received = is.received;
       }
@@ -74,6 +75,8 @@ module _ (number n : ℕ) where
     parts = parts_more m.books.folding m.parts fits is.parts;
     marked = is.marked;
     received = is.received;
+    numbers = is.numbers;
+    given = is.given;
     staged = is.staged;
     queued = is.queued;
   }

@@ -7,7 +7,7 @@ use Rattle.ledger_file.specs.Ledger.{LedgerIs}
 use Rattle.ledger_rec.specs.Fold.{State}
 use Rattle.ledger_rec.specs.Payloads.{fold_of}
 use Rattle.node_model.specs.StoreStates.{shelf_of}
-use Rattle.node_model.specs.Stores.{StoreCall, StoreAnswer, StoreMade, StoreKept, SettlesStore, StorePasses, OpensShelf, IsShelf}
+use Rattle.node_model.specs.Stores.{StoreCall, StoreAnswer, StoreMade, StoreKept, StorePasses, OpensShelf, IsShelf}
 use Rattle.node_store.specs.Stored.{Memory, stored_in, state_of, IsKept}
 use Rattle.node_store.specs.Worlds.{shelf_in, HasFiles}
 use Rattle.node_store.proofs.Alike.{AreAlike, alike_shelf, alike_files}
@@ -60,7 +60,7 @@ module _ {D : Type 0} (tells : Bool) (content : D → World) (faults : D → ℕ
           let now = kept_opens tells left.0 (content old) m folds left.1 (quiet_now left.1 (subst (λ (i : ℕ). images new i left.1) at left.2)) in
           opens_to (StorePasses (state_of tells (content old) (faults old) m) asked) left.1 (shelf_in left.1 m.books.folding.state) now.0
           (Rattle.node_model.specs.Stores.Before_it (is_told tells left.0 (content old) (faults old) m (shelf_in left.1 m.books.folding.state) now.1)) o left.3;
-      now = λ settles o left.
+      now = λ whole o left.
           opens_weaker (λ d. d ≡ shelf_of (stored_in (content old) m)) (IsShelf (state_of tells (content new) (faults new) m').content)
           (λ d is. is_told tells left.0 (content new) (faults new) m' d (is ∙ sym (same left.0))) o
           (settled tells content faults moment images new (content old) m folds quiet_now o left);

@@ -1,5 +1,5 @@
 -- A call that makes a file durable and then records it: what a stop may leave since it began, and what holds after it.
-use Rattle.std.proofs.Common.{◌≡◌, ◌⊎◌, inl, inr, ⊎_elim, ℕ, ◌<◌, ◌≤◌, List, [], ◌∷◌, ◌++◌, Option, Some, Ok, Bool, true, refl, sym, ◌∙◌, ap, subst, arith}
+use Rattle.std.proofs.Common.{◌≡◌, ◌⊎◌, inl, inr, ⊎_elim, ℕ, ◌<◌, ◌≤◌, List, [], ◌∷◌, ◌++◌, Option, Some, None, Ok, Bool, true, refl, sym, ◌∙◌, ap, subst, arith}
 use Rattle.disk_model.specs.World.{World}
 use Rattle.disk_model.specs.Changes.{Every}
 use Rattle.disk_model.specs.Moments.{Now, Leaves}
@@ -8,6 +8,7 @@ use Rattle.ledger_rec.specs.Fold.{State, fold_step}
 use Rattle.ledger_rec.specs.Payloads.{record_in, fold_of}
 use Rattle.ledger_rec.specs.Record.{RecordText}
 use Rattle.node_model.specs.declared.store.StoreFault.TheVariants.{Disk}
+use Rattle.node_model.specs.Calls.{Counts}
 use Rattle.node_model.specs.StoreStates.{Shelf, shelf_of, StoreState}
 use Rattle.node_model.specs.Stores.{StoreCall, StoreKept, StoreDoes, BreaksStore, StorePasses, Before_it, After_it, Well, Refuses, OpensShelf, IsShelf}
 use Rattle.node_store.specs.Recording.{IsSynced, Records}
@@ -78,7 +79,7 @@ module _ {D : Type 0} (tells : Bool) (content : D → World) (files : D → Worl
       later = p.run.grew.later;
       before = λ k o le left. (left.0, left.1, p.run.grew.before k left.1 le left.2, left.3);
       since = since;
-      now = λ settles. absurd settles;
+      now = λ whole. absurd (let clash : Some (faults new) ≡ None = sym (ap (λ (c : Counts). c.broken) made.counts) ∙ whole in cc);
     }
 
   -- the record is durable
@@ -105,7 +106,7 @@ module _ {D : Type 0} (tells : Bool) (content : D → World) (files : D → Worl
       later = p.run.grew.later;
       before = λ k o le left. (left.0, left.1, p.run.grew.before k left.1 le left.2, left.3);
       since = since asked (state_of tells (content new) (faults new) m') does (λ is. is_told tells is (content new) (faults new) m' after (sym (told is)));
-      now = λ settles o left.
+      now = λ whole o left.
           let there = now_there left.0 left.1 left.2 in
           opens_to (IsShelf (state_of tells (content new) (faults new) m').content) left.1 (shelf_in left.1 t)
           (record { payloads = m.books.payloads ++ payload ∷ []; ledger = inl (durable left.1 left.2); state = t; folds = new_folds; files = there.0; is = refl })

@@ -1,6 +1,6 @@
 -- What a store has in memory, what it tells, and what ties both to its disk (own).
-use Rattle.std.specs.Prelude.{◌+◌, ◌≡◌, ◌≢◌, ◌⊎◌, ℕ, ◌==◌, nat_le, not, ◌&&◌, ◌≤◌, Bool, true, false, List, [], ◌∷◌, ◌++◌, length, take, drop, map, replicate, Option, Some, None, option_map, if◌then◌else◌}
-use Rattle.std.specs.List.{AllByRecursion, list_all}
+use Rattle.std.specs.Prelude.{◌+◌, ◌≡◌, ◌≢◌, ◌⊎◌, ℕ, ◌==◌, nat_le, not, ◌&&◌, ◌≤◌, Bool, true, false, List, [], ◌∷◌, ◌++◌, length, take, drop, map, replicate, Option, Some, None, option_map, if◌then◌else◌, IsSome}
+use Rattle.std.specs.List.{AllByRecursion, list_all, list_any}
 use Rattle.ftn_addr.specs.Address.{Address}
 use Rattle.ftn_addr.specs.Files.{is_same}
 use Rattle.ftn_addr.specs.Key.{Key}
@@ -9,10 +9,10 @@ use Rattle.disk_model.specs.Changes.{Every}
 use Rattle.disk_model.specs.Moments.{Now}
 use Rattle.disk_model.specs.World.{World}
 use Rattle.ledger_file.specs.Ledger.{LedgerIs}
-use Rattle.ledger_rec.specs.Fold.{State, Folding, is_known, is_part_of, is_among, is_held}
+use Rattle.ledger_rec.specs.Fold.{State, Folding, fold_step, is_known, is_part_of, is_among, is_held, is_marked}
 use Rattle.ledger_rec.specs.Items.{Entry, Receipt, PartMark}
 use Rattle.ledger_rec.specs.Limits.{HasTime}
-use Rattle.ledger_rec.specs.Record.{ReceivedText, RecordText, Received}
+use Rattle.ledger_rec.specs.Record.{ReceivedText, MarkText, RecordText, Received, Mark}
 use Rattle.node_model.specs.Items.{MarkOf}
 use Rattle.node_model.specs.Stocks.{StagedOf, StockOf}
 use Rattle.node_model.specs.StoreStates.{Shelf, Stored, shelf_of, StoreState, StoreStand}
@@ -22,13 +22,16 @@ use Rattle.node_store.specs.Logs.{log_of}
 use Rattle.node_store.specs.Names.{in_name, out_name}
 use Rattle.node_store.specs.Worlds.{bytes_of, gift_of, outside_in, gift_told, takes_in, shelf_in, HasLength, HasFiles, Opens}
 
--- an open part: its number, from whom, of which file, how many bytes it has, and the record of its receipt
+-- an open part: its number, from whom, of which file, and how many bytes it has; the record of its receipt; and those of its
+-- marks, the first of which is given away, while later ones are lent
 pub record Part : Type 0 where
   pub number : ℕ
   pub from : Address
   pub key : Key
   pub have : ℕ
-  pub receipt : RecordText
+  pub receipt : ReceivedText
+  pub first_mark : Option MarkText
+  pub next_mark : RecordText
 
 -- a file that was put under a queue number, with so many bytes
 pub record Put : Type 0 where
@@ -115,17 +118,33 @@ left_of tells images k shelf = (tells ≡ true) × (w : World) × images k w × 
 abbrev pub received_text : Part → ℕ → Bool → ReceivedText
 received_text p session secure = record { receipt = p.number; from = p.from; key = p.key; session = session; secure = secure }
 
+-- the record of a part's mark
+abbrev pub mark_text : Part → ℕ → MarkText
+mark_text p len = record { part = p.number; from = p.from; key = p.key; len = len }
+
+-- a part whose number is that of its mark: the record of its first mark is given away
+pub record IsMarked (s : State) (p : Part) : Type 0 where
+  pub marked : is_part_of p.number p.from p.key s.marks ≡ true
+  pub given_away : p.first_mark ≡ None
+
+-- a part without a mark: its number isn't used, nor is another part of that file marked, and the record of its first mark waits
+pub record IsUnmarked (s : State) (p : Part) : Type 0 where
+  pub unused : is_among p.number s.parts ≡ false
+  pub unmarked : is_marked p.from p.key s.marks ≡ false
+  pub first : (len : ℕ) × (p.first_mark ≡ Some (mark_text p len))
+
 -- An open part: within its size, held, and neither received nor refused. Its number is that of its mark, which isn't longer,
--- or isn't used. The record of its receipt waits.
+-- or it has none. The records of its receipt and of its next mark wait.
 pub record IsPart (f : Folding) (p : Part) : Type 0 where
   pub from : IsAddress p.from
   pub key : IsKey p.key
   pub sizes : HasTime p.key
   pub within : p.have ≤ p.key.size
-  pub receipt : (session : ℕ) × (secure : Bool) × (p.receipt ≡ Received (received_text p session secure))
+  pub receipt : (session : ℕ) × (secure : Bool) × (p.receipt ≡ received_text p session secure)
+  pub next : (len : ℕ) × (p.next_mark ≡ Mark (mark_text p len))
   pub held : is_held p.from p.key f.holds ≡ true
   pub unknown : is_known p.from p.key f.state ≡ false
-  pub number : (is_part_of p.number p.from p.key f.state.marks ≡ true) ⊎ (is_among p.number f.state.parts ≡ false)
+  pub number : IsMarked f.state p ⊎ IsUnmarked f.state p
   pub marks : AllByRecursion (λ (m : PartMark). m.number ≡ p.number → m.len ≤ p.have) f.state.marks
   pub received : AllByRecursion (λ (r : Receipt). r.number ≢ p.number) f.state.inbox
 
@@ -135,12 +154,19 @@ pub record IsPut (last : ℕ) (s : State) (p : Put) : Type 0 where
   pub drawn : p.number ≤ last
   pub above : AllByRecursion (λ (e : Entry). e.number ≢ p.number) s.queue
 
+-- a receipt has that number
+abbrev pub has_receipt : ℕ → List Receipt → Bool
+has_receipt number inbox = list_any (λ (r : Receipt). r.number == number) inbox
+
+-- The numbers of all parts and receipts were drawn, and what was given are receipts.
 pub record IsMemory (m : Memory) : Type 0 where
   pub books : IsBooks m.books
   pub orderly : is_orderly m.drawn m.parts ≡ true
   pub parts : AllByRecursion (IsPart m.books.folding) m.parts
   pub marked : AllByRecursion (λ (k : PartMark). k.number ≤ m.drawn) m.books.folding.state.marks
   pub received : AllByRecursion (λ (r : Receipt). r.number ≤ m.drawn) m.books.folding.state.inbox
+  pub numbers : AllByRecursion (λ n. n ≤ m.drawn) m.books.folding.state.parts
+  pub given : AllByRecursion (λ n. has_receipt n m.books.folding.state.inbox ≡ true) m.given
   pub staged : AllByRecursion (IsPut m.last_staged m.books.folding.state) m.staged
   pub queued : AllByRecursion (λ (e : Entry). e.number ≤ m.last_staged) m.books.folding.state.queue
 
@@ -168,7 +194,7 @@ abbrev pub stand_of : {D : Type 0} → Bool → (D → World) → (D → ℕ) �
 stand_of tells content faults moment images s =
     record { state = state_of tells (content s.disk) (faults s.disk) s.memory; moment = moment s.disk; images = left_of tells (images s.disk) }
 
--- What puts change.
+-- What becomes of open parts.
 
 -- the part with that number has so many bytes more
 abbrev pub grown : ℕ → ℕ → Part → Part
@@ -177,3 +203,38 @@ grown number n p = record p { have = if p.number == number then p.have + n else 
 abbrev pub have_in : Option Part → ℕ
 have_in None = 0
 have_in (Some p) = p.have
+
+-- the parts without the first that passes the test
+abbrev pub without_first : (Part → Bool) → List Part → List Part
+without_first test [] = []
+without_first test (p ∷ ps) = if test p then ps else p ∷ without_first test ps
+
+-- the parts without the first of that number
+abbrev pub without_part : ℕ → List Part → List Part
+without_part number ps = without_first (λ p. p.number == number) ps
+
+-- what is left of a part that is open no more: whose it was, and the record of its receipt
+pub record Closed : Type 0 where
+  pub from : Address
+  pub key : Key
+  pub receipt : RecordText
+
+-- a part that came whole in that session
+abbrev pub closed_in : ℕ → Bool → Part → Closed
+closed_in session secure p =
+    record { from = p.from; key = p.key; receipt = Received (record p.receipt { session = session; secure = secure }) }
+
+-- a part of which all that it has is marked next, or is marked
+abbrev pub marks_all : Part → Part
+marks_all p = record p { next_mark = Mark (mark_text p p.have) }
+
+abbrev pub all_marked : Part → Part
+all_marked p = record p { first_mark = None; next_mark = Mark (mark_text p p.have) }
+
+-- All that a part has may become its mark: the fold takes that record, which waits.
+pub record IsMarking (s : State) (p : Part) : Type 0 where
+  pub from : IsAddress p.from
+  pub key : IsKey p.key
+  pub next : (len : ℕ) × (p.next_mark ≡ Mark (mark_text p len))
+  pub step : IsSome (fold_step s (Mark (mark_text p p.have)))
+  pub first : IsMarked s p ⊎ ((len : ℕ) × (p.first_mark ≡ Some (mark_text p len)))

@@ -7,9 +7,12 @@ ghost use Rattle.ledger_rec.specs.Fold.{State, fold_step};
 ghost use Rattle.ledger_rec.specs.Payloads.{fold_of};
 ghost use Rattle.ledger_rec.specs.Record.{RecordText};
 ghost use Rattle.node_model.specs.Durable.{with_given as node_with_given};
+ghost use Rattle.node_model.specs.StoreStates.{Shelf};
 ghost use Rattle.node_store.specs.Contents.{durable_after, durable_by, with_given};
 ghost use Rattle.node_store.specs.Numbers.{IsNumbered};
-ghost use Rattle.node_store.specs.Worlds.{HasFiles, IsBadFile, contents_in, durable_in};
+ghost use Rattle.node_store.specs.Opening.{IsReady, IsRefused};
+ghost use Rattle.node_store.specs.Worlds.{HasFiles, IsBadFile, OpensAs, contents_in, durable_in};
+ghost use Rattle.node_store.specs.declared.opening.fault.StoreOpenFault.{StoreOpenFault as OpenFault};
 ghost use Rattle.node_store.specs.Names.{HasPlace, in_name, out_name, take_name, take_number};
 ghost use Rattle.node_store.specs.declared.names.TakeKind.{TakeKind as KindOfTake};
 
@@ -52,4 +55,14 @@ pub fn giving_is_a_change()
 /// No file of a world is bad where all files that belong to its ledger fit.
 pub fn no_bad_file_where_all_fit()
     ensures { (w : World) (s : State) (name : List ℕ) → HasFiles s w → IsBadFile s w name → ⊥ }
+{}
+
+/// No world that opens is refused, whatever else is wrong with it.
+pub fn no_world_that_opens_is_refused()
+    ensures { (w : World) (shelf : Shelf) (fault : OpenFault) → OpensAs w shelf → IsRefused fault w → ⊥ }
+{}
+
+/// A disk of which a stop leaves what a read gives can be opened.
+pub fn what_is_read_is_ready()
+    ensures { (w : World) → IsReady w w }
 {}

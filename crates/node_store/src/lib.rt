@@ -9,30 +9,52 @@
 //! let number = received_number(&name);         // 42
 //! ```
 //!
-//! Its files, from the bottom: `digits` and `names` are the names of own files; `recording` makes a file durable and then the
-//! record of it; `books` is the ledger in memory with its fold; `lookups` finds files in the fold; `part` has open parts and
-//! staged files; `store` is the store; `laws` says what holds of every name, ledger and world.
+//! Its files, from the bottom: `digits` and `names` are the names of own files; `spelling` is the text of a record; `recording`
+//! makes files durable and then their records; `books` is the ledger in memory with its fold, and `batches` appends some records
+//! to it together; `lookups` finds files in the fold, and `offers` the next one for an address; `part` has open parts and staged
+//! files, `readying` makes the file of a part ready, and `planning` says what queueing files will write; `store` is the store.
+//! Its calls stand in `beginning`, `marking`, `committing` and `refusing` (a part is opened, marked, becomes a receipt or is
+//! refused), `staging` and
+//! `queueing` (files are staged, and then queued), `queued` (queued files) and `reading`. `opening` makes the store of a disk.
+//! `laws` says what holds of every name, ledger and world.
 //!
-//! Left out: its opening, and the calls that open, mark and commit a part, and those for queued files, giving and acting.
+//! Left out: the calls that give and act, and so the trait of stores itself; and the marks in the outbound that an opening takes
+//! away.
 #![tactic(auto)]
 
+mod batches;
+mod beginning;
 mod books;
+mod committing;
 mod digits;
 mod laws;
 mod lookups;
+mod marking;
 mod names;
+mod offers;
+mod opening;
 mod part;
+mod planning;
+mod queued;
+mod queueing;
+mod reading;
+mod readying;
 mod recording;
+mod refusing;
+mod spelling;
+mod staging;
 mod store;
 #[cfg(test)]
 mod tests;
 
 pub use laws::{
     each_fold_is_numbered, each_name_has_one_number, each_record_is_a_change, giving_is_a_change,
-    names_are_apart, no_bad_file_where_all_fit, take_is_read,
+    names_are_apart, no_bad_file_where_all_fit, no_world_that_opens_is_refused, take_is_read,
+    what_is_read_is_ready,
 };
 pub use names::{
     MarkKind, TakeKind, in_file, mark_file, out_file, queued_number, received_number, take_file,
     take_number,
 };
+pub use opening::{Recovery, StoreOpenFault};
 pub use store::NodeStore;

@@ -24,24 +24,25 @@ use std::marker::Model;
 
 /// A store on a disk: a ledger, and the own files beside it.
 ///
-/// It is begun: its calls so far reserve places, give them back, look files up, and put bytes into an open part.
+/// Its calls so far reserve places, give them back, look files up, read them, stage and queue them, settle what was sent, open a
+/// part, put bytes into it, mark, commit and refuse it.
 ///
 /// What a stop may leave of the disk opens to what the store keeps, unless the disk failed. So the disk is never lent for
 /// writing.
 #[derive(Drop)]
 pub struct NodeStore<D: Disk> {
-    disk: D,
-    books: Books,
-    given: Vec<u32>,
-    parts: Vec<OpenPart>,
-    staged: Vec<StagedFile>,
-    drawn: u32,
-    last_staged: u32,
-    seat: u32,
-    last_given: u32,
-    text: Bytes,
-    fulls: u64,
-    broken: Option<u64>,
+    pub(crate) disk: D,
+    pub(crate) books: Books,
+    pub(crate) given: Vec<u32>,
+    pub(crate) parts: Vec<OpenPart>,
+    pub(crate) staged: Vec<StagedFile>,
+    pub(crate) drawn: u32,
+    pub(crate) last_staged: u32,
+    pub(crate) seat: u32,
+    pub(crate) last_given: u32,
+    pub(crate) text: Bytes,
+    pub(crate) fulls: u64,
+    pub(crate) broken: Option<u64>,
 }
 
 impl<D: Disk> Model for NodeStore<D> {
@@ -125,7 +126,6 @@ impl<D: Disk> NodeStore<D> {
 
     /// The records appended from now on are this seat's. It takes no memory.
     pub fn by(&mut self, seat: u32)
-        requires { self.old.memory.broken ≡ None }
         ensures { StoreKept (stand_of D.tells D.content D.fault_count D.moment D.images self.old) (By_seat seat) Well (stand_of D.tells D.content D.fault_count D.moment D.images self.new) }
     {
         self.seat = seat;

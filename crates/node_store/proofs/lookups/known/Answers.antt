@@ -7,14 +7,12 @@ use Rattle.node_store.proofs.lookups.known.Goals as goal
 
 pub returns-then-is_received : goal.returns-then-is_received
 returns-then-is_received c = λ tells w given.
-    received_alone (address c.args.from.now) (key_of c.args.key.now) (sizes_in tells w given) c.args.folded.now.state c.inbox.result.now c.inbox.ensures (sym c.is_received.ensures ∙ c.if-is_received.true)
+    received_alone (address c.args.from.now) (key_of c.args.key.now) (sizes_in tells w given) c.args.folded.now.state (sym c.is_received.ensures ∙ c.if-is_received.true)
 
 pub returns-then-is_refused : goal.returns-then-is_refused
 returns-then-is_refused c = λ tells w given.
-    known_is (address c.args.from.now) (key_of c.args.key.now) (sizes_in tells w given) c.args.folded.now.state c.inbox.result.now c.refused.result.now false true c.inbox.ensures c.refused.ensures
-    (sym c.is_received.ensures ∙ c.if-is_received.false) (sym c.is_refused.ensures ∙ c.if-is_refused.true)
+    known_is (address c.args.from.now) (key_of c.args.key.now) (sizes_in tells w given) c.args.folded.now.state false true (sym c.is_received.ensures ∙ c.if-is_received.false) (sym c.is_refused.ensures ∙ c.if-is_refused.true)
 
 pub returns-else-is_refused : goal.returns-else-is_refused
 returns-else-is_refused c = λ tells w given.
-    known_is (address c.args.from.now) (key_of c.args.key.now) (sizes_in tells w given) c.args.folded.now.state c.inbox.result.now c.refused.result.now false false c.inbox.ensures c.refused.ensures
-    (sym c.is_received.ensures ∙ c.if-is_received.false) (sym c.is_refused.ensures ∙ c.if-is_refused.false)
+    known_is (address c.args.from.now) (key_of c.args.key.now) (sizes_in tells w given) c.args.folded.now.state false false (sym c.is_received.ensures ∙ c.if-is_received.false) (sym c.is_refused.ensures ∙ c.if-is_refused.false)

@@ -1,4 +1,4 @@
-use Rattle.std.proofs.Common.{◌≡◌, ◌-◌, None, ◌∙◌, ap, subst, arith}
+use Rattle.std.proofs.Common.{◌≡◌, ◌-◌, ap, subst, arith}
 use Rattle.node_model.specs.Stores.{StoreKept, Release, Well}
 use Rattle.node_model.specs.StoreStates.{shelf_of}
 use Rattle.node_store.specs.Stored.{Holding, Memory, stand_of}
@@ -17,8 +17,7 @@ returns g c =
     let s = c.self.inside in
     let m : Memory = record { books = s.books; given = s.given.items; parts = s.parts.items; staged = s.staged.items; drawn = s.drawn; last_staged = s.last_staged; seat = s.seat; last_given = s.last_given; fulls = s.fulls; broken = s.broken } in
     let m' : Memory = record { books = c.release.new.self; given = s.given.items; parts = s.parts.items; staged = s.staged.items; drawn = s.drawn; last_staged = s.last_staged; seat = s.seat; last_given = s.last_given; fulls = s.fulls; broken = s.broken } in
-    let whole : s.broken ≡ None = ap (λ (x : Holding g.row.D.Denot). x.memory.broken) c.self.view_is ∙ c.requires.whole in
     let left : c.release.new.self.reserved ≡ s.books.reserved - c.args.places = omega (arith, c.release.ensures.reserved) in
     subst (λ (x : Holding g.row.D.Denot). StoreKept (stand_of g.D.Disk.tells g.D.Disk.content g.D.Disk.fault_count g.D.Disk.moment g.D.Disk.images x) (Release c.args.places) Well (stand_of g.D.Disk.tells g.D.Disk.content g.D.Disk.fault_count g.D.Disk.moment g.D.Disk.images (record { disk = s.disk; memory = m' }))) c.self.view_is
-    (still_call g.D.Disk.tells g.D.Disk.content g.D.Disk.fault_count g.D.Disk.moment g.D.Disk.images s.disk m m' (Release c.args.places) Well c.self.invariant.0.memory.books.folds (c.self.invariant.0.kept whole) (ap shelf_of (same_stored (g.D.Disk.content s.disk) m c.release.new.self c.release.ensures.same))
+    (still_call g.D.Disk.tells g.D.Disk.content g.D.Disk.fault_count g.D.Disk.moment g.D.Disk.images s.disk m m' (Release c.args.places) Well c.self.invariant.0.memory.books.folds c.self.invariant.0.kept (ap shelf_of (same_stored (g.D.Disk.content s.disk) m c.release.new.self c.release.ensures.same))
     (places_told g.D.Disk.tells (g.D.Disk.content s.disk) (g.D.Disk.fault_count s.disk) m c.release.new.self (s.books.reserved - c.args.places) c.release.ensures.same left))

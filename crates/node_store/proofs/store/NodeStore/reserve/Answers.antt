@@ -1,4 +1,4 @@
-use Rattle.std.proofs.Common.{◌≡◌, ℕ, Err, ◌+◌, None, ◌∙◌, ap, subst, rules}
+use Rattle.std.proofs.Common.{◌≡◌, ℕ, Err, ◌+◌, ◌∙◌, ap, subst, rules}
 use Rattle.ftn_addr.specs.Counts.{next_count}
 use Rattle.node_model.specs.declared.store.StoreFault.TheVariants.{Full, NoMemory}
 use Rattle.node_model.specs.StoreStates.{shelf_of}
@@ -27,16 +27,15 @@ invariant_of-self-in-Err-Full g c =
     let s = c.self.inside in
     let m : Memory = record { books = s.books; given = s.given.items; parts = s.parts.items; staged = s.staged.items; drawn = s.drawn; last_staged = s.last_staged; seat = s.seat; last_given = s.last_given; fulls = s.fulls; broken = s.broken } in
     let h = sound_same g.D.Disk.tells g.D.Disk.content g.D.Disk.moment g.D.Disk.images s.disk m c.reserve.new.self c.reserve.ensures.same c.reserve.ensures.books c.self.invariant.0 in
-    (record { memory = record { books = h.memory.books; orderly = h.memory.orderly; parts = h.memory.parts; marked = h.memory.marked; received = h.memory.received; staged = h.memory.staged; queued = h.memory.queued }; kept = λ whole w now. let k = h.kept whole w now in record { ledger = k.ledger; files = k.files; same = k.same }; bodies = λ whole t. let b = h.bodies whole t in record { parts = b.parts; staged = b.staged } }, c.self.invariant.1)
+    (record { memory = record { books = h.memory.books; orderly = h.memory.orderly; parts = h.memory.parts; marked = h.memory.marked; received = h.memory.received; numbers = h.memory.numbers; given = h.memory.given; staged = h.memory.staged; queued = h.memory.queued }; kept = λ whole w now. let k = h.kept whole w now in record { ledger = k.ledger; files = k.files; same = k.same }; bodies = λ whole t. let b = h.bodies whole t in record { parts = b.parts; staged = b.staged } }, c.self.invariant.1)
 
 pub returns-in-Ok : goal.returns-in-Ok
 returns-in-Ok g c =
     let s = c.self.inside in
     let m : Memory = record { books = s.books; given = s.given.items; parts = s.parts.items; staged = s.staged.items; drawn = s.drawn; last_staged = s.last_staged; seat = s.seat; last_given = s.last_given; fulls = s.fulls; broken = s.broken } in
     let m' : Memory = record { books = c.reserve.new.self; given = s.given.items; parts = s.parts.items; staged = s.staged.items; drawn = s.drawn; last_staged = s.last_staged; seat = s.seat; last_given = s.last_given; fulls = s.fulls; broken = s.broken } in
-    let whole : s.broken ≡ None = ap (λ (x : Holding g.row.D.Denot). x.memory.broken) c.self.view_is ∙ c.requires in
     subst (λ (x : Holding g.row.D.Denot). StoreKept (stand_of g.D.Disk.tells g.D.Disk.content g.D.Disk.fault_count g.D.Disk.moment g.D.Disk.images x) (Reserve c.args.places) Well (stand_of g.D.Disk.tells g.D.Disk.content g.D.Disk.fault_count g.D.Disk.moment g.D.Disk.images (record { disk = s.disk; memory = m' }))) c.self.view_is
-    (still_call g.D.Disk.tells g.D.Disk.content g.D.Disk.fault_count g.D.Disk.moment g.D.Disk.images s.disk m m' (Reserve c.args.places) Well c.self.invariant.0.memory.books.folds (c.self.invariant.0.kept whole) (ap shelf_of (same_stored (g.D.Disk.content s.disk) m c.reserve.new.self c.reserve.ensures.same))
+    (still_call g.D.Disk.tells g.D.Disk.content g.D.Disk.fault_count g.D.Disk.moment g.D.Disk.images s.disk m m' (Reserve c.args.places) Well c.self.invariant.0.memory.books.folds c.self.invariant.0.kept (ap shelf_of (same_stored (g.D.Disk.content s.disk) m c.reserve.new.self c.reserve.ensures.same))
     (c.in-Ok.ensures.room, places_told g.D.Disk.tells (g.D.Disk.content s.disk) (g.D.Disk.fault_count s.disk) m c.reserve.new.self (s.books.reserved + c.args.places) c.reserve.ensures.same c.in-Ok.ensures.reserved))
 
 pub returns-in-Err-NoMemory : goal.returns-in-Err-NoMemory
@@ -44,9 +43,8 @@ returns-in-Err-NoMemory g c =
     let s = c.self.inside in
     let m : Memory = record { books = s.books; given = s.given.items; parts = s.parts.items; staged = s.staged.items; drawn = s.drawn; last_staged = s.last_staged; seat = s.seat; last_given = s.last_given; fulls = s.fulls; broken = s.broken } in
     let m' : Memory = record { books = c.reserve.new.self; given = s.given.items; parts = s.parts.items; staged = s.staged.items; drawn = s.drawn; last_staged = s.last_staged; seat = s.seat; last_given = s.last_given; fulls = s.fulls; broken = s.broken } in
-    let whole : s.broken ≡ None = ap (λ (x : Holding g.row.D.Denot). x.memory.broken) c.self.view_is ∙ c.requires in
     subst (λ (x : Holding g.row.D.Denot). StoreKept (stand_of g.D.Disk.tells g.D.Disk.content g.D.Disk.fault_count g.D.Disk.moment g.D.Disk.images x) (Reserve c.args.places) (Refuses NoMemory) (stand_of g.D.Disk.tells g.D.Disk.content g.D.Disk.fault_count g.D.Disk.moment g.D.Disk.images (record { disk = s.disk; memory = m' }))) c.self.view_is
-    (still_call g.D.Disk.tells g.D.Disk.content g.D.Disk.fault_count g.D.Disk.moment g.D.Disk.images s.disk m m' (Reserve c.args.places) (Refuses NoMemory) c.self.invariant.0.memory.books.folds (c.self.invariant.0.kept whole) (ap shelf_of (same_stored (g.D.Disk.content s.disk) m c.reserve.new.self c.reserve.ensures.same))
+    (still_call g.D.Disk.tells g.D.Disk.content g.D.Disk.fault_count g.D.Disk.moment g.D.Disk.images s.disk m m' (Reserve c.args.places) (Refuses NoMemory) c.self.invariant.0.memory.books.folds c.self.invariant.0.kept (ap shelf_of (same_stored (g.D.Disk.content s.disk) m c.reserve.new.self c.reserve.ensures.same))
     (tt, places_told g.D.Disk.tells (g.D.Disk.content s.disk) (g.D.Disk.fault_count s.disk) m c.reserve.new.self (s.books.reserved) c.reserve.ensures.same c.in-Err-NoMemory.ensures.unreserved))
 
 pub returns-in-Err-Full : goal.returns-in-Err-Full
@@ -54,10 +52,9 @@ returns-in-Err-Full g c =
     let s = c.self.inside in
     let m : Memory = record { books = s.books; given = s.given.items; parts = s.parts.items; staged = s.staged.items; drawn = s.drawn; last_staged = s.last_staged; seat = s.seat; last_given = s.last_given; fulls = s.fulls; broken = s.broken } in
     let m' : Memory = record { books = c.reserve.new.self; given = s.given.items; parts = s.parts.items; staged = s.staged.items; drawn = s.drawn; last_staged = s.last_staged; seat = s.seat; last_given = s.last_given; fulls = c.saturating_add-self-inside.result; broken = s.broken } in
-    let whole : s.broken ≡ None = ap (λ (x : Holding g.row.D.Denot). x.memory.broken) c.self.view_is ∙ c.requires in
     let count : c.saturating_add-self-inside.result ≡ next_count s.fulls = search rules in
     subst (λ (x : Holding g.row.D.Denot). StoreKept (stand_of g.D.Disk.tells g.D.Disk.content g.D.Disk.fault_count g.D.Disk.moment g.D.Disk.images x) (Reserve c.args.places) (Refuses Full) (stand_of g.D.Disk.tells g.D.Disk.content g.D.Disk.fault_count g.D.Disk.moment g.D.Disk.images (record { disk = s.disk; memory = m' }))) c.self.view_is
-    (still_call g.D.Disk.tells g.D.Disk.content g.D.Disk.fault_count g.D.Disk.moment g.D.Disk.images s.disk m m' (Reserve c.args.places) (Refuses Full) c.self.invariant.0.memory.books.folds (c.self.invariant.0.kept whole) (ap shelf_of (same_stored (g.D.Disk.content s.disk) m c.reserve.new.self c.reserve.ensures.same)) (
+    (still_call g.D.Disk.tells g.D.Disk.content g.D.Disk.fault_count g.D.Disk.moment g.D.Disk.images s.disk m m' (Reserve c.args.places) (Refuses Full) c.self.invariant.0.memory.books.folds c.self.invariant.0.kept (ap shelf_of (same_stored (g.D.Disk.content s.disk) m c.reserve.new.self c.reserve.ensures.same)) (
       c.reserve.ensures.full.0 (c.in-Err-Full.is ∙ ap Err c.in-Err-Full.field-0-is),
       places_told g.D.Disk.tells (g.D.Disk.content s.disk) (g.D.Disk.fault_count s.disk) (record m { fulls = c.saturating_add-self-inside.result }) c.reserve.new.self s.books.reserved c.reserve.ensures.same c.in-Err-Full.ensures.unreserved
           ∙ ap (λ (n : ℕ). record (state_of g.D.Disk.tells (g.D.Disk.content s.disk) (g.D.Disk.fault_count s.disk) m) { counts = record { faults = g.D.Disk.fault_count s.disk; fulls = n; broken = s.broken } }) count,

@@ -1,0 +1,11 @@
+use Rattle.std.proofs.Common.{◌≡◌, drop}
+use Rattle.std.specs.Prelude.{find}
+use Rattle.ftn_addr.specs.Address.{address}
+use Rattle.ftn_addr.specs.Files.{is_same}
+use Rattle.ftn_addr.specs.Key.{key_of}
+use Rattle.ledger_rec.specs.declared.items.QueueItem.{QueueItem}
+use Rattle.node_store.proofs.planning.number_queued.Given as goal
+
+abbrev pub invariant-loop-item : goal.invariant-loop-item
+invariant-loop-item l =
+    find (λ (x : QueueItem). is_same (address l.file.dest) (key_of l.file.key) (address x.dest) (key_of x.key)) (drop l.item-index l.queue) ≡ find (λ (x : QueueItem). is_same (address l.file.dest) (key_of l.file.key) (address x.dest) (key_of x.key)) l.queue
