@@ -165,5 +165,5 @@ queued_whole u v w bytes number f slots first second same staged batch queued wh
     let last : Fitted (with_all_queued None None (f ∷ []) v.state) (no_seats settings) = record { keeps = take_stored None (stored_after (all_queued (f ∷ []) None) v.state.seat (queueing_records None None (f ∷ []) v.state) z.keeps); tells = told_twice v.state.content z.keeps _ _ z.tells; fits = queued_fits settings z.keeps v.state f few batch room z.fits } in
     record {
       fitted = λ still. subst (λ (t : StoreState). Fitted t (no_seats settings)) (sym queued.made.2) last;
-      settled = λ still. queued.now tt;
+      settled = queued.now;
     }

@@ -1,11 +1,13 @@
 //! One end of a line, with the session that a node holds over it.
 ghost use Rattle.std.specs.Prelude.{◌≡◌, ◌≤◌, IfOk};
+ghost use Rattle.ftn_addr.specs.Address.{address as address_of};
+ghost use Rattle.ftn_addr.specs.Limits.{IsAddress};
 ghost use Rattle.session_rows.specs.Halves.{MayStep};
 ghost use Rattle.session_rows.specs.declared.half.Holding.TheVariants as H;
 
 use crate::node::{Node, Who};
 use binkp_link::MemPipe;
-use ftn_addr::NoMemory;
+use ftn_addr::{Addr, NoMemory};
 use hub_core::{Hub, HubDesk};
 use list_store::ListStore;
 use session_core::{Setting, Side};
@@ -64,12 +66,7 @@ impl Half {
     /// A session of that node at that side, before its first turn.
     pub fn new(alloc: Global, node: Node, side: Side) -> Result<Half, NoMemory> {
         let Node { who, store } = node;
-        let setting = Setting {
-            home: who.home.copy(alloc)?,
-            moment: MOMENT,
-            limit: SESSION_LIMIT,
-            block: BLOCK,
-        };
+        let setting = setting(who.home.copy(alloc)?);
         let mut hub = Hub::new(alloc, store, who.conf(alloc)?);
         let seat = hub.seat()?;
         let desk = HubDesk { hub, seat };
@@ -145,6 +142,19 @@ impl Half {
             Holding::Over(report, node) => self.session = Holding::Over(report, node),
             Holding::Gone => {}
         }
+    }
+}
+
+/// The setting of a session of the tests, which says that own address.
+pub fn setting(home: Addr) -> Setting
+    requires { IsAddress (address_of home) }
+    ensures { result.limit ≡ 17_592_186_044_416 }
+{
+    Setting {
+        home,
+        moment: MOMENT,
+        limit: SESSION_LIMIT,
+        block: BLOCK,
     }
 }
 

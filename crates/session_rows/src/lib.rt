@@ -3,7 +3,8 @@
 //!
 //! [`Node`] is a node that no session uses: who it is, and what it keeps. A [`Half`] is one end of a line with the session
 //! that a node holds over it, and [`talk`] lets two of these make their turns, one after the other, and carries what each
-//! wrote to the other.
+//! wrote to the other. A [`Peer`] says to a half what a test tells it to say. A [`Post`] is a node that holds two sessions at
+//! a time, and [`cross`] lets two nodes hold two sessions with one another, each over a line of its own.
 //!
 //! ```
 //! let near = Node::new(alloc, 1)?.queued(alloc, 2, Offered { index: 1, size: 4097 })?;
@@ -16,6 +17,8 @@
 //! waits for them.
 #![tactic(auto)]
 
+mod crossed;
+mod crossing;
 mod half;
 mod node;
 mod offered;
@@ -25,6 +28,8 @@ mod talking;
 mod tests;
 mod words;
 
+pub use crossed::cross;
+pub use crossing::{Leg, Plan, Post, Told};
 pub use half::{Half, Holding, Talk};
 pub use node::{Node, Who};
 pub use offered::{Offered, address};

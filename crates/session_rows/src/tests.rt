@@ -7,9 +7,12 @@ use session_run::Report;
 use std::alloc::Global;
 use std::mem;
 
+mod asked;
+mod crossed;
 mod cut_off;
 mod many;
 mod mixed;
+mod odd_words;
 mod ordinary;
 mod refused_words;
 

@@ -92,4 +92,16 @@ impl Words {
         let words = self.raw(&[0, len as u8])?;
         words.raw(&bytes[..len])
     }
+
+    /// With the frame of data of that file from that place, of at most 4,096 bytes: an empty one at its end
+    /// and past it.
+    pub fn block(self, file: Offered, place: u64) -> Result<Words, NoMemory> {
+        let content = file.content(self.alloc)?;
+        let Some(rest) = content.as_slice().get(place as usize..) else {
+            return self.raw(&[0, 0]);
+        };
+        let len = rest.len().min(4096);
+        let words = self.raw(&[(len / 256) as u8, (len % 256) as u8])?;
+        words.raw(&rest[..len])
+    }
 }

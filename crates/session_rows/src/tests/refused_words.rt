@@ -2,7 +2,7 @@
 use super::{FAR, NEAR};
 use crate::{Half, Node, Offered, Peer, Words};
 use binkp_args::ArgFault;
-use ftn_addr::Bytes;
+use ftn_addr::{Bytes, NoMemory};
 use session_core::{Cause, End, Side};
 use std::alloc::Global;
 use std::test::Fail;
@@ -15,19 +15,43 @@ const BROKEN_FRAME: &[u8] = b"\x80\x0d\x07broken frame";
 // M_ERR `offset again`.
 const OFFSET_AGAIN: &[u8] = b"\x80\x0d\x07offset again";
 
-// How a session ends whose caller says this behind its login, and the last bytes that it hears.
-fn broken_off_by(alloc: Global, words: &[u8], last: &[u8]) -> Result<Option<End>, Fail> {
-    let mut peer = Peer::new(alloc);
-    let mut half = Half::new(alloc, Node::new(alloc, NEAR)?, Side::Answers)?;
+fn answering(alloc: Global) -> Result<Half, NoMemory> {
+    let node = Node::new(alloc, NEAR)?;
+    Half::new(alloc, node, Side::Answers)
+}
+
+// Says this behind a login. Whether these are the last bytes that the peer hears.
+fn hears_last(
+    alloc: Global,
+    peer: &mut Peer,
+    half: &mut Half,
+    words: &[u8],
+    last: &[u8],
+) -> Result<bool, NoMemory> {
     let words = Words::new(alloc).login(FAR)?.raw(words)?;
-    let heard = peer.say(alloc, &mut half, words.as_slice(), 8)?;
-    let Some((report, node)) = half.into_over() else {
-        return Ok(None);
-    };
-    if !node.store.receipts().is_empty() || !heard.as_slice().ends_with(last) {
-        return Ok(None);
+    let heard = peer.say(alloc, half, words.as_slice(), 8)?;
+    Ok(heard.as_slice().ends_with(last))
+}
+
+// How a session ended, where that is over and received nothing.
+fn end_of(half: Half) -> Option<End> {
+    let (report, node) = half.into_over()?;
+    let received = node.store.receipts().len();
+    drop(node);
+    if received == 0 {
+        Some(report.end)
+    } else {
+        None
     }
-    Ok(Some(report.end))
+}
+
+// How a session ends whose caller says this behind its login, where these are the last bytes that the caller hears.
+fn broken_off_by(alloc: Global, words: &[u8], last: &[u8]) -> Result<Option<End>, Fail> {
+    let mut half = answering(alloc)?;
+    let mut peer = Peer::new(alloc);
+    let heard = hears_last(alloc, &mut peer, &mut half, words, last);
+    let end = end_of(half);
+    Ok(if heard? { end } else { None })
 }
 
 #[test]

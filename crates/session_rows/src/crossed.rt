@@ -1,0 +1,53 @@
+//! Two nodes that hold two sessions with one another.
+
+use crate::crossing::Post;
+use ftn_addr::NoMemory;
+use std::alloc::Global;
+
+/// More rounds than any crossing of the tests has.
+const ROUNDS: u32 = 100_000;
+
+/// Rounds enough for a login.
+const LOGIN: u32 = 8;
+
+/// Lets two nodes hold two sessions with one another, each over a line of its own: the first is begun, then the second,
+/// and then they make their turns one beside the other, until all are over.
+pub fn cross(alloc: Global, near: &mut Post, far: &mut Post) -> Result<(), NoMemory> {
+    begin(alloc, near, far)?;
+    swap(near, far);
+    begin(alloc, near, far)?;
+    for _ in 0..ROUNDS {
+        if near.is_over() && far.is_over() {
+            break;
+        }
+        swap(near, far);
+        round(alloc, near, far)?;
+    }
+    Ok(())
+}
+
+fn begin(alloc: Global, near: &mut Post, far: &mut Post) -> Result<(), NoMemory> {
+    for _ in 0..LOGIN {
+        round(alloc, near, far)?;
+    }
+    Ok(())
+}
+
+// The other sessions make the next turns.
+fn swap(near: &mut Post, far: &mut Post) {
+    near.swap();
+    far.swap();
+}
+
+// Each end of one line makes a turn, and what it wrote is carried to the other.
+fn round(alloc: Global, near: &mut Post, far: &mut Post) -> Result<(), NoMemory> {
+    half_round(alloc, near, far)?;
+    half_round(alloc, far, near)
+}
+
+fn half_round(alloc: Global, near: &mut Post, far: &mut Post) -> Result<(), NoMemory> {
+    near.turn(alloc);
+    near.tell(far)?;
+    far.cut_if(near.own.is_over());
+    Ok(())
+}

@@ -1,0 +1,297 @@
+//! A node that holds two sessions at a time, each over a line of its own.
+ghost use Rattle.std.specs.Prelude.{◌≡◌, ◌<◌, ◌≢◌, length, IfOk, IfSome, IsTrue};
+ghost use Rattle.ftn_addr.specs.Address.{address as address_of};
+ghost use Rattle.ftn_addr.specs.Limits.{IsAddress};
+ghost use Rattle.list_store.specs.ListStates.{stand_of};
+ghost use Rattle.hub_core.specs.Hubs.{IsReady, hub_stand, hub_state, settings_of};
+ghost use Rattle.hub_core.specs.Opening.{IsWhole, no_seats, with_seat};
+ghost use Rattle.session_rows.specs.Halves.{MayGoOn};
+ghost use Rattle.session_rows.specs.Crossings.{CameIn, GoesOn, HoldsBoth, MayBegin, MayTell, MayTurnLeg, Ran, Rests, TurnRan};
+
+use crate::half::setting;
+use crate::node::{Node, Who};
+use binkp_link::MemPipe;
+use ftn_addr::{Addr, NoMemory};
+use hub_core::{Desk, Hub, HubConf, HubDesk, Knock};
+use list_store::ListStore;
+use node_model::Role;
+use session_core::Side;
+use session_run::{Course, Report, Turn};
+use std::alloc::Global;
+use std::marker::Model;
+use std::mem;
+
+/// A session that is to come: the own address that it says, and its side.
+#[derive(Drop)]
+pub struct Plan {
+    pub home: Addr,
+    pub side: Side,
+    pub ghost home_is: { IsAddress (address_of home) },
+}
+
+/// What a node has of one of its two sessions.
+#[derive(Drop)]
+pub enum Told {
+    /// It goes on.
+    Goes(Course),
+    /// It was closed with that report.
+    Over(Report),
+    /// Its store broke, or its seat is gone: no test comes here.
+    Lost,
+}
+
+/// One of a node's two sessions: its end of the line, and its seat.
+#[derive(Drop)]
+pub struct Leg {
+    pub pipe: MemPipe,
+    pub seat: u32,
+    pub told: Told,
+}
+
+/// A node that holds two sessions over its one store.
+#[derive(Drop)]
+pub struct Post {
+    pub who: Who,
+    pub desk: HubDesk<ListStore>,
+    /// The session that makes the next turn.
+    pub own: Leg,
+    pub other: Leg,
+}
+
+impl Model for Post {
+    ghost use Rattle.binkp_link.specs.Pipes.{Pipe};
+    ghost use Rattle.list_store.specs.ListStates.{stand_of};
+    ghost use Rattle.hub_core.specs.Hubs.{hub_state};
+    ghost use Rattle.session_rows.specs.Crossings.{HoldsBoth};
+
+    ghost Value = { Pipe };
+
+    ghost view = { λ p. p.own.pipe };
+
+    ghost invariant = { λ p. HoldsBoth (stand_of p.desk.hub.store) (hub_state p.desk.hub.seats) p.desk.seat p.own p.other };
+}
+
+impl Leg {
+    fn new(alloc: Global, seat: u32, plan: Plan) -> Leg
+        ensures begins { MayBegin result.pipe result.told }
+        ensures seat { result.seat ≡ seat }
+    {
+        let Plan { home, side } = plan;
+        Leg {
+            pipe: MemPipe::new(alloc),
+            seat,
+            told: Told::Goes(Course::new(alloc, side, setting(home))),
+        }
+    }
+
+    // What it was before is dropped by a call, whose proof stands once.
+    fn set(&mut self, told: Told)
+        ensures pipe { self.new.pipe ≡ self.old.pipe }
+        ensures seat { self.new.seat ≡ self.old.seat }
+        ensures told { self.new.told ≡ told }
+    {
+        drop(mem::replace(&mut self.told, told));
+    }
+
+    /// Whether it makes no turn more.
+    pub fn is_over(&self) -> bool {
+        match &self.told {
+            Told::Goes(_) => false,
+            Told::Over(_) => true,
+            Told::Lost => true,
+        }
+    }
+
+    // Whether its end is there, and it isn't closed yet.
+    fn is_draining(&self) -> bool {
+        match &self.told {
+            Told::Goes(course) => !course.talks(),
+            Told::Over(_) => false,
+            Told::Lost => false,
+        }
+    }
+}
+
+impl Post {
+    /// A node with two sessions that are to come, the first one at its second seat. Each says that own address.
+    #[tactic(auto, using(crate::proofs::Resting::both_begin))]
+    pub fn new(alloc: Global, node: Node, first: Plan, second: Plan) -> Result<Post, NoMemory> {
+        let Node { who, store } = node;
+        let desk = second_desk(alloc, store, who.conf(alloc)?)?;
+        Ok(Post {
+            who,
+            desk,
+            own: Leg::new(alloc, 1, first),
+            other: Leg::new(alloc, 0, second),
+        })
+    }
+
+    /// The other session makes the next turn.
+    pub fn swap(&mut self) {
+        mem::swap(&mut self.own, &mut self.other);
+    }
+
+    /// A turn of one session, and the turns that close that once its end is there: a session that is left has no seat that
+    /// can be seen, and so doesn't rest.
+    pub fn turn(&mut self, alloc: Global) {
+        self.turn_once(alloc);
+        for _ in 0..2 {
+            if self.own.is_draining() {
+                self.turn_once(alloc);
+            }
+        }
+    }
+
+    fn turn_once(&mut self, alloc: Global) {
+        match mem::replace(&mut self.own.told, Told::Lost) {
+            Told::Goes(course) => {
+                turn_beside(
+                    alloc,
+                    course,
+                    &mut self.desk,
+                    &mut self.own,
+                    &mut self.other,
+                );
+            }
+            Told::Over(report) => self.own.set(Told::Over(report)),
+            Told::Lost => {}
+        }
+    }
+
+    /// Takes all that its one session wrote to the other end.
+    pub fn tell(&mut self, far: &mut Post) -> Result<(), NoMemory> {
+        match self.own.pipe.carry(&mut far.own.pipe, u64::MAX) {
+            Ok(_) => Ok(()),
+            Err(NoMemory) => Err(NoMemory),
+        }
+    }
+
+    /// Ends the line at this end, where it is to end.
+    pub fn cut_if(&mut self, ends: bool) {
+        if ends {
+            self.own.pipe.cut();
+        }
+    }
+
+    /// The node as its sessions left it.
+    pub fn into_node(self) -> Node {
+        let Post {
+            who,
+            desk,
+            own,
+            other,
+        } = self;
+        drop(own);
+        drop(other);
+        let store = desk.hub.into_store();
+        Node { who, store }
+    }
+
+    /// Whether both sessions are over.
+    pub fn is_over(&self) -> bool {
+        self.own.is_over() && self.other.is_over()
+    }
+}
+
+// The desk of the second seat of a hub that has two.
+#[tactic(auto, using(crate::proofs::Resting::still_whole))]
+fn second_desk(
+    alloc: Global,
+    store: ListStore,
+    conf: HubConf,
+) -> Result<HubDesk<ListStore>, NoMemory>
+    requires { IsWhole (stand_of store) (no_seats (settings_of conf)) }
+    ensures seat { IfOk result (λ desk. desk.seat ≡ 1) }
+    ensures seats { IfOk result (λ desk. hub_state desk.hub.seats ≡ with_seat (with_seat (no_seats (settings_of conf)))) }
+    ensures ready { IfOk result (λ desk. IsReady (stand_of desk.hub.store) (hub_state desk.hub.seats) desk.seat) }
+{
+    let mut hub = Hub::new(alloc, store, conf);
+    hub.seat()?;
+    let seat = hub.seat()?;
+    Ok(HubDesk { hub, seat })
+}
+
+// A turn of a session that goes on, beside another one that rests: that began before, or has the lesser seat.
+fn turn_beside(
+    alloc: Global,
+    course: Course,
+    desk: &mut HubDesk<ListStore>,
+    own: &mut Leg,
+    other: &mut Leg,
+)
+    requires ready { IsReady (stand_of desk.old.hub.store) (hub_state desk.old.hub.seats) desk.old.seat }
+    requires own { Rests (stand_of desk.old.hub.store) (hub_state desk.old.hub.seats) own.old.seat course own.old.pipe }
+    requires other { MayTurnLeg (stand_of desk.old.hub.store) (hub_state desk.old.hub.seats) other.old }
+    requires apart { own.old.seat ≢ other.old.seat }
+    ensures { HoldsBoth (stand_of desk.new.hub.store) (hub_state desk.new.hub.seats) desk.new.seat own.new other.new }
+{
+    let seat = own.seat;
+    desk.seat = seat;
+    match turned(alloc, &mut own.pipe, course, desk) {
+        Some(told) => {
+            own.set(told);
+            if !is_given(&desk.hub, other.seat, seat) {
+                other.set(Told::Lost);
+            }
+        }
+        None => {
+            own.set(Told::Lost);
+            other.set(Told::Lost);
+        }
+    }
+}
+
+// A turn of a session that goes on, at the desk of its seat; none over a broken store.
+fn turned(
+    alloc: Global,
+    pipe: &mut MemPipe,
+    course: Course,
+    desk: &mut HubDesk<ListStore>,
+) -> Option<Told>
+    requires ready { IsReady (stand_of desk.old.hub.store) (hub_state desk.old.hub.seats) desk.old.seat }
+    requires rests { Rests (stand_of desk.old.hub.store) (hub_state desk.old.hub.seats) desk.old.seat course pipe.old }
+    ensures seat { desk.new.seat ≡ desk.old.seat }
+    ensures ready { IsReady (stand_of desk.new.hub.store) (hub_state desk.new.hub.seats) desk.new.seat }
+    ensures ran { IfSome result (λ told. Ran (stand_of desk.old.hub.store) (hub_state desk.old.hub.seats) desk.old.seat (stand_of desk.new.hub.store) (hub_state desk.new.hub.seats)) }
+    ensures may { IfSome result (λ told. MayTell (stand_of desk.new.hub.store) (hub_state desk.new.hub.seats) desk.new.seat pipe.new told) }
+{
+    if !is_sound(desk) {
+        drop(course);
+        return None;
+    }
+    Some(go_on(alloc, pipe, course, desk))
+}
+
+// Whether the store isn't broken. It asks by a call that changes nothing.
+fn is_sound(desk: &mut HubDesk<ListStore>) -> bool
+    requires { IsReady (stand_of desk.old.hub.store) (hub_state desk.old.hub.seats) desk.old.seat }
+    ensures seat { desk.new.seat ≡ desk.old.seat }
+    ensures ready { IsReady (stand_of desk.new.hub.store) (hub_state desk.new.hub.seats) desk.new.seat }
+    ensures came { IsTrue result → CameIn (stand_of desk.old.hub.store) (hub_state desk.old.hub.seats) desk.old.seat (stand_of desk.new.hub.store) (hub_state desk.new.hub.seats) }
+{
+    matches!(desk.knock(Role::Calls), Ok(Knock::Come))
+}
+
+fn go_on(alloc: Global, pipe: &mut MemPipe, course: Course, desk: &mut HubDesk<ListStore>) -> Told
+    requires { MayGoOn (stand_of desk.old.hub.store) (hub_state desk.old.hub.seats) desk.old.seat course pipe.old }
+    ensures ready { IsReady (stand_of desk.new.hub.store) (hub_state desk.new.hub.seats) desk.new.seat }
+    ensures ran { TurnRan (hub_stand (stand_of desk.old.hub.store) (hub_state desk.old.hub.seats) desk.old.seat) (hub_stand (stand_of desk.new.hub.store) (hub_state desk.new.hub.seats) desk.new.seat) }
+    ensures may { GoesOn (stand_of desk.new.hub.store) (hub_state desk.new.hub.seats) desk.new.seat pipe.new result }
+{
+    let mut course = course;
+    match course.turn(alloc, pipe, desk) {
+        Turn::More => Told::Goes(course),
+        Turn::Ended(report) => {
+            drop(course);
+            Told::Over(report)
+        }
+    }
+}
+
+// Whether the hub has that seat, as it has a greater one, or one with a session.
+fn is_given(hub: &Hub<ListStore>, seat: u32, greater: u32) -> bool
+    requires { greater < length (hub_state hub.now.seats).chairs }
+    ensures { IsTrue result → seat < length (hub_state hub.now.seats).chairs }
+{
+    seat < greater || hub.session(seat).is_some()
+}
