@@ -75,9 +75,10 @@ abbrev pub Removes : List ℕ → Hit → World → World → Type 0
 Removes path HitDone old new = OnOutside (Puts path None) old new
 Removes path Other old new = Same old new
 
-abbrev pub Empties : List ℕ → Hit → World → World → Type 0
-Empties path HitDone old new = PutsOut path [] old new
-Empties path Other old new = Same old new
+-- the empty file has that time
+abbrev pub Empties : List ℕ → ℕ → Hit → World → World → Type 0
+Empties path time HitDone old new = OnOutside (Puts path (Some (record { bytes = []; time = time }))) old new
+Empties path time Other old new = Same old new
 
 -- mark: Made where no file stood under the path
 abbrev pub MarkingOf : Marking → Option OutFile → Type 0
@@ -98,6 +99,6 @@ abbrev pub GivingOf : Giving → List ℕ → World → Type 0
 GivingOf Given path w = IsInUse path w.outside → ⊥
 GivingOf Taken path w = IsInUse path w.outside
 
-abbrev pub GivesTo : List ℕ → List ℕ → List ℕ → Giving → World → World → Type 0
-GivesTo own folder name Given old new = Gives own folder name (path_in folder name) old new
-GivesTo own folder name Taken old new = Same old new
+abbrev pub GivesTo : List ℕ → List ℕ → List ℕ → ℕ → Giving → World → World → Type 0
+GivesTo own folder name time Given old new = Gives own folder name (path_in folder name) time old new
+GivesTo own folder name time Taken old new = Same old new

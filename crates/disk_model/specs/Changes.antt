@@ -94,10 +94,9 @@ pub record Moves (path name : List ℕ) (old new : World) : Type 0 where
   pub own : Puts name (Some file.bytes) old.own new.own
   pub gifts : new.gifts ≡ old.gifts
 
--- an own file became an outside file of some time, and is a gift
-pub record Gives (own folder name path : List ℕ) (old new : World) : Type 0 where
+-- an own file became an outside file of that time, and is a gift
+pub record Gives (own folder name path : List ℕ) (time : ℕ) (old new : World) : Type 0 where
   pub bytes : List ℕ
-  pub time : ℕ
   pub was : old.own own ≡ Some bytes
   pub gone : Puts own None old.own new.own
   pub outside : Puts path (Some (record { bytes = bytes; time = time })) old.outside new.outside

@@ -2,7 +2,7 @@
 use Rattle.std.specs.Prelude.{◌≡◌, ℕ, ◌+◌, ◌≤◌, Option, Some, None, Result, IfOk}
 use Rattle.ftn_addr.specs.Moments.{MomentsGrew}
 use Rattle.disk_model.specs.World.{World}
-use Rattle.disk_model.specs.Changes.{Follows, Same}
+use Rattle.disk_model.specs.Changes.{Every, Follows, Same}
 
 module _ {D : Type 0} (moment : D → ℕ) (images : D → ℕ → World → Type 0) where
   -- what a stop now may leave
@@ -37,3 +37,8 @@ pub record Together {D T E : Type 0} (files : D → World → Type 0) (moment : 
   pub answered : IfOk result (λ answer. made ≡ Some answer)
   pub read : Follows (StepOf step made) (files old) (files new)
   pub stop : Steps moment images (StepOf step made) old new
+
+-- Nothing changed, of what is read and of what a stop leaves.
+pub record MakesNothing {D : Type 0} (files : D → World → Type 0) (moment : D → ℕ) (images : D → ℕ → World → Type 0) (old new : D) : Type 0 where
+  pub read : Every (files new) (files old)
+  pub stop : Steps moment images Same old new

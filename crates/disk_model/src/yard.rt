@@ -1,10 +1,10 @@
 //! The folders that the mailer shares with other programs.
-ghost use Rattle.std.specs.Prelude.{◌≡◌, map, option_map, IfOk};
+ghost use Rattle.std.specs.Prelude.{◌≡◌, ℕ, map, option_map, IfOk};
 ghost use Rattle.disk_model.specs.Answers.{stat_of, MovedOf, Takes, CopiedOf, Copies, CopiesInPart, HitOf, Removes, Empties, MarkingOf, Marks, UnmarkOf, GivingOf, GivesTo};
 ghost use Rattle.disk_model.specs.Causes.{HasCause, ListsWithCause, outcome, list_outcome};
 ghost use Rattle.disk_model.specs.Changes.{Every, Follows, Same, Stands, IsFree};
-ghost use Rattle.disk_model.specs.Folders.{path_in, ListsFolder};
-ghost use Rattle.disk_model.specs.Moments.{Steps, Together};
+ghost use Rattle.disk_model.specs.Folders.{path_in, IsInUse, ListsFolder};
+ghost use Rattle.disk_model.specs.Moments.{MakesNothing, Steps, Together};
 
 use crate::{Copied, Disk, Giving, Hit, ListFault, Marking, Moved, Name, OutStat};
 use ftn_addr::{Bytes, Failed};
@@ -47,17 +47,21 @@ pub trait Yard: Disk {
         ensures cause { HasCause (Self.fault_count self.old) (Self.fault_count self.new) result }
         ensures rule { Self.rule (outcome result) self.old self.new };
 
-    /// Removes an outside file whose size and time are these.
+    /// Removes an outside file whose size and time are these. Where they aren't nothing changes, whatever it
+    /// answers.
     fn remove_if(&mut self, path: &Bytes, was: &OutStat) -> Result<Hit, Failed>
         ensures told { IfOk result (λ hit. Every (Self.files self.old) (λ w. HitOf hit was.now (w.outside path.now.list))) }
         ensures both { Together Self.files Self.moment Self.images result (Removes path.now.list) self.old self.new }
+        ensures other { Every (Self.files self.old) (λ w. HitOf Hit.Other was.now (w.outside path.now.list) → MakesNothing Self.files Self.moment Self.images self.old self.new) }
         ensures cause { HasCause (Self.fault_count self.old) (Self.fault_count self.new) result }
         ensures rule { Self.rule (outcome result) self.old self.new };
 
-    /// Cuts an outside file whose size and time are these to length 0.
+    /// Cuts an outside file whose size and time are these to length 0. Where they aren't nothing changes,
+    /// whatever it answers.
     fn cut_if(&mut self, path: &Bytes, was: &OutStat) -> Result<Hit, Failed>
         ensures told { IfOk result (λ hit. Every (Self.files self.old) (λ w. HitOf hit was.now (w.outside path.now.list))) }
-        ensures both { Together Self.files Self.moment Self.images result (Empties path.now.list) self.old self.new }
+        ensures both { (time : ℕ) × Together Self.files Self.moment Self.images result (Empties path.now.list time) self.old self.new }
+        ensures other { Every (Self.files self.old) (λ w. HitOf Hit.Other was.now (w.outside path.now.list) → MakesNothing Self.files Self.moment Self.images self.old self.new) }
         ensures cause { HasCause (Self.fault_count self.old) (Self.fault_count self.new) result }
         ensures rule { Self.rule (outcome result) self.old self.new };
 
@@ -75,11 +79,13 @@ pub trait Yard: Disk {
         ensures cause { HasCause (Self.fault_count self.old) (Self.fault_count self.new) result }
         ensures rule { Self.rule (outcome result) self.old self.new };
 
-    /// Moves an own file into an outside folder under a name, and counts it among the gifts.
+    /// Moves an own file into an outside folder under a name, and counts it among the gifts. A read and a
+    /// stop agree on its time there. Where the name is in use, nothing changes, whatever it answers.
     fn give(&mut self, own: &Name, folder: &Bytes, name: &Bytes) -> Result<Giving, Failed>
         requires { Every (Self.files self.old) (Stands own.now 0) }
         ensures told { IfOk result (λ giving. Every (Self.files self.old) (GivingOf giving (path_in folder.now.list name.now.list))) }
-        ensures both { Together Self.files Self.moment Self.images result (GivesTo own.now folder.now.list name.now.list) self.old self.new }
+        ensures both { (time : ℕ) × Together Self.files Self.moment Self.images result (GivesTo own.now folder.now.list name.now.list time) self.old self.new }
+        ensures in_use { Follows (λ d c. IsInUse (path_in folder.now.list name.now.list) d.outside → Same d c) (Self.files self.old) (Self.files self.new) }
         ensures cause { HasCause (Self.fault_count self.old) (Self.fault_count self.new) result }
         ensures rule { Self.rule (outcome result) self.old self.new };
 }

@@ -26,7 +26,7 @@ may (PutOut path bytes time) read d c = OnOutside (Puts path (Some (record { byt
 may (LostOut path) read d c = OnOutside (Puts path None) d c
 may (Moved path name) read d c = ((read.outside path ≡ None) × (c ≡ d)) ⊎ Moves path name d c
 may (Copied name bytes) read d c = OnOwn (PutsPart name (length bytes)) d c
-may (Given own folder name path) read d c = ((read.own own ≡ None) × (c ≡ d)) ⊎ Gives own folder name path d c
+may (Given own folder name path) read d c = ((read.own own ≡ None) × (c ≡ d)) ⊎ Gives own folder name path 0 d c
 
 -- what a stop may have left after these calls, from these images and what was kept before them
 abbrev pub run : (World → Type 0) → Holding → List Call → World → Type 0

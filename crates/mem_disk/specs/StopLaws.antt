@@ -168,14 +168,13 @@ module _ (h : Holding) (g : List ℕ → ℕ) where
   )
 
   given_by : (own folder name path : List ℕ) (o : Option Kept) → under own h.own ≡ o
-      → (g' : List ℕ → ℕ) × ((((shown h).own own ≡ None) × (picked g (given o own folder name path h) ≡ picked g' h)) ⊎ Gives own folder name path (picked g' h) (picked g (given o own folder name path h))) × (Ones g → Ones g')
+      → (g' : List ℕ → ℕ) × ((((shown h).own own ≡ None) × (picked g (given o own folder name path h) ≡ picked g' h)) ⊎ Gives own folder name path 0 (picked g' h) (picked g (given o own folder name path h))) × (Ones g → Ones g')
   unfolding with_digit
   given_by own folder name path None at = (g, inl (ap (option_map (λ f. f.written)) at, refl), λ ones. ones)
   given_by own folder name path (Some f) at = (
     with_digit own 1 g,
     inr (record {
       bytes = f.written;
-      time = 0;
       was = ap (λ (k : ℕ). option_map (chosen k) (under own h.own)) (digit_here g own 1) ∙ ap (option_map (chosen 1)) at;
       gone = record {
         here = ap (option_map (chosen (g own))) (in_without own h.own);
