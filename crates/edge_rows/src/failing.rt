@@ -16,6 +16,7 @@ struct Wanted {
     b: Name,
     x: Bytes,
     y: Bytes,
+    outside: Bytes,
     folder: Bytes,
     z: Bytes,
     mark: Bytes,
@@ -27,6 +28,7 @@ fn wanted_files(alloc: Global) -> Result<Wanted, Fail> {
         b: name(b"b")?,
         x: bytes(alloc, b"fo/x")?,
         y: bytes(alloc, b"fo/n/y")?,
+        outside: bytes(alloc, b"fo")?,
         folder: bytes(alloc, b"fo/m")?,
         z: bytes(alloc, b"z")?,
         mark: bytes(alloc, b"abcde")?,
@@ -71,7 +73,7 @@ fn yard_call<R: Files + AllocGlobal + Clone + Drop>(
 ) -> Result<(), Failed> {
     match call {
         0 => yard.look(&it.x).map(|_| ()),
-        1 => yard.names(&it.folder).map(|_| ()).map_err(|_| Failed),
+        1 => yard.names(&it.outside).map(|_| ()).map_err(|_| Failed),
         2 => yard.take(&it.x, &it.b).map(|_| ()),
         3 => yard.copy(&it.x, &it.b, 5).map(|_| ()),
         4 => yard.unmark(&it.x, &it.mark).map(|_| ()),
@@ -123,13 +125,36 @@ fn failed_calls<R: Files + AllocGlobal + Clone + Drop>(rt: R, call: u32) -> Resu
     Err(Failed.into())
 }
 
+// Lets that call of the system fail, and says what it is kept as.
+fn kept_error<R: Files + AllocGlobal + Clone + Drop>(
+    rt: R,
+    call: u32,
+    failing: u32,
+) -> Result<String, Fail> {
+    let alloc = rt.alloc();
+    let it = wanted_files(alloc)?;
+    prepare(&rt)?;
+    let seen = Seen::new();
+    let mut yard = RealFolder::new(Watched { rt, seen: &seen }, "fw")?;
+    seen.fail_at(failing);
+    let answer = if call < 9 {
+        own_call(&mut yard, call, &it)
+    } else {
+        yard_call(&mut yard, call - 9, &it)
+    };
+    match yard.last_error() {
+        Some(error) if answer.is_err() => Ok(format!(in alloc; "{error}")?),
+        _ => Err(Failed.into()),
+    }
+}
+
 #[test]
 fn each_call_of_the_system_that_fails_is_told(rt: HostRuntime) -> Result<(), Fail> {
     fs::create_dir(&rt, "fw")?;
     fs::create_dir(&rt, "fo")?;
     for (call, wanted) in [
         (0, 1),
-        (1, 2),
+        (1, 4),
         (2, 6),
         (3, 3),
         (4, 7),
@@ -138,7 +163,7 @@ fn each_call_of_the_system_that_fails_is_told(rt: HostRuntime) -> Result<(), Fai
         (7, 3),
         (8, 3),
         (9, 1),
-        (10, 1),
+        (10, 3),
         (11, 10),
         (12, 12),
         (13, 9),
@@ -148,6 +173,27 @@ fn each_call_of_the_system_that_fails_is_told(rt: HostRuntime) -> Result<(), Fai
         (17, 13),
     ] {
         assert_eq!(rt; failed_calls(rt, call)?, wanted, "call {call}");
+    }
+    // It is kept under its name.
+    for (call, failing, wanted) in [
+        (0, 1, "stat: permission denied"),
+        (1, 1, "readdir: permission denied"),
+        (1, 2, "readdir: permission denied"),
+        (2, 5, "read: permission denied"),
+        (4, 2, "open: permission denied"),
+        (4, 3, "stat: permission denied"),
+        (4, 5, "lseek: permission denied"),
+        (4, 6, "write: permission denied"),
+        (5, 5, "ftruncate: permission denied"),
+        (6, 4, "fsync: permission denied"),
+        (7, 1, "rename: permission denied"),
+        (8, 1, "unlink: permission denied"),
+        (10, 2, "readdir: permission denied"),
+        (14, 5, "mkdir: permission denied"),
+        (14, 14, "link: permission denied"),
+    ] {
+        let kept = kept_error(rt, call, failing)?;
+        assert_eq!(rt; kept.as_str(), wanted, "call {call}, {failing}");
     }
     Ok(())
 }

@@ -5,8 +5,10 @@ use disk_model::{Copied, Disk, Giving, Hit, Marking, Moved, OutStat, Yard};
 use ftn_addr::Failed;
 use real_edge::RealFolder;
 use std::fs;
+use std::fs::{FileTimes, OpenFile, OpenOptions};
 use std::os::unix::fs::MetadataExt;
 use std::test::Fail;
+use std::time::{Duration, UNIX_EPOCH};
 
 #[test]
 fn a_copy_is_made_in_pieces_and_synced_later(rt: HostRuntime) -> Result<(), Fail> {
@@ -66,7 +68,7 @@ fn a_taken_and_a_given_file_is_synced_in_both_folders(rt: HostRuntime) -> Result
         "lstat d2/y,lstat c2/a,stat d2,rename c2/a d2/y,open d2,sync d2,open c2,sync c2,"
     );
     assert_eq!(rt; yard.names(&folder).map(|names| names.len()), Ok(1));
-    assert_eq!(rt; seen.take().as_str(), "list d2/,");
+    assert_eq!(rt; seen.take().as_str(), "list d2/,readdir d2/,readdir d2/,");
     assert_eq!(rt; yard.take(&bytes(alloc, b"d2/y")?, &a), Ok(Moved::Done));
     yard.write_at(&a, 0, b"A")?;
     seen.take();
@@ -98,8 +100,10 @@ fn a_mark_is_linked_whole(rt: HostRuntime) -> Result<(), Fail> {
     assert_eq!(rt; fs::read(&rt, "d3/x.bsy")?.as_slice(), b"one".as_slice());
     assert_eq!(rt; yard.mark(&x, &x), Ok(Marking::Exists));
     assert_eq!(rt; seen.take().as_str(), "lstat d3/x.bsy,stat d3/x.bsy,");
-    assert_eq!(rt; yard.unmark(&x, &bytes(alloc, b"two")?), Ok(Hit::Other));
+    // A file of another length isn't read.
     assert_eq!(rt; yard.unmark(&x, &bytes(alloc, b"longer")?), Ok(Hit::Other));
+    assert_eq!(rt; seen.take().as_str(), "stat d3/x.bsy,");
+    assert_eq!(rt; yard.unmark(&x, &bytes(alloc, b"two")?), Ok(Hit::Other));
     seen.take();
     assert_eq!(rt; yard.unmark(&x, &text), Ok(Hit::Done));
     assert!(rt;
@@ -186,5 +190,118 @@ fn a_file_has_the_time_that_the_system_gives_it(rt: HostRuntime) -> Result<(), F
     };
     assert_eq!(rt; yard.remove_if(&x, &earlier), Ok(Hit::Other));
     assert_eq!(rt; yard.cut_if(&x, &earlier), Ok(Hit::Other));
+    Ok(())
+}
+
+// It is the time at which its bytes changed.
+#[test]
+fn a_file_has_the_time_of_its_bytes(rt: HostRuntime) -> Result<(), Fail> {
+    fs::create_dir(&rt, "c7")?;
+    fs::write(&rt, "x7", b"abc".as_slice())?;
+    let time = 1_234_567_890;
+    let Some(modified) = UNIX_EPOCH.checked_add(Duration::from_secs(time)) else {
+        return Err(Failed.into());
+    };
+    OpenOptions::new()
+        .write(true)
+        .open(&rt, "x7")?
+        .set_times(FileTimes::new().set_modified(modified))?;
+    let x = bytes(rt.alloc(), b"x7")?;
+    let mut yard = RealFolder::new(rt, "c7")?;
+    assert_eq!(rt; yard.look(&x), Ok(Some(OutStat { size: 3, time })));
+    Ok(())
+}
+
+// Where the outside folder of a gift couldn't be synced, the next sync of a file syncs the own one.
+#[test]
+fn names_after_a_gift_that_failed_are_synced_next(rt: HostRuntime) -> Result<(), Fail> {
+    let alloc = rt.alloc();
+    fs::create_dir(&rt, "c8")?;
+    fs::create_dir(&rt, "d8")?;
+    let (a, b) = (name(b"a")?, name(b"b")?);
+    let (folder, y) = (bytes(alloc, b"d8")?, bytes(alloc, b"y")?);
+    let seen = Seen::new();
+    let mut yard = RealFolder::new(Watched { rt, seen: &seen }, "c8")?;
+    yard.create(&a)?;
+    yard.create(&b)?;
+    seen.take();
+    seen.fail_at(6);
+    assert_eq!(rt; yard.give(&a, &folder, &y), Err(Failed));
+    assert_eq!(rt;
+        seen.take().as_str(),
+        "lstat d8/y,lstat c8/a,stat d8,rename c8/a d8/y,open d8,sync d8,"
+    );
+    seen.fail_at(0);
+    yard.sync(&b)?;
+    assert_eq!(rt; seen.take().as_str(), "sync c8/b,open c8,sync c8,");
+    Ok(())
+}
+
+// The names in an outside folder come in the order of their bytes, and what isn't text is passed over.
+// The empty path is the folder that the program runs in.
+#[test]
+fn outside_files_are_named_in_their_order(rt: HostRuntime) -> Result<(), Fail> {
+    let alloc = rt.alloc();
+    fs::create_dir(&rt, "c9")?;
+    fs::create_dir(&rt, "d9")?;
+    for path in [
+        "d9/e", "d9/?", "d9/g", "d9/A", "d9/c?", "d9/f", "d9/c", "d9/d", "d9/B",
+    ] {
+        fs::write(&rt, path, b"x".as_slice())?;
+    }
+    let seen = Seen::new();
+    let mut yard = RealFolder::new(Watched { rt, seen: &seen }, "c9")?;
+    let names = yard.names(&bytes(alloc, b"d9")?);
+    let names = names.ok().expect(&rt, "the names");
+    let wanted = [
+        bytes(alloc, b"A")?,
+        bytes(alloc, b"B")?,
+        bytes(alloc, b"c")?,
+        bytes(alloc, b"d")?,
+        bytes(alloc, b"e")?,
+        bytes(alloc, b"f")?,
+        bytes(alloc, b"g")?,
+    ];
+    assert_eq!(rt; names.as_slice(), wanted.as_slice());
+    let names = yard.names(&bytes(alloc, b"")?);
+    let names = names.ok().expect(&rt, "the names");
+    assert!(rt; names.as_slice().contains(&bytes(alloc, b"d9")?));
+    assert_eq!(rt; yard.faults(), 0);
+    Ok(())
+}
+
+// The folder of a file in the root is the root. There the own folder is missing, so that no mark is made.
+#[test]
+fn the_folder_of_a_path_in_the_root_is_the_root(rt: HostRuntime) -> Result<(), Fail> {
+    let alloc = rt.alloc();
+    let seen = Seen::new();
+    let mut yard = RealFolder::new(Watched { rt, seen: &seen }, "none9")?;
+    let (x, text) = (bytes(alloc, b"/x9.bsy")?, bytes(alloc, b"1")?);
+    assert_eq!(rt; yard.mark(&x, &text), Err(Failed));
+    assert_eq!(rt;
+        seen.take().as_str(),
+        "lstat /x9.bsy,stat /,unlink none9/MARK_,open none9/MARK_,"
+    );
+    Ok(())
+}
+
+#[test]
+fn missing_folders_of_an_absolute_path_are_made(rt: HostRuntime) -> Result<(), Fail> {
+    let alloc = rt.alloc();
+    fs::create_dir(&rt, "c10")?;
+    let seen = Seen::new();
+    let mut yard = RealFolder::new(Watched { rt, seen: &seen }, "c10")?;
+    let text = bytes(alloc, b"1")?;
+    let x = bytes(alloc, b"/proc/self/cwd/d10/x")?;
+    assert_eq!(rt; yard.mark(&x, &text), Ok(Marking::Made));
+    assert_eq!(rt;
+        seen.take().as_str(),
+        "lstat /proc/self/cwd/d10/x,stat /proc/self/cwd/d10,stat /proc,stat /proc/self,\
+         stat /proc/self/cwd,stat /proc/self/cwd/d10,mkdir /proc/self/cwd/d10,\
+         open /proc/self/cwd,sync /proc/self/cwd,unlink c10/MARK_,open c10/MARK_,\
+         write c10/MARK_,sync c10/MARK_,link c10/MARK_ /proc/self/cwd/d10/x,\
+         open /proc/self/cwd/d10,sync /proc/self/cwd/d10,unlink c10/MARK_,open c10,sync c10,"
+    );
+    assert_eq!(rt; fs::read(&rt, "d10/x")?.as_slice(), b"1".as_slice());
     Ok(())
 }

@@ -92,7 +92,10 @@ fn the_first_sync_of_all_has_the_names(rt: HostRuntime) -> Result<(), Fail> {
     assert_eq!(rt; seen.take().as_str(), "sync w3/a,");
     let names = disk.list().ok().expect(&rt, "the names");
     assert_eq!(rt; names.as_slice(), [a].as_slice());
-    assert_eq!(rt; seen.take().as_str(), "list w3/,lstat w3/a,");
+    assert_eq!(rt;
+        seen.take().as_str(),
+        "list w3/,readdir w3/,lstat w3/a,readdir w3/,"
+    );
     Ok(())
 }
 
@@ -124,5 +127,31 @@ fn names_that_were_not_synced_are_synced_next(rt: HostRuntime) -> Result<(), Fai
         let journal = seen.take();
         assert!(rt; journal.as_str().ends_with("sync w4/b,open w4,sync w4,"));
     }
+    Ok(())
+}
+
+// The names of own files come in the order of their bytes, and what isn't text is passed over.
+#[test]
+fn own_files_are_listed_in_their_order(rt: HostRuntime) -> Result<(), Fail> {
+    fs::create_dir(&rt, "w5")?;
+    for path in [
+        "w5/e", "w5/?", "w5/g", "w5/a", "w5/c?", "w5/f", "w5/c", "w5/d", "w5/b",
+    ] {
+        fs::write(&rt, path, b"x".as_slice())?;
+    }
+    let seen = Seen::new();
+    let mut disk = RealFolder::new(Watched { rt, seen: &seen }, "w5")?;
+    let names = disk.list().ok().expect(&rt, "the names");
+    let wanted = [
+        name(b"a")?,
+        name(b"b")?,
+        name(b"c")?,
+        name(b"d")?,
+        name(b"e")?,
+        name(b"f")?,
+        name(b"g")?,
+    ];
+    assert_eq!(rt; names.as_slice(), wanted.as_slice());
+    assert_eq!(rt; disk.faults(), 0);
     Ok(())
 }

@@ -117,6 +117,27 @@ fn a_file_that_grows_is_copied_as_it_is_read(rt: HostRuntime) -> Result<(), Fail
     assert_eq!(rt; yard.stat(&a), Ok(Some(stat.size)));
     assert_eq!(rt; yard.copy(&long, &a, 9), Ok(Copied::Over));
     assert_eq!(rt; yard.stat(&a), Ok(None));
+    // A file that no program may write, since it runs: it is opened for reading alone.
+    let running = bytes(alloc, b"/proc/self/exe")?;
+    assert_eq!(rt; yard.copy(&running, &a, 9), Ok(Copied::Over));
+    Ok(())
+}
+
+// A folder that comes in place of a file to be copied is no file, and the own file stays.
+#[test]
+fn a_folder_that_comes_is_not_copied(rt: HostRuntime) -> Result<(), Fail> {
+    fs::create_dir(&rt, "r6")?;
+    fs::write(&rt, "r6/a", b"own".as_slice())?;
+    fs::write(&rt, "s6", b"abc".as_slice())?;
+    let a = name(b"a")?;
+    let x = bytes(rt.alloc(), b"s6")?;
+    let seen = Seen::new();
+    let mut yard = RealFolder::new(Watched { rt, seen: &seen }, "r6")?;
+    seen.race_at(2, Race::Folder("s6"));
+    assert_eq!(rt; yard.copy(&x, &a, 3), Ok(Copied::Absent));
+    assert_eq!(rt; seen.take().as_str(), "stat s6,open s6,fstat s6,");
+    assert_eq!(rt; yard.stat(&a), Ok(Some(3)));
+    assert_eq!(rt; yard.faults(), 0);
     Ok(())
 }
 

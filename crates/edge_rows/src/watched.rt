@@ -16,6 +16,8 @@ pub enum Race {
     Link(&'static str),
     /// A file of the text `raced` stands under the path now.
     File(&'static str),
+    /// A folder stands under the path now.
+    Folder(&'static str),
     /// Nothing stands under the path now.
     Gone(&'static str),
 }
@@ -92,8 +94,9 @@ impl Seen {
     fn count(&self) -> io::Result<()> {
         let calls = self.calls.get().saturating_add(1);
         self.calls.set(calls);
+        // A permission that is denied is no path without a file.
         if self.failing.get() == calls {
-            return Err(io::ErrorKind::Other.into());
+            return Err(io::ErrorKind::PermissionDenied.into());
         }
         Ok(())
     }
@@ -121,6 +124,10 @@ impl<'a, R: Files> Watched<'a, R> {
                 let _ = self.rt.remove_file(path);
                 self.rt.symlink("../secret", path)
             }
+            Race::Folder(path) => {
+                let _ = self.rt.remove_file(path);
+                self.rt.create_dir(path)
+            }
             Race::File(path) => {
                 let _ = self.rt.remove_file(path);
                 let mut file = OpenOptions::new()
@@ -140,6 +147,14 @@ pub struct WatchedFile<'a, F> {
     seen: &'a Seen,
 }
 
+/// The names in a folder. A '?' in a name is read as a byte that is in no text.
+#[derive(Drop)]
+pub struct WatchedDir<'a, D> {
+    dir: D,
+    path: Journal,
+    seen: &'a Seen,
+}
+
 impl<'a, R: AllocGlobal> Alloc for Watched<'a, R> {
     type A = Global;
 
@@ -153,6 +168,19 @@ impl<'a, F: Read> Read for WatchedFile<'a, F> {
         self.seen.note("read", self.path.as_str(), None)?;
         let most = buf.len().min(2);
         self.file.read(&mut buf[..most])
+    }
+}
+
+impl<'a, D: Read> Read for WatchedDir<'a, D> {
+    fn read(&mut self, buf: &mut [u8]) -> io::Result<usize> {
+        self.seen.note("readdir", self.path.as_str(), None)?;
+        let read = self.dir.read(buf)?;
+        for byte in buf.iter_mut() {
+            if *byte == b'?' {
+                *byte = 0xff;
+            }
+        }
+        Ok(read)
     }
 }
 
@@ -203,7 +231,7 @@ impl<'a, F: OpenFile> OpenFile for WatchedFile<'a, F> {
 impl<'a, R: Files> Files for Watched<'a, R> {
     type File = WatchedFile<'a, R::File>;
 
-    type Dir = R::Dir;
+    type Dir = WatchedDir<'a, R::Dir>;
 
     fn open_file(&self, how: &OpenOptions, path: &str) -> io::Result<WatchedFile<'a, R::File>> {
         self.note("open", path, None)?;
@@ -216,9 +244,15 @@ impl<'a, R: Files> Files for Watched<'a, R> {
         })
     }
 
-    fn open_dir(&self, path: &str) -> io::Result<R::Dir> {
+    fn open_dir(&self, path: &str) -> io::Result<WatchedDir<'a, R::Dir>> {
         self.note("list", path, None)?;
-        self.rt.open_dir(path)
+        let mut own = Journal::new();
+        own.push(path);
+        Ok(WatchedDir {
+            dir: self.rt.open_dir(path)?,
+            path: own,
+            seen: self.seen,
+        })
     }
 
     fn metadata(&self, path: &str) -> io::Result<Metadata> {
