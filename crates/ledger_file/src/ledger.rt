@@ -33,6 +33,13 @@ impl Ledger {
         self.records.count() as u32
     }
 
+    /// A ledger has at most so many payloads, the places reserved among them. It does nothing.
+    pub fn holds_few(&self)
+        ensures { length self.now.payloads + self.now.reserved ≤ 262144 }
+    {
+        let _reserved = self.reserved;
+    }
+
     /// The payload of record `i`, counted from 0.
     pub fn payload(&self, i: u32) -> &[u8]
         requires { i < length self.now.payloads }

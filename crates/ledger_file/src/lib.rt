@@ -10,6 +10,13 @@
 //!
 //! [`put_file`] makes any file anew and durable.
 //!
+//! ```text
+//! let mut ledger = Ledger::open(alloc, &mut disk)?;
+//! ledger.reserve(1)?;
+//! ledger.append(&mut disk, b"a payload")?;     // it lasts
+//! let first = ledger.payload(0);
+//! ```
+//!
 //! Left out: what a payload says, and the own files that stand beside the ledger.
 #![tactic(auto)]
 

@@ -12,6 +12,14 @@
 //!   system that need more than a line;
 //! - `real_folder/calls.rt` counts the answers.
 //!
+//! ```text
+//! let mut folder = RealFolder::new(rt, "binkp")?;
+//! folder.create(&name)?;
+//! folder.write_at(&name, 0, b"hello")?;
+//! folder.sync(&name)?;                         // a stop leaves `hello` from now on
+//! if let Some(error) = folder.last_error() { .. }
+//! ```
+//!
 //! Left out: lines, the clock, random numbers and standard error, which come with the server.
 #![tactic(auto)]
 
