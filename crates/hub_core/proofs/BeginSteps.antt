@@ -23,7 +23,7 @@ use Rattle.hub_core.proofs.Keeping.{leaves_as, leaves_none}
 use Rattle.hub_core.proofs.Ends.{same_content}
 use Rattle.hub_core.proofs.Stepping.{Stepped}
 use Rattle.hub_core.proofs.Breaking.{same_but}
-use Rattle.hub_core.proofs.Sittings.{given_still}
+use Rattle.hub_core.proofs.Owning.{own_same, own_chair}
 use Rattle.hub_core.proofs.Turning.{fitted_now, made_does, broken_does, before_passes}
 
 some_same : {A : Type 0} {u v : A} → Some u ≡ Some v → u ≡ v
@@ -63,7 +63,7 @@ begin_does v h seat role peers secure moment x b closed limits few new =
     })
     (leaves_none _ v) (b.ready.settled b.whole)
     (ap sitting_part (sits_at h seat (Some x)) ∙ (ap (λ (y : Sitting). sitting_part (Some y)) new.is ∙ sym (ap (λ (o : Option Sitting). record { open_now = true; claim = (sitting_part o).claim; held = (sitting_part o).held }) none)))
-    (given_still h seat (Some x) b.ready.given)
+    (own_chair seat c h v x.number b.ready.given b.seat_is)
 
 -- no memory
 pub begin_no_memory : (v : StoreStand) (h : HubState) (seat : ℕ) (role : Role) (peers : List Address) (secure : Bool) (moment : ℕ) → HasTurn v h seat → Does v h seat (Open_call role peers secure moment) (Refused No_memory) v h
@@ -71,7 +71,7 @@ begin_no_memory v h seat role peers secure moment b =
     let f = fitted_now v h seat b in
     made_does v v h h seat (Open_call role peers secure moment) (Refused No_memory) b (tt, b.whole, refl)
     (record { change = λ a. a; content = same_content v.state.content; step = (b.whole, tt, refl); fits = f.fits; counts = (refl, refl) })
-    (leaves_none _ v) (b.ready.settled b.whole) refl b.ready.given
+    (leaves_none _ v) (b.ready.settled b.whole) refl (own_same seat h v b.seat_is)
 
 -- the hub fits a store whose counts of refusals are others
 pub full_fits : (a : Stored) (s : StoreState) (h : HubState) → HubFits a s h → HubFits a (counted_full s) h
@@ -113,10 +113,10 @@ begin_refused v w h seat role peers secure moment D.Full b last r l settled =
     let step : Stepped seat (Open_call role peers secure moment) (Refused Full) v.state h f.keeps (counted_full v.state) h = record { change = λ a. a; content = same_content v.state.content; step = (b.whole, last, refl); fits = full_fits f.keeps v.state h f.fits; counts = (refl, refl) } in
     made_does v w h h seat (Open_call role peers secure moment) (Refused Full) b (full_caused v.state w.state (Open_call role peers secure moment) tt b.whole r.1)
     (subst (λ (t : StoreState). Stepped seat (Open_call role peers secure moment) (Refused Full) v.state h f.keeps t h) (sym r.1) step)
-    (leaves_as _ _ v w (one_passes v h seat (Open_call role peers secure moment)) l) (settled (b.ready.settled b.whole) (ap (λ (c : Counts). c.broken) counts ∙ b.whole)) refl b.ready.given
+    (leaves_as _ _ v w (one_passes v h seat (Open_call role peers secure moment)) l) (settled (b.ready.settled b.whole) (ap (λ (c : Counts). c.broken) counts ∙ b.whole)) refl (own_same seat h w (ap (λ (t : StoreState). t.seat) r.1 ∙ b.seat_is))
 begin_refused v w h seat role peers secure moment D.NoMemory b last r l settled =
     let f = fitted_now v h seat b in
     let step : Stepped seat (Open_call role peers secure moment) (Refused No_memory) v.state h f.keeps v.state h = record { change = λ a. a; content = same_content v.state.content; step = (b.whole, tt, refl); fits = f.fits; counts = (refl, refl) } in
     made_does v w h h seat (Open_call role peers secure moment) (Refused No_memory) b (tt, b.whole, ap (λ (t : StoreState). t.counts) r)
     (subst (λ (t : StoreState). Stepped seat (Open_call role peers secure moment) (Refused No_memory) v.state h f.keeps t h) (sym r) step)
-    (leaves_as _ _ v w (one_passes v h seat (Open_call role peers secure moment)) l) (settled (b.ready.settled b.whole) (ap (λ (t : StoreState). t.counts.broken) r ∙ b.whole)) refl b.ready.given
+    (leaves_as _ _ v w (one_passes v h seat (Open_call role peers secure moment)) l) (settled (b.ready.settled b.whole) (ap (λ (t : StoreState). t.counts.broken) r ∙ b.whole)) refl (own_same seat h w (ap (λ (t : StoreState). t.seat) r ∙ b.seat_is))

@@ -39,6 +39,7 @@ broke_behind P loses s t from o b = record {
   rose = subst (λ (c : Counts). Increased c.faults t.counts.faults) counts b.rose;
   counts = b.counts ∙ ap (λ (c : Counts). record c { faults = t.counts.faults; broken = Some t.counts.faults }) counts;
   content = go s.content t.content (subst (λ (c : Option Stored). TellsOn (λ a z. P (shelf_of z) × Logs (ended from o s).seat a.log z.log × ((p : MarkOf ℕ) → Stays loses (ended from o s) p → part_in p.number z.stock.parts ≡ part_in p.number a.stock.parts)) c t.content) (ended_content from o s) b.content);
+  seat = b.seat ∙ ended_seat from o s;
 }
   where
     counts : (ended from o s).counts ≡ s.counts

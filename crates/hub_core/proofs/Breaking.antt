@@ -1,5 +1,5 @@
 -- The disk failed in a call of a hub: its node breaks.
-use Rattle.std.proofs.Common.{◌≡◌, ◌≢◌, ℕ, ◌==◌, Bool, false, Option, Some, None, option_map, refl, sym, ◌∙◌, ap, subst, inr}
+use Rattle.std.proofs.Common.{◌≡◌, ◌≢◌, ℕ, ◌==◌, Bool, false, Option, Some, None, length, option_map, refl, sym, ◌∙◌, ap, subst, inr}
 use Rattle.ftn_addr.specs.Counts.{Increased}
 use Rattle.node_model.specs.Items.{MarkOf}
 use Rattle.node_model.specs.Lists.{Member}
@@ -17,6 +17,7 @@ use Rattle.hub_core.specs.HubLaws.{seat_of, session_of}
 
 -- the hub is the same but for what its seat holds
 pub record SameBut (seat : ℕ) (h g : HubState) : Type 0 where
+  pub seats : length g.chairs ≡ length h.chairs
   pub others : (k : ℕ) → k ≢ seat → chair_in g.chairs k ≡ chair_in h.chairs k
   pub own : option_map unheld_sitting (sitting_at g seat) ≡ option_map unheld_sitting (sitting_at h seat)
   pub busy : (chair_in g.chairs seat).busy ≡ (chair_in h.chairs seat).busy
@@ -25,7 +26,7 @@ pub record SameBut (seat : ℕ) (h g : HubState) : Type 0 where
   pub begun : g.begun ≡ h.begun
 
 pub same_but : (h : HubState) (seat : ℕ) → SameBut seat h h
-same_but h seat = record { others = λ k apart. refl; own = refl; busy = refl; reads = refl; settings = refl; begun = refl }
+same_but h seat = record { seats = refl; others = λ k apart. refl; own = refl; busy = refl; reads = refl; settings = refl; begun = refl }
 
 -- what other seats hold isn't lost
 abbrev pub OthersApart : (MarkOf ℕ → Bool) → HubState → ℕ → Type 0

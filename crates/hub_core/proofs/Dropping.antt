@@ -10,7 +10,8 @@ use Rattle.hub_core.specs.Hubs.{Taking, Sitting, HubState, chair_in, with_sittin
 use Rattle.hub_core.specs.HubCalls.{Does}
 use Rattle.hub_core.proofs.FileSteps.{busy_put, reads_put}
 use Rattle.hub_core.proofs.Nodes.{map_put, sits_at}
-use Rattle.hub_core.proofs.Sittings.{sit_same, given_still}
+use Rattle.hub_core.proofs.Sittings.{sit_same}
+use Rattle.hub_core.proofs.Owning.{own_sits}
 use Rattle.hub_core.proofs.Turning.{refused_does}
 
 dropped_told : (stock : Stock) (o : Option Sitting) → option_map (session_over stock) (option_map dropped_sitting o) ≡ option_map (session_over stock) o
@@ -43,7 +44,7 @@ dropped_part (Some x) key offset count opened = go x.hold
     go None = refl
     go (Some t) = refl
 
-pub dropped_does : (v : StoreStand) (h g : HubState) (seat : ℕ) (key : Key) (offset count : ℕ) → v.state.counts.broken ≡ Some count → seat < length h.chairs → (seat_part h seat).open_now ≡ true → g ≡ with_sitting seat (option_map dropped_sitting (sitting_at h seat)) h → Does v h seat (File_call key offset) (Refused (Disk count)) v g
-dropped_does v h g seat key offset count broken given opened is =
+pub dropped_does : (v : StoreStand) (h g : HubState) (seat : ℕ) (key : Key) (offset count : ℕ) → v.state.counts.broken ≡ Some count → v.state.seat ≡ seat → seat < length h.chairs → (seat_part h seat).open_now ≡ true → g ≡ with_sitting seat (option_map dropped_sitting (sitting_at h seat)) h → Does v h seat (File_call key offset) (Refused (Disk count)) v g
+dropped_does v h g seat key offset count broken turn given opened is =
     subst (λ (k : HubState). Does v h seat (File_call key offset) (Refused (Disk count)) v k) (sym is)
-    (refused_does v h (dropped_hub h seat) seat (File_call key offset) count broken (λ skips. skips) (λ c. dropped_knows c v.state h seat given) (ap sitting_part (sits_at h seat (option_map dropped_sitting (sitting_at h seat))) ∙ dropped_part (sitting_at h seat) key offset count opened) (given_still h seat (option_map dropped_sitting (sitting_at h seat)) given))
+    (refused_does v h (dropped_hub h seat) seat (File_call key offset) count broken (λ skips. skips) (λ c. dropped_knows c v.state h seat given) (ap sitting_part (sits_at h seat (option_map dropped_sitting (sitting_at h seat))) ∙ dropped_part (sitting_at h seat) key offset count opened) given (own_sits seat (option_map dropped_sitting (sitting_at h seat)) h v given turn))

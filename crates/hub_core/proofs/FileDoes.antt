@@ -14,10 +14,11 @@ use Rattle.hub_core.specs.HubCalls.{ShelfPasses, HasTurn, Does}
 use Rattle.hub_core.specs.Steps.{Leaves, StaysSettled, OneOf, OneMade, Judged, MayBeMade, Answered, answered_state, word_of, ended}
 use Rattle.hub_core.proofs.Ends.{Sits, unheld_sitting, ended_stored, ended_content, ended_counts, released_is}
 use Rattle.hub_core.proofs.FileSteps.{ended_hub, still_stepped, room_now, refused_stepped, whole_stepped, go_stepped, from_stepped}
-use Rattle.hub_core.proofs.Filing.{Offered, unheld_hub}
+use Rattle.hub_core.proofs.Filing.{Offered, ended_seat, unheld_hub}
 use Rattle.hub_core.proofs.Keeping.{leaves_as, leaves_then}
 use Rattle.hub_core.proofs.Nodes.{session_is, sits_at}
-use Rattle.hub_core.proofs.Sittings.{sit_twice, given_still}
+use Rattle.hub_core.proofs.Owning.{own_again}
+use Rattle.hub_core.proofs.Sittings.{sit_twice}
 use Rattle.hub_core.proofs.Stepping.{Stepped, passes_by}
 use Rattle.hub_core.proofs.Turning.{fitted_now, sits_now, before_passes, made_does}
 
@@ -166,6 +167,15 @@ answered_counts F.Whole key reason s t x y r = ap (λ (u : StoreState). u.counts
 answered_counts F.Go key reason s t x y r = ap (λ (u : StoreState). u.counts) r.after
 answered_counts (F.From place) key reason s t x y r = ap (λ (u : StoreState). u.counts) r.after
 
+answered_seat : (word : FileIn) (key : Key) (reason : ℕ) (s t : StoreState) (x y : Sitting) → Answered word key reason s x t y → t.seat ≡ s.seat
+answered_seat F.Have key reason s t x y r = ap (λ (u : StoreState). u.seat) r.0
+answered_seat F.Elsewhere key reason s t x y r = ap (λ (u : StoreState). u.seat) r.0
+answered_seat F.Late key reason s t x y r = ap (λ (u : StoreState). u.seat) r.0
+answered_seat F.Refuse key reason s t x y r = ap (λ (u : StoreState). u.seat) r.0.after
+answered_seat F.Whole key reason s t x y r = ap (λ (u : StoreState). u.seat) r.0.after
+answered_seat F.Go key reason s t x y r = ap (λ (u : StoreState). u.seat) r.after
+answered_seat (F.From place) key reason s t x y r = ap (λ (u : StoreState). u.seat) r.after
+
 -- The file got its answer.
 pub file_does : (v v1 w : StoreStand) (k : HubState) (seat : ℕ) (x y : Sitting) (key : Key) (offset : ℕ) (word : FileIn) → Offers v v1 k seat x key offset word → Answered word key (reason k.settings key) v1.state (unheld_sitting x) w.state y → Leaves (OneMade v1.state.content (MayBeMade word key (unheld_sitting x) v1.state) (answered_state word key (reason k.settings key) (unheld_sitting x) v1.state).content) v1 w → StaysSettled v1 w → Does v (with_sitting seat (Some x) k) seat (File_call key offset) (file_answer (Ok word)) w (with_sitting seat (Some y) k)
 file_does v v1 w k seat x y key offset word o r l settled =
@@ -180,7 +190,4 @@ file_does v v1 w k seat x y key offset word o r l settled =
     (file_leaves v v1 w k seat x key offset word o l)
     (settled (o.settled (o.turn.ready.settled o.turn.whole) whole1) (ap (λ (c : Counts). c.broken) counts ∙ o.turn.whole))
     (part_filed k seat x y key offset (Filed (word_of word)) (answered_held k seat x key offset word v1.state w.state y o.judged r) (answered_claim key word (reason k.settings key) v1.state w.state (unheld_sitting x) y r))
-    (given_as k seat (Some x) (Some y) o.turn.ready.given))
-  where
-    given_as : (k : HubState) (seat : ℕ) (o p : Option Sitting) → seat < length (with_sitting seat o k).chairs → seat < length (with_sitting seat p k).chairs
-    given_as k seat o p given = subst (λ (h : HubState). seat < length h.chairs) (sit_twice k seat p o) (given_still (with_sitting seat o k) seat p given)
+    (own_again seat (Some x) (Some y) k w (answered_seat word key (reason k.settings key) v1.state w.state (unheld_sitting x) y r ∙ (ap (λ (s : StoreState). s.seat) o.ends ∙ (ended_seat x.first x.hold v.state ∙ o.turn.seat_is)))))

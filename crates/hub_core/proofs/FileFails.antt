@@ -27,14 +27,16 @@ use Rattle.hub_core.proofs.Filing.{Offered, apart_by, apart_refused, released_no
 use Rattle.hub_core.proofs.JudgeSteps.{judged_applies}
 use Rattle.hub_core.proofs.Marking.{ended_fits, ended_sizes}
 use Rattle.hub_core.proofs.Nodes.{session_is, chair_apart, sits_at}
-use Rattle.hub_core.proofs.Sittings.{sit_twice, given_still}
+use Rattle.hub_core.proofs.Sittings.{sit_twice, given_still, puts_alike}
 use Rattle.hub_core.proofs.Stepping.{Stepped}
 use Rattle.hub_core.proofs.Telling.{marks_are}
+use Rattle.hub_core.proofs.Filing.{ended_seat}
+use Rattle.hub_core.proofs.Owning.{own_again}
 use Rattle.hub_core.proofs.Turning.{fitted_now, made_does, broken_does}
 
 -- such shelves are others too
 pub broke_as : (P Q : Shelf → Type 0) (loses : MarkOf ℕ → Bool) (s t : StoreState) → ((d : Shelf) → P d → Q d) → Broke P loses s t → Broke Q loses s t
-broke_as P Q loses s t f b = record { rose = b.rose; counts = b.counts; content = go s.content t.content b.content }
+broke_as P Q loses s t f b = record { rose = b.rose; counts = b.counts; content = go s.content t.content b.content; seat = b.seat }
   where
     go : (c e : Option Stored) → TellsOn (λ a z. P (shelf_of z) × Rattle.node_model.specs.Calls.Logs s.seat a.log z.log × ((p : MarkOf ℕ) → Rattle.hub_core.specs.Steps.Stays loses s p → Rattle.node_model.specs.Stocks.part_in p.number z.stock.parts ≡ Rattle.node_model.specs.Stocks.part_in p.number a.stock.parts)) c e → TellsOn (λ a z. Q (shelf_of z) × Rattle.node_model.specs.Calls.Logs s.seat a.log z.log × ((p : MarkOf ℕ) → Rattle.hub_core.specs.Steps.Stays loses s p → Rattle.node_model.specs.Stocks.part_in p.number z.stock.parts ≡ Rattle.node_model.specs.Stocks.part_in p.number a.stock.parts)) c e
     go None None on = tt
@@ -48,6 +50,7 @@ given_as k seat o p given = subst (λ (h : HubState). seat < length h.chairs) (s
 -- the hub without what its seat held
 pub same_put : (k : HubState) (seat : ℕ) (x y : Sitting) → unheld_sitting y ≡ unheld_sitting x → SameBut seat (with_sitting seat (Some x) k) (with_sitting seat (Some y) k)
 same_put k seat x y same = record {
+  seats = puts_alike seat (record (chair_in k.chairs seat) { sitting = Some y }) (record (chair_in k.chairs seat) { sitting = Some x }) k.chairs;
   others = λ j apart. chair_apart seat (record (chair_in k.chairs seat) { sitting = Some y }) k.chairs j apart ∙ sym (chair_apart seat (record (chair_in k.chairs seat) { sitting = Some x }) k.chairs j apart);
   own = ap (option_map unheld_sitting) (sits_at k seat (Some y)) ∙ (ap (λ (z : Sitting). Some z) same ∙ sym (ap (option_map unheld_sitting) (sits_at k seat (Some x))));
   busy = busy_put k seat (Some y) ∙ sym (busy_put k seat (Some x));
@@ -171,7 +174,7 @@ file_refused v v1 w k seat x y key offset word D.Full o r calls same l settled =
     (file_leaves v v1 w k seat x key offset word o l)
     (settled (o.settled (o.turn.ready.settled o.turn.whole) whole1) (ap (λ (c : Counts). c.broken) counts ∙ o.turn.whole))
     (part_filed k seat x y key offset (Refused Full) (ap (λ (z : Sitting). taken_part z.hold) same) (ap (λ (z : Sitting). z.claim) same))
-    (given_as k seat (Some x) (Some y) o.turn.ready.given)
+    (own_again seat (Some x) (Some y) k w (ap (λ (s : StoreState). s.seat) after ∙ (ended_seat x.first x.hold v.state ∙ o.turn.seat_is)))
 file_refused v v1 w k seat x y key offset word D.NoMemory o r calls same l settled =
     let h = with_sitting seat (Some x) k in
     let f = fitted_now v h seat o.turn in
@@ -183,4 +186,4 @@ file_refused v v1 w k seat x y key offset word D.NoMemory o r calls same l settl
     (file_leaves v v1 w k seat x key offset word o l)
     (settled (o.settled (o.turn.ready.settled o.turn.whole) whole1) (ap (λ (c : Counts). c.broken) counts ∙ o.turn.whole))
     (part_filed k seat x y key offset (Refused No_memory) (ap (λ (z : Sitting). taken_part z.hold) same) (ap (λ (z : Sitting). z.claim) same))
-    (given_as k seat (Some x) (Some y) o.turn.ready.given)
+    (own_again seat (Some x) (Some y) k w (ap (λ (s : StoreState). s.seat) after ∙ (ended_seat x.first x.hold v.state ∙ o.turn.seat_is)))

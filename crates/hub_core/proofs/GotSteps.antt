@@ -29,6 +29,7 @@ use Rattle.hub_core.proofs.Nodes.{seats_put, session_is, sits_at, sittings_put, 
 use Rattle.hub_core.proofs.Ready.{places_reserved}
 use Rattle.hub_core.proofs.Sittings.{given_still, sit_twice, sit_back}
 use Rattle.hub_core.proofs.Stepping.{Stepped, passes_by}
+use Rattle.hub_core.proofs.Owning.{own_sits}
 use Rattle.hub_core.proofs.Turning.{fitted_now, turn_ready, made_does, broken_does, before_passes}
 
 clash : {X : Type 0} {n : ℕ} {o : Option ℕ} → o ≡ Some n → o ≡ None → X
@@ -137,7 +138,7 @@ got_does v w h k seat x y c b sits claimed put is after l settles =
     (leaves_as _ _ v w (got_passes v h seat x c b sits claimed) l)
     (settles (b.ready.settled b.whole) (ap (λ (c : Counts). c.broken) counts ∙ b.whole))
     (part_ends h seat x z (Got_call c.number) sits refl)
-    (given_still h seat (Some z) b.ready.given))
+    (own_sits seat (Some z) h w b.ready.given (ap (λ (t : StoreState). t.seat) after ∙ b.seat_is)))
 
 pub got_refused : (v w : StoreStand) (h k : HubState) (seat : ℕ) (x y : Sitting) (c : Claim) (fault : StoreFault) → HasTurn v h seat → sitting_at h seat ≡ Some x → x.claim ≡ Some c → k ≡ with_sitting seat (Some y) (with_sitting seat None h) → y ≡ x → BrokeBy (OneOf (v.state.content ∷ (settled c.number x.number v.state).content ∷ [])) loses_none fault v.state w.state → Leaves (OneOf (v.state.content ∷ (settled c.number x.number v.state).content ∷ [])) v w → Does v h seat (Got_call c.number) (Refused (fault_in fault w.state.counts.faults)) w k
 got_refused v w h k seat x y c D.Disk b sits claimed put is broke l =
@@ -191,7 +192,7 @@ skip_does v w h k seat x y c b sits claimed put is after l settles =
     (leaves_as _ _ v w (one_passes v h seat (Skip_call c.number)) l)
     (settles (b.ready.settled b.whole) (ap (λ (c : Counts). c.broken) counts ∙ b.whole))
     (part_ends h seat x z (Skip_call c.number) sits refl)
-    (given_still h seat (Some z) b.ready.given))
+    (own_sits seat (Some z) h w b.ready.given (ap (λ (t : StoreState). t.seat) after ∙ b.seat_is)))
 
 -- the number of a session that is open
 pub number_now : (v : StoreStand) (h : HubState) (seat : ℕ) (x : Sitting) → HasTurn v h seat → sitting_at h seat ≡ Some x → x.number ≢ 0
@@ -208,8 +209,8 @@ skip_broken_node a s h seat x number count broken = λ i. record (node_with a s 
   reserved = sym (ap (λ (o : Option ℕ). left_reserved o (claim_places_of x.claim) s.reserved) broken) i;
 }
 
-pub skip_broken : (v : StoreStand) (h k : HubState) (seat : ℕ) (x y : Sitting) (c : Claim) (count : ℕ) → v.state.counts.broken ≡ Some count → seat < length h.chairs → sitting_at h seat ≡ Some x → x.claim ≡ Some c → k ≡ with_sitting seat (Some y) (with_sitting seat None h) → y ≡ skipped_sitting c.number x → Does v h seat (Skip_call c.number) Settled v k
-skip_broken v h k seat x y c count broken given sits claimed put is =
+pub skip_broken : (v : StoreStand) (h k : HubState) (seat : ℕ) (x y : Sitting) (c : Claim) (count : ℕ) → v.state.counts.broken ≡ Some count → v.state.seat ≡ seat → seat < length h.chairs → sitting_at h seat ≡ Some x → x.claim ≡ Some c → k ≡ with_sitting seat (Some y) (with_sitting seat None h) → y ≡ skipped_sitting c.number x → Does v h seat (Skip_call c.number) Settled v k
+skip_broken v h k seat x y c count broken turn given sits claimed put is =
     subst (Does v h seat (Skip_call c.number) Settled v) (sym (put ∙ (sit_twice h seat (Some y) None ∙ ap (λ (q : Sitting). with_sitting seat (Some q) h) is)))
     (record {
       caused = (inr tt, refl);
@@ -218,6 +219,7 @@ skip_broken v h k seat x y c count broken given sits claimed put is =
       settled = λ settles whole. clash broken whole;
       part = part_ends h seat x z (Skip_call c.number) sits refl;
       ready = record { given = given_still h seat (Some z) given; fitted = λ whole. clash broken whole; settled = λ whole. clash broken whole };
+      own = own_sits seat (Some z) h v given turn;
     })
   where
     z : Sitting

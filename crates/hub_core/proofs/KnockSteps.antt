@@ -18,7 +18,7 @@ use Rattle.hub_core.proofs.Chairs.{fold_map}
 use Rattle.hub_core.proofs.Nodes.{map_put, chair_at, chair_apart}
 use Rattle.hub_core.proofs.Keeping.{leaves_none}
 use Rattle.hub_core.proofs.Ends.{same_content}
-use Rattle.hub_core.proofs.Sittings.{chairs_put}
+use Rattle.hub_core.proofs.Owning.{own_same, own_chair}
 use Rattle.hub_core.proofs.Turning.{fitted_now, made_does}
 use Rattle.node_model.proofs.Lists.{decide_line}
 
@@ -51,7 +51,7 @@ come_does v h seat role b stays =
     let f = fitted_now v h seat b in
     made_does v v h h seat (Knock_call role) Let_in b (inl b.whole, refl)
     (record { change = λ a. a; content = same_content v.state.content; step = (inl b.whole, record { may = may_come f.keeps v.state h role stays; after = refl }); fits = f.fits; counts = (refl, refl) })
-    (leaves_none _ v) (b.ready.settled b.whole) refl b.ready.given
+    (leaves_none _ v) (b.ready.settled b.whole) refl (own_same seat h v b.seat_is)
 
 -- Busy.
 
@@ -91,4 +91,4 @@ busy_does v h seat role b away =
       fits = record { stock = fits.stock; sittings = λ k x at. fits.sittings k x (sym (busy_sits h seat k) ∙ at); parts = fits.parts; sound = step_sound seat (node_with f.keeps v.state h) (Knock_call role) Busy (node_with f.keeps v.state (busier seat h)) step (λ unbroken. fits.sound) b.whole };
       counts = (ap (λ (x : Chair). x.busy) (chair_at seat c h.chairs), ap (λ (x : Chair). x.reads) (chair_at seat c h.chairs));
     })
-    (leaves_none _ v) (b.ready.settled b.whole) (ap sitting_part (busy_sits h seat seat)) (subst (λ (n : ℕ). seat < n) (sym (chairs_put seat c h.chairs b.ready.given)) b.ready.given)
+    (leaves_none _ v) (b.ready.settled b.whole) (ap sitting_part (busy_sits h seat seat)) (own_chair seat c h v h.begun b.ready.given b.seat_is)

@@ -24,13 +24,13 @@ use Rattle.hub_core.proofs.Data.{put_stored, parts_apart, put_sizes, fits_same, 
 use Rattle.hub_core.proofs.DataSteps.{TakesData, data_held, data_told, node_hold}
 use Rattle.hub_core.proofs.Ends.{unheld_sitting}
 use Rattle.hub_core.proofs.FileDoes.{placed_at}
-use Rattle.hub_core.proofs.FileFails.{given_as}
 use Rattle.hub_core.proofs.FileSteps.{busy_put, reads_put}
 use Rattle.hub_core.proofs.Finding.{left_there}
 use Rattle.hub_core.proofs.Keeping.{leaves_as}
 use Rattle.hub_core.proofs.MoreDoes.{takes_data, data_passes, data_away, data_part}
 use Rattle.hub_core.proofs.Nodes.{seats_put, session_same, session_is, node_eq, sittings_put, OthersStay}
 use Rattle.hub_core.proofs.OpenParts.{number_same}
+use Rattle.hub_core.proofs.Owning.{own_again}
 use Rattle.hub_core.proofs.Putting.{own_put, other_put}
 use Rattle.hub_core.proofs.Receiving.{other_closed, receipt_fits}
 use Rattle.hub_core.proofs.Sittings.{sit_twice}
@@ -166,7 +166,7 @@ last_does v w k seat x y t bytes b tied holds taking all after same l settled =
     (leaves_as _ _ v w (data_passes v h seat bytes b (put_received x.first t bytes x.number x.secure v.state) step.change step.content (After_it b.whole Whole_now _ step.step.1 refl)) l)
     (settled (b.ready.settled b.whole) (ap (λ (c : Counts). c.broken) counts ∙ b.whole))
     (data_part k seat x y bytes Whole_now (ap (λ (z : Sitting). taken_part z.hold) same) (ap (λ (z : Sitting). z.claim) same))
-    (given_as k seat (Some x) (Some y) b.ready.given)
+    (own_again seat (Some x) (Some y) k w (ap (λ (z : StoreState). z.seat) after ∙ b.seat_is))
 
 pub last_broken : (v w : StoreStand) (k : HubState) (seat : ℕ) (x : Sitting) (t : Taking) (bytes : List ℕ) (fault : StoreFault) → HasTurn v (with_sitting seat (Some x) k) seat → StoreTied v.state → x.hold ≡ Some t → t.taking ≡ true → t.have + length bytes ≡ t.key.size → BrokeBy (OneOf (v.state.content ∷ (put_received x.first t bytes x.number x.secure v.state).content ∷ [])) (is_part t.part) fault v.state w.state → Leaves (OneOf (v.state.content ∷ (put_received x.first t bytes x.number x.secure v.state).content ∷ [])) v w → Does v (with_sitting seat (Some x) k) seat (Data_call bytes) (Refused (fault_in fault w.state.counts.faults)) w (with_sitting seat (Some x) k)
 last_broken v w k seat x t bytes D.Disk b tied holds taking all broke l =

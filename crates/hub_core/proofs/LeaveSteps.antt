@@ -17,7 +17,8 @@ use Rattle.hub_core.specs.HubCalls.{ShelfPasses, HasTurn, Does}
 use Rattle.hub_core.specs.Steps.{Leaves, StaysSettled, OneOf, BrokeBy, loses_none, fault_in, left_state, part_under}
 use Rattle.hub_core.proofs.Keeping.{leaves_as, leaves_none}
 use Rattle.hub_core.proofs.Breaking.{same_but}
-use Rattle.hub_core.proofs.Sittings.{given_still}
+use Rattle.hub_core.proofs.Filing.{ended_seat}
+use Rattle.hub_core.proofs.Owning.{own_same, own_sits}
 use Rattle.hub_core.proofs.Turning.{fitted_now, sits_now, before_passes, made_does, broken_does}
 use Rattle.hub_core.proofs.Nodes.{seats_put, session_same, session_is, node_eq, sittings_put, OthersStay, chair_at, sits_at}
 use Rattle.hub_core.proofs.Ends.{Sits, marked_stored, ended_stored, ended_content, ended_counts, same_content, released_is}
@@ -91,7 +92,7 @@ leave_does v w h seat x b tied sits after l settled =
     let s = sits_now v h seat x b tied sits in
     let step : Stepped seat Leave_call Settled v.state h f.keeps w.state (with_sitting seat None h) = subst (λ (t : StoreState). Stepped seat Leave_call Settled v.state h f.keeps t (with_sitting seat None h)) (sym after) (left_stepped f.keeps v.state h seat x s b.whole) in
     let counts : w.state.counts ≡ v.state.counts = ap (λ (t : StoreState). t.counts) after ∙ ended_counts x.first x.hold v.state in
-    made_does v w h (with_sitting seat None h) seat Leave_call Settled b (inl b.whole, counts) step (leaves_as _ _ v w (left_passes v h seat x b tied sits) l) (settled (b.ready.settled b.whole) (ap (λ (c : Counts). c.broken) counts ∙ b.whole)) (ap sitting_part (sits_at h seat None)) (given_still h seat None b.ready.given)
+    made_does v w h (with_sitting seat None h) seat Leave_call Settled b (inl b.whole, counts) step (leaves_as _ _ v w (left_passes v h seat x b tied sits) l) (settled (b.ready.settled b.whole) (ap (λ (c : Counts). c.broken) counts ∙ b.whole)) (ap sitting_part (sits_at h seat None)) (own_sits seat None h w b.ready.given (ap (λ (t : StoreState). t.seat) after ∙ (ended_seat x.first x.hold v.state ∙ b.seat_is)))
 
 pub leave_broken : (v w : StoreStand) (h : HubState) (seat : ℕ) (x : Sitting) (fault : StoreFault) → HasTurn v h seat → StoreTied v.state → sitting_at h seat ≡ Some x → BrokeBy (OneOf (v.state.content ∷ (left_state x v.state).content ∷ [])) loses_none fault v.state w.state → Leaves (OneOf (v.state.content ∷ (left_state x v.state).content ∷ [])) v w → Does v h seat Leave_call (Refused (fault_in fault w.state.counts.faults)) w h
 leave_broken v w h seat x D.Disk b tied sits broke l =
@@ -106,4 +107,4 @@ leave_nothing v h seat b none =
     let f = fitted_now v h seat b in
     made_does v v h h seat Leave_call Settled b (inl b.whole, refl)
     (record { change = λ a. a; content = same_content v.state.content; step = (inl b.whole, inr (session_of f.keeps v.state h seat ∙ ap (option_map (session_over f.keeps.stock)) none, refl)); fits = f.fits; counts = (refl, refl) })
-    (leaves_none _ v) (b.ready.settled b.whole) (ap sitting_part none ∙ sym (ap (λ (o : Option Sitting). part_after (sitting_part o) Leave_call Settled) none)) b.ready.given
+    (leaves_none _ v) (b.ready.settled b.whole) (ap sitting_part none ∙ sym (ap (λ (o : Option Sitting). part_after (sitting_part o) Leave_call Settled) none)) (own_same seat h v b.seat_is)

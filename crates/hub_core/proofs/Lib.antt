@@ -29,6 +29,7 @@ pub mod Numbers
 pub mod OfferSteps
 pub mod OpenParts
 pub mod Opening
+pub mod Owning
 pub mod Putting
 pub mod QueuedStores
 pub mod ReadSteps

@@ -21,14 +21,13 @@ use Rattle.hub_core.proofs.Data.{put_stored, parts_apart, put_told, put_sizes, p
 use Rattle.hub_core.proofs.DataSteps.{TakesData, data_held, data_told, node_hold, more_stored, grown_taking, grown_sitting, more_node, more_at}
 use Rattle.hub_core.proofs.Ends.{marked_by, marked_stored, marked_content, stock_marked}
 use Rattle.hub_core.proofs.FileSteps.{busy_put, reads_put, map_twice}
-use Rattle.hub_core.proofs.FileFails.{given_as}
 use Rattle.hub_core.proofs.Finding.{found}
 use Rattle.hub_core.proofs.Keeping.{leaves_as}
 use Rattle.hub_core.proofs.Marking.{marked_queue, marked_sizes, marked_parts, mark_fits_part}
 use Rattle.hub_core.proofs.Nodes.{session_is, sittings_put, sits_at}
 use Rattle.hub_core.proofs.OpenParts.{number_apart}
+use Rattle.hub_core.proofs.Owning.{own_again}
 use Rattle.hub_core.proofs.Putting.{own_put, other_put}
-use Rattle.hub_core.proofs.Sittings.{given_still}
 use Rattle.hub_core.proofs.Stepping.{Stepped, passes_by}
 use Rattle.hub_core.proofs.Turning.{fitted_now, sits_now, before_passes, made_does, broken_does}
 
@@ -99,6 +98,10 @@ more_counts : (b : Bool) (p : MarkOf ℕ) (s : StoreState) → (marked_by b p s)
 more_counts true p s = refl
 more_counts false p s = refl
 
+more_seat : (b : Bool) (p : MarkOf ℕ) (s : StoreState) → (marked_by b p s).seat ≡ s.seat
+more_seat true p s = refl
+more_seat false p s = refl
+
 pub more_stepped : (a : Stored) (s : StoreState) (h : HubState) (seat : ℕ) (x : Sitting) (t : Taking) (bytes : List ℕ) → TakesData a s h seat x t → t.have + length bytes < t.key.size → Stepped seat (Data_call bytes) More s h a (put_marked x.first t bytes s) (with_sitting seat (Some (grown_sitting (stride_at x.first t bytes s) (length bytes) t x)) h)
 more_stepped a s h seat x t bytes d short =
     let b = stride_at x.first t bytes s in
@@ -165,7 +168,7 @@ more_does v w k seat x y t bytes b tied holds taking short after same l settled 
     (leaves_as _ _ v w (data_passes v h seat bytes b (put_marked x.first t bytes v.state) step.change step.content (After_it b.whole More _ step.step.1 refl)) l)
     (settled (b.ready.settled b.whole) (ap (λ (c : Counts). c.broken) counts ∙ b.whole))
     (data_part k seat x y bytes More (ap (λ (z : Sitting). taken_part z.hold) same ∙ (less_part (length bytes) reached t ∙ ap (λ (o : Option Taking). less (length bytes) (taken_part o)) (sym holds))) (ap (λ (z : Sitting). z.claim) same))
-    (given_as k seat (Some x) (Some y) b.ready.given)
+    (own_again seat (Some x) (Some y) k w (ap (λ (z : StoreState). z.seat) after ∙ (ap (λ (z : StoreState). z.seat) (put_marked_is x.first t bytes v.state) ∙ (more_seat reached (part_under x.first (more_taking (length bytes) t)) (with_bytes t.part bytes v.state) ∙ b.seat_is))))
 
 pub more_broken : (v w : StoreStand) (k : HubState) (seat : ℕ) (x : Sitting) (t : Taking) (bytes : List ℕ) (fault : StoreFault) → HasTurn v (with_sitting seat (Some x) k) seat → StoreTied v.state → x.hold ≡ Some t → t.taking ≡ true → t.have + length bytes < t.key.size → BrokeBy (OneOf (v.state.content ∷ (put_marked x.first t bytes v.state).content ∷ [])) (is_part t.part) fault v.state w.state → Leaves (OneOf (v.state.content ∷ (put_marked x.first t bytes v.state).content ∷ [])) v w → Does v (with_sitting seat (Some x) k) seat (Data_call bytes) (Refused (fault_in fault w.state.counts.faults)) w (with_sitting seat (Some x) k)
 more_broken v w k seat x t bytes D.Disk b tied holds taking short broke l =

@@ -25,8 +25,9 @@ use Rattle.hub_core.proofs.Ends.{same_content}
 use Rattle.hub_core.proofs.Keeping.{leaves_as}
 use Rattle.hub_core.proofs.Marking.{sitting_stays}
 use Rattle.hub_core.proofs.Nodes.{seats_put, session_is, sits_at, sittings_put, chair_at}
-use Rattle.hub_core.proofs.Sittings.{given_still, sit_twice, sit_back}
+use Rattle.hub_core.proofs.Sittings.{sit_twice, sit_back}
 use Rattle.hub_core.proofs.Stepping.{Stepped}
+use Rattle.hub_core.proofs.Owning.{own_same, own_sits}
 use Rattle.hub_core.proofs.Turning.{fitted_now, made_does, broken_does}
 
 some_same : {A : Type 0} {u v : A} → Some u ≡ Some v → u ≡ v
@@ -36,7 +37,7 @@ some_same e = cc
 
 -- the disk failed in a call that loses no part
 pub breaks_to : (call : StoreCall) (P : Shelf → Type 0) (s t : StoreState) → ((p : MarkOf ℕ) → MayLose call p ≡ false) → ((d : Shelf) → StorePasses s call d → P d) → BreaksStore call s t → Broke P loses_none s t
-breaks_to call P s t keeps f b = record { rose = b.rose; counts = b.counts; content = go s.content t.content b.content }
+breaks_to call P s t keeps f b = record { rose = b.rose; counts = b.counts; content = go s.content t.content b.content; seat = b.seat }
   where
     go : (c e : Option Stored) → TellsOn (λ x y. StorePasses s call (shelf_of y) × Logs s.seat x.log y.log × PartsStay call s.stock x.stock y.stock) c e → TellsOn (λ x y. P (shelf_of y) × Logs s.seat x.log y.log × ((p : MarkOf ℕ) → Stays loses_none s p → part_in p.number y.stock.parts ≡ part_in p.number x.stock.parts)) c e
     go None None on = tt
@@ -120,7 +121,7 @@ offer_file_does v w h seat x y number key b sits unclaimed o l settled =
     (leaves_as _ _ v w (one_passes v h seat Offer_call) l)
     (settled (b.ready.settled b.whole) (ap (λ (c : Counts). c.broken) counts ∙ b.whole))
     (ap sitting_part (sits_at h seat (Some y)) ∙ (ap (λ (q : Sitting). sitting_part (Some q)) o.claimed ∙ ap (λ (p : Option Sitting). part_after (sitting_part p) Offer_call (Offered number key)) (sym sits)))
-    (given_still h seat (Some y) b.ready.given)
+    (own_sits seat (Some y) h w b.ready.given (ap (λ (t : StoreState). t.seat) o.after ∙ b.seat_is))
 
 pub offer_nothing_does : (v w : StoreStand) (h : HubState) (seat : ℕ) (x y : Sitting) → HasTurn v h seat → sitting_at h seat ≡ Some x → x.claim ≡ None → OffersNothing (with_sitting seat None h).chairs x v.state w.state y → Leaves (OneOf (v.state.content ∷ [])) v w → StaysSettled v w → Does v h seat Offer_call Nothing w h
 offer_nothing_does v w h seat x y b sits unclaimed o l settled =
@@ -132,7 +133,7 @@ offer_nothing_does v w h seat x y b sits unclaimed o l settled =
     made_does v w h h seat Offer_call Nothing b (inl b.whole, counts)
     (subst (λ (t : StoreState). Stepped seat Offer_call Nothing v.state h f.keeps t h) (sym o.after) step)
     (leaves_as _ _ v w (one_passes v h seat Offer_call) l)
-    (settled (b.ready.settled b.whole) (ap (λ (c : Counts). c.broken) counts ∙ b.whole)) refl b.ready.given
+    (settled (b.ready.settled b.whole) (ap (λ (c : Counts). c.broken) counts ∙ b.whole)) refl (own_same seat h w (ap (λ (t : StoreState). t.seat) o.after ∙ b.seat_is))
 
 pub offer_refused : (v w : StoreStand) (h : HubState) (seat : ℕ) (x : Sitting) (fault : StoreFault) → HasTurn v h seat → sitting_at h seat ≡ Some x → x.claim ≡ None → RefusedBy (OneOf (v.state.content ∷ [])) loses_none (OffersFull (with_sitting seat None h).chairs x v.state) fault v.state w.state → Leaves (OneOf (v.state.content ∷ [])) v w → StaysSettled v w → Does v h seat Offer_call (Refused (fault_in fault w.state.counts.faults)) w h
 offer_refused v w h seat x D.Disk b sits unclaimed r l settled =
@@ -146,13 +147,13 @@ offer_refused v w h seat x D.Full b sits unclaimed r l settled =
     let step : Stepped seat Offer_call (Refused Full) v.state h f.keeps (counted_full v.state) h = record { change = λ a. a; content = same_content v.state.content; step = (b.whole, full, refl); fits = full_fits f.keeps v.state h f.fits; counts = (refl, refl) } in
     made_does v w h h seat Offer_call (Refused Full) b (full_caused v.state w.state Offer_call tt b.whole r.1)
     (subst (λ (t : StoreState). Stepped seat Offer_call (Refused Full) v.state h f.keeps t h) (sym r.1) step)
-    (leaves_as _ _ v w (one_passes v h seat Offer_call) l) (settled (b.ready.settled b.whole) (ap (λ (c : Counts). c.broken) counts ∙ b.whole)) refl b.ready.given
+    (leaves_as _ _ v w (one_passes v h seat Offer_call) l) (settled (b.ready.settled b.whole) (ap (λ (c : Counts). c.broken) counts ∙ b.whole)) refl (own_same seat h w (ap (λ (t : StoreState). t.seat) r.1 ∙ b.seat_is))
 offer_refused v w h seat x D.NoMemory b sits unclaimed r l settled =
     let f = fitted_now v h seat b in
     let step : Stepped seat Offer_call (Refused No_memory) v.state h f.keeps v.state h = record { change = λ a. a; content = same_content v.state.content; step = (b.whole, tt, refl); fits = f.fits; counts = (refl, refl) } in
     made_does v w h h seat Offer_call (Refused No_memory) b (tt, b.whole, ap (λ (t : StoreState). t.counts) r)
     (subst (λ (t : StoreState). Stepped seat Offer_call (Refused No_memory) v.state h f.keeps t h) (sym r) step)
-    (leaves_as _ _ v w (one_passes v h seat Offer_call) l) (settled (b.ready.settled b.whole) (ap (λ (t : StoreState). t.counts.broken) r ∙ b.whole)) refl b.ready.given
+    (leaves_as _ _ v w (one_passes v h seat Offer_call) l) (settled (b.ready.settled b.whole) (ap (λ (t : StoreState). t.counts.broken) r ∙ b.whole)) refl (own_same seat h w (ap (λ (t : StoreState). t.seat) r ∙ b.seat_is))
 
 -- As the code goes: the session was taken out of its seat, and is put back.
 

@@ -57,6 +57,7 @@ put_broken P Q loses number bytes old new f fewer b = record {
   rose = b.rose;
   counts = b.counts;
   content = go old.content new.content b.content;
+  seat = b.seat;
 }
   where
     go : (c e : Option Stored) → TellsOn (λ a b. Q (shelf_of b) × Logs old.seat a.log b.log × ((p : MarkOf ℕ) → Stays loses (with_bytes number bytes old) p → part_in p.number b.stock.parts ≡ part_in p.number a.stock.parts)) (option_map (stored_after (part_put number (λ b. b ++ bytes)) old.seat []) c) e → TellsOn (λ a b. P (shelf_of b) × Logs old.seat a.log b.log × ((p : MarkOf ℕ) → Stays (is_part number) old p → part_in p.number b.stock.parts ≡ part_in p.number a.stock.parts)) c e

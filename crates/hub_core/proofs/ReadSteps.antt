@@ -36,8 +36,8 @@ use Rattle.hub_core.proofs.Keeping.{leaves_as}
 use Rattle.hub_core.proofs.Marking.{sitting_stays}
 use Rattle.hub_core.proofs.Nodes.{put_is_set, map_put, session_is, chair_at, chair_apart}
 use Rattle.hub_core.proofs.OpenParts.{same_number, number_same}
-use Rattle.hub_core.proofs.Sittings.{chairs_put}
 use Rattle.hub_core.proofs.Stepping.{Stepped}
+use Rattle.hub_core.proofs.Owning.{own_same, own_chair}
 use Rattle.hub_core.proofs.Turning.{fitted_now, made_does, broken_does}
 use Rattle.node_model.proofs.Lists.{decide_line}
 
@@ -177,6 +177,7 @@ read_does v w h seat p number at room bytes b is r l settled =
       settled = λ settles whole. now;
       part = refl;
       ready = record { given = b.ready.given; fitted = λ whole. same_fitted v w h r.1 f; settled = λ whole. now };
+      own = own_same seat h w (ap (λ (t : StoreState). t.seat) r.1 ∙ b.seat_is);
     }
   where
     go : (x : Sitting) → sitting_at h seat ≡ Some x → x.claim ≡ Some p.claim → (c : Option Stored) → IfTold c (λ s. (content : List ℕ) × Source p.claim.number content s × (bytes ≡ take room (drop at content))) → KnownStep seat (knows_over c v.state h seat) (Read_call at room) (Came bytes) (knows_over c v.state h seat)
@@ -216,7 +217,7 @@ read_failed v w h seat at room b r l settled =
     (subst (λ (q : StoreState). Stepped seat (Read_call at room) (Refused (Read n)) s h f.keeps q g) (sym r.after) stepped)
     (leaves_as _ _ v w (one_passes v h seat (Read_call at room)) l)
     (settled (b.ready.settled b.whole) (ap (λ (c : Counts). c.broken) counts ∙ b.whole))
-    (ap sitting_part (reads_sits h seat seat)) (subst (λ (m : ℕ). seat < m) (sym (chairs_put seat c h.chairs b.ready.given)) b.ready.given)
+    (ap sitting_part (reads_sits h seat seat)) (own_chair seat c h w h.begun b.ready.given (ap (λ (t : StoreState). t.seat) r.after ∙ b.seat_is))
 
 -- the number that the code finds
 pub claimed_number : (h : HubState) (seat : ℕ) (p : HasClaim (seat_part h seat)) (number : ℕ) → Some number ≡ claimed_at h seat → number ≡ p.claim.number

@@ -58,6 +58,12 @@ chairs_put k c [] given = absurd (omega (arith, given))
 chairs_put zero c (x ∷ cs) given = refl
 chairs_put (suc k) c (x ∷ cs) given = ap suc (chairs_put k c cs (omega (arith, given)))
 
+pub puts_alike : (k : ℕ) (c d : Chair) (cs : List Chair) → length (put_chair k c cs) ≡ length (put_chair k d cs)
+puts_alike zero c d [] = refl
+puts_alike zero c d (x ∷ cs) = refl
+puts_alike (suc k) c d [] = ap suc (puts_alike k c d [])
+puts_alike (suc k) c d (x ∷ cs) = ap suc (puts_alike k c d cs)
+
 -- the seat was given still
 pub given_still : (h : HubState) (seat : ℕ) (o : Option Sitting) → seat < length h.chairs → seat < length (with_sitting seat o h).chairs
 given_still h seat o given = subst (λ (n : ℕ). seat < n) (sym (chairs_put seat (record (chair_in h.chairs seat) { sitting = o }) h.chairs given)) given

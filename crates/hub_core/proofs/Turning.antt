@@ -6,7 +6,7 @@ use Rattle.node_model.specs.Desks.{part_after}
 use Rattle.node_model.specs.Images.{Kept}
 use Rattle.node_model.specs.Stores.{Shelf, Stored, StoreState, StoreStand, StoreTied, IfTold, IsShelf}
 use Rattle.hub_core.specs.Hubs.{Sitting, HubState, Fitted, IsReady, sitting_at, knows_over, hub_stand, seat_part, IsSettled}
-use Rattle.hub_core.specs.HubCalls.{ShelfPasses, HasTurn, Does}
+use Rattle.hub_core.specs.HubCalls.{ShelfPasses, HasTurn, OwnCall, Does}
 use Rattle.hub_core.specs.Steps.{Leaves, StaysSettled, OneOf, Broke}
 use Rattle.hub_core.proofs.Keeping.{kept_of, leaves_as, leaves_then}
 use Rattle.hub_core.proofs.Stepping.{Stepped, stepped_known, stepped_fitted}
@@ -68,9 +68,12 @@ kept_turn u v w h g seat call answer turn l does =
     (leaves_as (ShelfPasses u.state.content t h seat call) (ShelfPasses u.state.content u.state h seat call) v w (same_passes u.state.content u.state h seat call) passes))
     does.settled
 
+given_on : (seat : ℕ) (h : HubState) (w : StoreStand) (g : HubState) → OwnCall seat h w g → seat < length h.chairs → seat < length g.chairs
+given_on seat h w g own given = subst (λ (n : ℕ). seat < n) (sym own.seats) given
+
 -- a call that was made
-pub made_does : (v w : StoreStand) (h g : HubState) (seat : ℕ) (call : Call) (answer : Answer) (b : HasTurn v h seat) → Caused v.state.counts call answer w.state.counts → Stepped seat call answer v.state h (fitted_now v h seat b).keeps w.state g → Leaves (ShelfPasses v.state.content v.state h seat call) v w → IsSettled w → seat_part g seat ≡ part_after (seat_part h seat) call answer → seat < length g.chairs → Does v h seat call answer w g
-made_does v w h g seat call answer b caused step l settled part given =
+pub made_does : (v w : StoreStand) (h g : HubState) (seat : ℕ) (call : Call) (answer : Answer) (b : HasTurn v h seat) → Caused v.state.counts call answer w.state.counts → Stepped seat call answer v.state h (fitted_now v h seat b).keeps w.state g → Leaves (ShelfPasses v.state.content v.state h seat call) v w → IsSettled w → seat_part g seat ≡ part_after (seat_part h seat) call answer → OwnCall seat h w g → Does v h seat call answer w g
+made_does v w h g seat call answer b caused step l settled part own =
     let f = fitted_now v h seat b in
     record {
       caused = caused;
@@ -78,7 +81,8 @@ made_does v w h g seat call answer b caused step l settled part given =
       leaves = l;
       settled = λ settles whole. settled;
       part = part;
-      ready = record { given = given; fitted = λ whole. stepped_fitted seat call answer v.state h f w.state g step; settled = λ whole. settled };
+      ready = record { given = given_on seat h w g own b.ready.given; fitted = λ whole. stepped_fitted seat call answer v.state h f w.state g step; settled = λ whole. settled };
+      own = own;
     }
 
 clash : {X : Type 0} {n : ℕ} {o : Option ℕ} → o ≡ Some n → o ≡ None → X
@@ -95,18 +99,20 @@ broken_does P loses v w h g seat call b broke away passes works same l part give
       settled = λ settles. absurd settles;
       part = part;
       ready = record { given = given; fitted = λ whole. clash (ap (λ (c : Counts). c.broken) broke.counts) whole; settled = λ whole. clash (ap (λ (c : Counts). c.broken) broke.counts) whole };
+      own = record { settings = same.settings; seats = same.seats; others = same.others; turn = broke.seat ∙ b.seat_is };
     }
 
 -- a store that was broken already: the node doesn't change, whatever the hub notes
-pub refused_does : (v : StoreStand) (h g : HubState) (seat : ℕ) (call : Call) (count : ℕ) → v.state.counts.broken ≡ Some count → (IsSkip call → ⊥) → ((c : Option Stored) → knows_over c v.state g seat ≡ knows_over c v.state h seat) → seat_part g seat ≡ part_after (seat_part h seat) call (Refused (Disk count)) → seat < length g.chairs → Does v h seat call (Refused (Disk count)) v g
-refused_does v h g seat call count broken works same part given =
+pub refused_does : (v : StoreStand) (h g : HubState) (seat : ℕ) (call : Call) (count : ℕ) → v.state.counts.broken ≡ Some count → (IsSkip call → ⊥) → ((c : Option Stored) → knows_over c v.state g seat ≡ knows_over c v.state h seat) → seat_part g seat ≡ part_after (seat_part h seat) call (Refused (Disk count)) → seat < length h.chairs → OwnCall seat h v g → Does v h seat call (Refused (Disk count)) v g
+refused_does v h g seat call count broken works same part given own =
     record {
       caused = (works, inl (broken, refl));
       step = subst (λ k. KnownStep seat (knows_over v.state.content v.state h seat) call (Refused (Disk count)) k) (sym (same v.state.content)) (still v.state.content);
       leaves = Rattle.hub_core.proofs.Keeping.leaves_none _ v;
       settled = λ settles. absurd settles;
       part = part;
-      ready = record { given = given; fitted = λ whole. clash broken whole; settled = λ whole. clash broken whole };
+      ready = record { given = given_on seat h v g own given; fitted = λ whole. clash broken whole; settled = λ whole. clash broken whole };
+      own = own;
     }
   where
     still : (c : Option Stored) → KnownStep seat (knows_over c v.state h seat) call (Refused (Disk count)) (knows_over c v.state h seat)

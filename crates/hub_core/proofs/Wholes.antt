@@ -51,6 +51,7 @@ whole_broken' old new from key session secure tied w may b = record {
   rose = b.rose;
   counts = b.counts;
   content = go old.content tied.sizes new.content b.content (λ d p. passes d p);
+  seat = b.seat;
 }
   where
     number : ℕ

@@ -38,12 +38,13 @@ StaysSettled old new = IsSettled old → new.state.counts.broken ≡ None → Is
 abbrev pub Stays : (MarkOf ℕ → Bool) → StoreState → MarkOf ℕ → Type 0
 Stays loses s p = Member p s.stock.parts × (loses p ≡ false)
 
--- The disk failed: the count rose, and the store is broken. Where it tells, such a shelf is left, the log went on with
--- records of this seat alone, and the other parts have their bytes.
+-- The disk failed: the count rose, and the store is broken. Its seat stays. Where it tells, such a shelf is left, the log
+-- went on with records of this seat alone, and the other parts have their bytes.
 pub record Broke (P : Shelf → Type 0) (loses : MarkOf ℕ → Bool) (old new : StoreState) : Type 0 where
   pub rose : Increased old.counts.faults new.counts.faults
   pub counts : new.counts ≡ record old.counts { faults = new.counts.faults; broken = Some new.counts.faults }
   pub content : TellsOn (λ a b. P (shelf_of b) × Logs old.seat a.log b.log × ((p : MarkOf ℕ) → Stays loses old p → part_in p.number b.stock.parts ≡ part_in p.number a.stock.parts)) old.content new.content
+  pub seat : new.seat ≡ old.seat
 
 -- the disk is the one cause
 abbrev pub BrokeBy : (Shelf → Type 0) → (MarkOf ℕ → Bool) → StoreFault → StoreState → StoreState → Type 0

@@ -31,7 +31,7 @@ pub struct HubDesk<S: Store> {
 impl<S: Store> Hub<S> {
     ghost use Rattle.hub_core.specs.Hubs.{hub_state, seat_part};
     ghost use Rattle.hub_core.specs.HubCalls.{HasTurn, Does};
-    ghost use Rattle.node_model.specs.Desks.{Fits, begin_answer, data_answer, file_answer, knock_answer, settled_answer};
+    ghost use Rattle.node_model.specs.Desks.{DataExact, Fits, begin_answer, data_answer, file_answer, knock_answer, settled_answer};
     ghost use Rattle.node_model.specs.Calls.{Data_call, File_call, Knock_call, Open_call, Leave_call};
     ghost use Rattle.std.specs.List.{All};
     ghost use Rattle.ftn_addr.specs.Address.{address};
@@ -110,7 +110,8 @@ impl<S: Store> Hub<S> {
     fn data_now(&mut self, seat: u32, bytes: &[u8]) -> Result<DataIn, DeskFault>
         requires turn { HasTurn (S.stand self.old.store) (hub_state self.old.seats) seat }
         requires fits { Fits (seat_part (hub_state self.old.seats) seat) (length bytes.now) }
-        ensures { Does (S.stand self.old.store) (hub_state self.old.seats) seat (Data_call bytes.now) (data_answer result) (S.stand self.new.store) (hub_state self.new.seats) }
+        ensures does { Does (S.stand self.old.store) (hub_state self.old.seats) seat (Data_call bytes.now) (data_answer result) (S.stand self.new.store) (hub_state self.new.seats) }
+        ensures exact { DataExact (seat_part (hub_state self.old.seats) seat).held (length bytes.now) (data_answer result) }
     {
         let Some(mut session) = self.seats.take_session(seat) else {
             unreachable!()
@@ -139,6 +140,7 @@ impl<S: Store> Hub<S> {
 
 impl<S: Store> Desk for HubDesk<S> {
     ghost use Rattle.hub_core.specs.Hubs.{IsReady, hub_state, hub_stand, seat_part};
+    ghost use Rattle.hub_core.specs.HubCalls.{OwnCall};
     ghost use Rattle.hub_core.specs.HubLaws.{seat_tied};
 
     ghost alone = { true };
@@ -148,6 +150,8 @@ impl<S: Store> Desk for HubDesk<S> {
     ghost part = { λ d. seat_part (hub_state d.hub.seats) d.seat };
 
     ghost ready = { λ d. IsReady (S.stand d.hub.store) (hub_state d.hub.seats) d.seat };
+
+    ghost rule = { λ d e. (e.seat ≡ d.seat) × OwnCall d.seat (hub_state d.hub.seats) (S.stand e.hub.store) (hub_state e.hub.seats) };
 
     fn knock(&mut self, role: Role) -> Result<Knock, DeskFault> {
         take_turn(&mut self.hub.store, self.seat);

@@ -1,7 +1,7 @@
 //! What a session does with data of the file that it holds.
 ghost use Rattle.std.specs.Prelude.{◌≡◌, length, Some};
 ghost use Rattle.node_model.specs.Calls.{Data_call};
-ghost use Rattle.node_model.specs.Desks.{Fits, data_answer};
+ghost use Rattle.node_model.specs.Desks.{DataExact, Fits, data_answer};
 ghost use Rattle.hub_core.specs.Hubs.{hub_state, sitting_of, sitting_part, with_sitting};
 ghost use Rattle.hub_core.specs.HubCalls.{HasTurn, Does};
 
@@ -20,7 +20,8 @@ pub fn take_data<S: Store>(
 ) -> Result<DataIn, DeskFault>
     requires turn { HasTurn (S.stand store.old) (with_sitting seat (Some (sitting_of session.old)) (hub_state seats.now)) seat }
     requires fits { Fits (sitting_part (Some (sitting_of session.old))) (length bytes.now) }
-    ensures { Does (S.stand store.old) (with_sitting seat (Some (sitting_of session.old)) (hub_state seats.now)) seat (Data_call bytes.now) (data_answer result) (S.stand store.new) (with_sitting seat (Some (sitting_of session.new)) (hub_state seats.now)) }
+    ensures does { Does (S.stand store.old) (with_sitting seat (Some (sitting_of session.old)) (hub_state seats.now)) seat (Data_call bytes.now) (data_answer result) (S.stand store.new) (with_sitting seat (Some (sitting_of session.new)) (hub_state seats.now)) }
+    ensures exact { DataExact (sitting_part (Some (sitting_of session.old))).held (length bytes.now) (data_answer result) }
 {
     let _seats = seats;
     let _seat = seat;

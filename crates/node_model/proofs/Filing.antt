@@ -11,10 +11,10 @@ use Rattle.node_model.specs.Durable.{Durable, is_known, mark_of, bytes_of_mark, 
 use Rattle.node_model.specs.Node.{Hold, Session, Node, session_at, hold_in}
 use Rattle.node_model.specs.Rows.{HasRoom, refuses, places_for, hold_from, holding, receipt_of, FileAnswer, Have, Refuse, Elsewhere, Go, Whole, From, Late, HeldElsewhere, PartNumber, Acceptable, mark_length, Applies, wanted_places, FileMade, FileRow, unheld, released}
 use Rattle.node_model.specs.Sound.{same_mark}
-use Rattle.node_model.proofs.Lists.{off, is_false, some_inj, is_same_true, is_same_at, first_that_is, Each-member, decide_line}
+use Rattle.node_model.proofs.Lists.{off, is_false, some_inj, is_same_true, is_same_at, first_that_is, Each-member, Each-weaker, decide_line}
 use Rattle.node_model.proofs.Distinct.{each_of, find_none, distinct_one}
 use Rattle.node_model.proofs.Moves.{released-moved}
-use Rattle.node_model.proofs.StoreChanges.{Numbered, store_receipt, store_refusal}
+use Rattle.node_model.proofs.StoreChanges.{IsOwnNumber, Numbered, store_receipt, store_refusal}
 use Rattle.node_model.proofs.HoldChanges.{FileBeside, Beside, seat_received, seat_refused, seat_drawn, store_drawn}
 use Rattle.node_model.proofs.Seats.{NumbersAgree, HoldSound, HoldFits, HoldsApart, SeatOk, StoreFits, NodeFits, seats_put, seats_same}
 use Rattle.node_model.proofs.Leaving.{places_put, released_fits}
@@ -59,7 +59,7 @@ part_few : (n : Node) (from : Address) (key : Key) (number : ℕ) → PartNumber
 part_few n from key number part few = let a = part.few in omega (arith, a, few)
 
 part_numbered : (n : Node) (from : Address) (key : Key) (number : ℕ) → is_known from key n.state ≡ false → PartNumber n from key number → StoreFits n.state n.staged n.drawn → Numbered n.state (max n.drawn number) from key number
-part_numbered n from key number new part f = record { new = new; marks = part_agrees n from key number part f; receipts = part.unreceived; some = part.some; was_drawn = number_drawn n.drawn number }
+part_numbered n from key number new part f = record { new = new; marks = Each-weaker (NumbersAgree from key number) (IsOwnNumber from key number) (λ x a. a.0) n.state.marks (part_agrees n from key number part f); receipts = part.unreceived; some = part.some; was_drawn = number_drawn n.drawn number }
 
 -- what another session holds is another file, with another number
 beside_part : (n : Node) (seat : ℕ) (from : Address) (key : Key) (number : ℕ) → PartNumber n from key number → (HeldElsewhere n seat from key → ⊥) → (k : ℕ) (w : Session) → k ≢ seat → session_at n k ≡ Some w → Beside from key number w.hold

@@ -6,9 +6,10 @@ use Rattle.node_model.specs.Durable.{Durable, with_mark}
 use Rattle.node_model.specs.Node.{Hold, Session, Seat, Settings, Node, peers, seat_in, put_seat, session_at}
 use Rattle.node_model.specs.Rows.{by, mark_for, mark_record, is_ahead, mark_any, marks_any, unheld, released, left_by, LeaveRow}
 use Rattle.node_model.specs.Sound.{places_in, places_of, all_places}
-use Rattle.node_model.proofs.StoreChanges.{Numbered, store_mark}
+use Rattle.node_model.proofs.Lists.{Each-weaker}
+use Rattle.node_model.proofs.StoreChanges.{IsOwnNumber, Numbered, store_mark}
 use Rattle.node_model.proofs.HoldChanges.{beside, seat_marked}
-use Rattle.node_model.proofs.Seats.{ClaimFits, HoldSound, HoldFits, HoldsApart, SeatFits, PairFits, StoreFits, SeatsFit, NodeFits, seats_put}
+use Rattle.node_model.proofs.Seats.{NumbersAgree, ClaimFits, HoldSound, HoldFits, HoldsApart, SeatFits, PairFits, StoreFits, SeatsFit, NodeFits, seats_put}
 
 -- the sum of a seat's number over the seats, after one of them changed
 pub sum_put : (k : ℕ) (v : Seat) (seats : List Seat) → all_places (put_seat k v seats) + places_of (seat_in seats k) ≡ all_places seats + places_of v
@@ -22,7 +23,7 @@ places_put n seat was new has =
     ap (λ o. all_places (put_seat seat (record (seat_in n.seats seat) { session = new }) n.seats) + places_in o) (sym has) ∙ sum_put seat (record (seat_in n.seats seat) { session = new }) n.seats
 
 pub numbered_hold : (settings : Settings) (d : Durable) (drawn : ℕ) (first : Address) (places : ℕ) (h : Hold) → HoldSound settings d drawn first places h → Numbered d drawn h.from h.key h.number
-numbered_hold settings d drawn first places h o = record { new = o.new; marks = o.marks; receipts = o.receipts; some = o.some; was_drawn = o.was_drawn }
+numbered_hold settings d drawn first places h o = record { new = o.new; marks = Each-weaker (NumbersAgree h.from h.key h.number) (IsOwnNumber h.from h.key h.number) (λ x a. a.0) d.marks o.marks; receipts = o.receipts; some = o.some; was_drawn = o.was_drawn }
 
 -- The mark of what a session holds.
 

@@ -48,7 +48,7 @@ done_fits number e fits = go (e.number == number)
     go true = tt
     go false = fits
 
-acted_same : (number : ℕ) (e : Entry) → SameEntry e (acted_entry number e)
+pub acted_same : (number : ℕ) (e : Entry) → SameEntry e (acted_entry number e)
 acted_same number e = go (e.number == number)
   where
     go : (b : Bool) → SameEntry e (if b then record e { acted = true } else e)
@@ -61,6 +61,9 @@ acted_body number e = go (e.number == number)
     go : (b : Bool) → (if b then record e { acted = true } else e).body ≡ e.body
     go true = refl
     go false = refl
+
+pub acted_fits : (number : ℕ) (e : Entry) → FitsKey e.key e.body → FitsKey (acted_entry number e).key (acted_entry number e).body
+acted_fits number e x = let a = acted_same number e in subst (λ (q : Key × Body). FitsKey q.0 q.1) (λ i. (sym a.key i, sym (acted_body number e) i)) x
 
 -- the queue with another in its place
 pub store_queue : (d : Durable) (queue : List Entry) (staged staged' drawn : ℕ) → SoundQueue queue → Each (λ (e : Entry). e.number ≤ staged') queue → StoreFits d staged drawn → StoreFits (record d { queue = queue }) staged' drawn
@@ -81,14 +84,11 @@ act-fits n m seat dest number row f =
     let room = row.room in
     subst NodeFits (sym row.after)
     (record {
-      store = store_queue n.state (all_acted number n.state.queue) n.staged n.staged n.drawn (queue_map (acted_entry number) (acted_same number) fits n.state.queue f.store.queue) (staged_map (acted_entry number) (acted_same number) n.staged n.state.queue f.store.queue_staged) f.store;
+      store = store_queue n.state (all_acted number n.state.queue) n.staged n.staged n.drawn (queue_map (acted_entry number) (acted_same number) (acted_fits number) n.state.queue f.store.queue) (staged_map (acted_entry number) (acted_same number) n.staged n.state.queue f.store.queue_staged) f.store;
       seats = seats_same n _ (λ k. refl) (λ k s at o. seat_queued (all_acted number n.state.queue) n.begun n.settings n.state n.drawn s (claims_on n.state.queue (all_acted number n.state.queue) (peers s) s.claim_places (λ x m. let a = acted_same number x in (acted_entry number x, member_map (acted_entry number) x n.state.queue m, a.number, acted_body number x, a.dest)) s.claim o.claim) o) f.seats;
       all = f.all;
       room = omega (arith, room);
     })
-  where
-    fits : (e : Entry) → FitsKey e.key e.body → FitsKey (acted_entry number e).key (acted_entry number e).body
-    fits e x = let a = acted_same number e in subst (λ (q : Key × Body). FitsKey q.0 q.1) (λ i. (sym a.key i, sym (acted_body number e) i)) x
 
 -- Queue.
 

@@ -11,16 +11,20 @@ use Rattle.node_model.specs.Sound.{same_receipt, same_refusal, same_mark, Receip
 use Rattle.node_model.proofs.Lists.{is_same_flip, or_false, both_false, none_passes-append, Each-append, Each-without, Each-weaker}
 use Rattle.node_model.proofs.Distinct.{apart_numbers, each_map, each_none, some_passes_map, without_none, none_each, distinct_without, distinct_push, distinct_map}
 use Rattle.node_model.proofs.Marks.{Each-placed, distinct_placed, inbox_mark}
-use Rattle.node_model.proofs.Seats.{NumbersAgree, StoreFits}
+use Rattle.node_model.proofs.Seats.{StoreFits}
+
+-- a mark of that number is of that sender and key
+abbrev pub IsOwnNumber : Address → Key → ℕ → Mark → Type 0
+IsOwnNumber from key number m = m.number ≡ number → is_same from key m.from m.key ≡ true
 
 -- the marks of other senders and keys have other numbers
-pub others_numbered : (from : Address) (key : Key) (number : ℕ) (xs : List Mark) → Each (NumbersAgree from key number) xs → Each (λ (x : Mark). x.number ≢ number) (unmarked from key xs)
+pub others_numbered : (from : Address) (key : Key) (number : ℕ) (xs : List Mark) → Each (IsOwnNumber from key number) xs → Each (λ (x : Mark). x.number ≢ number) (unmarked from key xs)
 others_numbered from key number xs agree =
-    both (unmarked from key xs) (Each-without (NumbersAgree from key number) (λ (x : Mark). is_same from key x.from x.key) xs agree) (without_none (λ (x : Mark). is_same from key x.from x.key) xs)
+    both (unmarked from key xs) (Each-without (IsOwnNumber from key number) (λ (x : Mark). is_same from key x.from x.key) xs agree) (without_none (λ (x : Mark). is_same from key x.from x.key) xs)
   where
-    both : (ys : List Mark) → Each (NumbersAgree from key number) ys → Each (λ (x : Mark). is_same from key x.from x.key ≡ false) ys → Each (λ (x : Mark). x.number ≢ number) ys
+    both : (ys : List Mark) → Each (IsOwnNumber from key number) ys → Each (λ (x : Mark). is_same from key x.from x.key ≡ false) ys → Each (λ (x : Mark). x.number ≢ number) ys
     both [] a b = tt
-    both (y ∷ ys) a b = ((λ same. off_both (a.0.0 same) b.0), both ys a.1 b.1)
+    both (y ∷ ys) a b = ((λ same. off_both (a.0 same) b.0), both ys a.1 b.1)
       where
         off_both : {c : Bool} → c ≡ true → c ≡ false → ⊥
         off_both {c = c} t e = absurd (cc)
@@ -28,7 +32,7 @@ others_numbered from key number xs agree =
 -- what is asked of the sender, key and number of a mark or a receipt
 pub record Numbered (d : Durable) (drawn : ℕ) (from : Address) (key : Key) (number : ℕ) : Type 0 where
   pub new : is_known from key d ≡ false
-  pub marks : Each (NumbersAgree from key number) d.marks
+  pub marks : Each (IsOwnNumber from key number) d.marks
   pub receipts : Each (λ (r : Receipt). r.number ≢ number) d.inbox
   pub some : 1 ≤ number
   pub was_drawn : number ≤ drawn

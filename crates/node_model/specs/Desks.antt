@@ -1,5 +1,5 @@
 -- What a desk's answers say, and what every desk tells of its session.
-use Rattle.std.specs.Prelude.{◌≡◌, ℕ, ◌-◌, ◌≤◌, Bool, true, false, List, Option, Some, None, Result, Ok, Err, length, take, option_map}
+use Rattle.std.specs.Prelude.{◌≡◌, ℕ, ◌-◌, ◌<◌, ◌≤◌, Bool, true, false, List, Option, Some, None, Result, Ok, Err, length, take, option_map}
 use Rattle.ftn_addr.specs.Key.{Key, key_of}
 use Rattle.node_model.specs.declared.desk.DeskFault.{DeskFault}
 use Rattle.node_model.specs.declared.desk.DeskFault.TheVariants as D
@@ -124,6 +124,12 @@ pub record Fits (part : DeskPart) (n : ℕ) : Type 0 where
   pub is : part.held ≡ Some held
   pub taking : held.taking ≡ true
   pub fits : n ≤ held.left
+
+-- Of a held file with so many bytes left: more is to come only where fewer came, and it is whole only where all of them came.
+abbrev pub DataExact : Option Part → ℕ → Answer → Type 0
+DataExact (Some p) n More = n < p.left
+DataExact (Some p) n Whole_now = n ≡ p.left
+DataExact held n answer = Unit {0}
 
 -- the claimed entry is queued with its key
 pub record IsClaimed (c : Claim) (queue : List Entry) : Type 0 where

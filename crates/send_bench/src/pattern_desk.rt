@@ -96,6 +96,8 @@ impl Desk for PatternDesk {
 
     ghost ready = { λ d. Unit {0} };
 
+    ghost rule = { λ _ _. Unit {0} };
+
     fn knock(&mut self, _role: Role) -> Result<Knock, DeskFault> {
         Ok(Knock::Come)
     }

@@ -5,6 +5,7 @@ use crate::{DataIn, Desk, DeskFault, FileIn, HubConf, Knock};
 use ftn_addr::Bytes;
 use list_store::LogRecord;
 use node_model::Role;
+use std::alloc::Global;
 use std::test::Fail;
 
 #[test]
@@ -170,5 +171,43 @@ fn second_file_ends_the_first(rt: HostRuntime) -> Result<(), Fail> {
     let store = desk.hub.into_store();
     assert_eq!(rt; store.receipts().len(), 1);
     assert_eq!(rt; store.reserved(), 0);
+    Ok(())
+}
+
+// How many places an open file of that size has.
+fn places_of(alloc: Global, size: u64) -> Result<u32, Fail> {
+    let file = key(alloc, size)?;
+    let mut desk = new_desk(alloc, conf(alloc, 1, u64::MAX), 0)?;
+    begin(alloc, &mut desk, sender(alloc)?)?;
+    let answer = offer(alloc, &mut desk, &file, 0)?;
+    let store = desk.hub.into_store();
+    if answer == FileIn::Go {
+        Ok(store.reserved())
+    } else {
+        Ok(0)
+    }
+}
+
+// One for the receipt, and one for each whole stride. A stride is 16 MiB, or a 128th of the file, rounded up, where that is
+// more.
+#[test]
+fn a_file_below_a_stride_has_one_place(rt: HostRuntime) -> Result<(), Fail> {
+    assert_eq!(rt; places_of(rt.alloc(), 1)?, 1);
+    assert_eq!(rt; places_of(rt.alloc(), 16_777_215)?, 1);
+    Ok(())
+}
+
+#[test]
+fn a_file_of_whole_strides_has_a_place_for_each(rt: HostRuntime) -> Result<(), Fail> {
+    assert_eq!(rt; places_of(rt.alloc(), 16_777_216)?, 2);
+    assert_eq!(rt; places_of(rt.alloc(), 33_554_431)?, 2);
+    assert_eq!(rt; places_of(rt.alloc(), 33_554_432)?, 3);
+    Ok(())
+}
+
+// A 128th of it is 16,777,215.99, so its stride is 16 MiB, and 127 of these are whole.
+#[test]
+fn the_largest_file_has_128_places(rt: HostRuntime) -> Result<(), Fail> {
+    assert_eq!(rt; places_of(rt.alloc(), 2_147_483_647)?, 128);
     Ok(())
 }

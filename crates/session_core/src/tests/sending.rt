@@ -112,3 +112,19 @@ fn failing_settlement_is_told(rt: HostRuntime) -> Result<(), Fail> {
     assert_eq!(&rt; rig.desk.settled, 0);
     Ok(())
 }
+
+// A read that fails breaks nothing, and the file stays queued.
+#[test]
+fn failing_read_is_told(rt: HostRuntime) -> Result<(), Fail> {
+    let alloc = rt.alloc();
+    let mut rig = answered(&rt, alloc)?;
+    rig.queue(alloc, b"b.txt", 3)?;
+    gives(&rt, alloc, &mut rig, Gave::Sent);
+    wrote(&rt, &mut rig, OFFERED);
+    rig.desk.next = Next::ReadFails;
+    gives(&rt, alloc, &mut rig, Gave::Ended(End::DiskFault(1)));
+    wrote(&rt, &mut rig, b"\x80\x0b\x07disk fault");
+    assert_eq!(&rt; rig.desk.settled, 0);
+    assert_eq!(&rt; rig.desk.broken, None);
+    Ok(())
+}

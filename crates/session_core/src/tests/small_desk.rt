@@ -18,6 +18,7 @@ use std::alloc::Global;
 pub enum Next {
     Works,
     DiskFails,
+    ReadFails,
     IsFull,
     NoMemory,
 }
@@ -42,6 +43,8 @@ pub struct SmallDesk {
     pub faults: u64,
     pub fulls: u64,
     pub broken: Option<u64>,
+    /// How many reads were refused.
+    pub reads: u64,
 }
 
 fn is_named(key: &FileKey) -> bool
@@ -72,6 +75,7 @@ impl SmallDesk {
             faults: 0,
             fulls: 0,
             broken: None,
+            reads: 0,
         }
     }
 
@@ -108,11 +112,13 @@ impl Desk for SmallDesk {
 
     ghost alone = { true };
 
-    ghost stand = { λ d. counted d.faults d.fulls d.broken 0 };
+    ghost stand = { λ d. counted d.faults d.fulls d.broken d.reads };
 
     ghost part = { λ d. record { open_now = d.in_session; claim = claimed d.claim; held = held_in d.held } };
 
     ghost ready = { λ d. Unit {0} };
+
+    ghost rule = { λ _ _. Unit {0} };
 
     fn knock(&mut self, _role: Role) -> Result<Knock, DeskFault> {
         match self.broken {
@@ -133,7 +139,7 @@ impl Desk for SmallDesk {
             return Err(DeskFault::Disk(count));
         }
         match self.next {
-            Next::Works => {}
+            Next::Works | Next::ReadFails => {}
             Next::DiskFails => return Err(DeskFault::Disk(self.break_disk())),
             Next::IsFull => {
                 self.fulls = self.fulls.saturating_add(1);
@@ -152,7 +158,7 @@ impl Desk for SmallDesk {
             return Err(DeskFault::Disk(count));
         }
         match self.next {
-            Next::Works => {}
+            Next::Works | Next::ReadFails => {}
             Next::DiskFails => return Err(DeskFault::Disk(self.break_disk())),
             Next::IsFull => {
                 self.fulls = self.fulls.saturating_add(1);
@@ -180,6 +186,14 @@ impl Desk for SmallDesk {
     fn read(&mut self, at: u64, out: &mut [u8]) -> Result<usize, DeskFault> {
         if let Some(count) = self.broken {
             return Err(DeskFault::Disk(count));
+        }
+        match self.next {
+            Next::ReadFails => {
+                self.faults = self.faults.saturating_add(1);
+                self.reads = self.reads.saturating_add(1);
+                return Err(DeskFault::Read(self.faults));
+            }
+            _ => {}
         }
         for byte in out.iter_mut() {
             *byte = b'x';
@@ -213,7 +227,7 @@ impl Desk for SmallDesk {
             return Err(DeskFault::Disk(count));
         }
         match self.next {
-            Next::Works => {}
+            Next::Works | Next::ReadFails => {}
             Next::DiskFails => return Err(DeskFault::Disk(self.break_disk())),
             Next::IsFull => {
                 self.fulls = self.fulls.saturating_add(1);

@@ -98,6 +98,8 @@ impl Desk for SmallDesk {
 
     ghost ready = { λ d. Unit {0} };
 
+    ghost rule = { λ _ _. Unit {0} };
+
     fn knock(&mut self, _role: Role) -> Result<Knock, DeskFault> {
         match self.broken {
             Some(count) => Err(DeskFault::Disk(count)),

@@ -5,7 +5,7 @@ use Rattle.node_model.specs.Desks.{fault_of}
 use Rattle.hub_core.specs.HubCalls.{Does}
 use Rattle.hub_core.proofs.DataSteps.{grown_sitting}
 use Rattle.hub_core.proofs.Ends.{unheld_sitting}
-use Rattle.hub_core.proofs.DataNeeds.{data_holds, fits_taking}
+use Rattle.hub_core.proofs.DataNeeds.{data_holds, fits_taking, more_exact, whole_exact}
 use Rattle.hub_core.proofs.FileNeeds.{turn_number}
 use Rattle.hub_core.proofs.LastDoes.{last_does, last_broken}
 use Rattle.hub_core.proofs.MoreDoes.{more_does, more_broken}
@@ -42,8 +42,8 @@ put_last-requires-clause-session g c =
 less_none : (n : ℕ) → n ≡ n - 0
 less_none n = omega arith
 
-pub returns-then-reached : goal.returns-then-reached
-returns-then-reached g c =
+pub returns-then-reached-clause-does : goal.returns-then-reached-clause-does
+returns-then-reached-clause-does g c =
     let v = g.S.Store.stand c.args.store.now in
     let w = g.S.Store.stand c.put_more.new.store in
     let k = hub_state c.args.seats.now in
@@ -54,8 +54,8 @@ returns-then-reached g c =
     let short : t.have + n < t.key.size = omega (arith, c.if-came-left.true) in
     more_does v w k c.args.seat x (grown_sitting true n t x) t c.args.bytes.now c.requires.turn (g.met.S.Store.tied c.args.store.now) holds (fits_taking x t n holds c.requires.fits).taking short c.in-Ok.ensures.ok (ap (λ (b : Bool). grown_sitting b n t x) (sym c.if-reached.true ∙ c.in-Ok.ensures.reached)) c.put_more.ensures.leaves c.put_more.ensures.settled
 
-pub returns-else-reached : goal.returns-else-reached
-returns-else-reached g c =
+pub returns-else-reached-clause-does : goal.returns-else-reached-clause-does
+returns-else-reached-clause-does g c =
     let v = g.S.Store.stand c.args.store.now in
     let w = g.S.Store.stand c.put_more.new.store in
     let k = hub_state c.args.seats.now in
@@ -68,8 +68,8 @@ returns-else-reached g c =
     let same : y ≡ grown_sitting false n t x = ap (λ (m : ℕ). record x { hold = Some (record t { have = t.have + n; places = m }) }) (less_none t.places) in
     more_does v w k c.args.seat x y t c.args.bytes.now c.requires.turn (g.met.S.Store.tied c.args.store.now) holds (fits_taking x t n holds c.requires.fits).taking short c.in-Ok.ensures.ok (same ∙ ap (λ (b : Bool). grown_sitting b n t x) (sym c.if-reached.false ∙ c.in-Ok.ensures.reached)) c.put_more.ensures.leaves c.put_more.ensures.settled
 
-pub returns-in-Err : goal.returns-in-Err
-returns-in-Err g c =
+pub returns-in-Err-clause-does : goal.returns-in-Err-clause-does
+returns-in-Err-clause-does g c =
     let v = g.S.Store.stand c.args.store.now in
     let w = g.S.Store.stand c.put_more.new.store in
     let k = hub_state c.args.seats.now in
@@ -83,8 +83,8 @@ returns-in-Err g c =
     (subst (λ (f : Fault). Does v h c.args.seat (Data_call c.args.bytes.now) (Refused f) w h) (sym c.refusal.ensures)
     (more_broken v w k c.args.seat x t c.args.bytes.now c.in-Err.fault c.requires.turn (g.met.S.Store.tied c.args.store.now) holds (fits_taking x t (length c.args.bytes.now) holds c.requires.fits).taking short c.in-Err.ensures.err c.put_more.ensures.leaves))
 
-pub returns-in-Ok-put_last : goal.returns-in-Ok-put_last
-returns-in-Ok-put_last g c =
+pub returns-in-Ok-put_last-clause-does : goal.returns-in-Ok-put_last-clause-does
+returns-in-Ok-put_last-clause-does g c =
     let v = g.S.Store.stand c.args.store.now in
     let w = g.S.Store.stand c.put_last.new.store in
     let k = hub_state c.args.seats.now in
@@ -97,8 +97,8 @@ returns-in-Ok-put_last g c =
     let all : t.have + length c.args.bytes.now ≡ t.key.size = omega (arith, within, fits, c.if-came-left.false) in
     last_does v w k c.args.seat x (unheld_sitting x) t c.args.bytes.now c.requires.turn (g.met.S.Store.tied c.args.store.now) holds f.taking all c.in-Ok-put_last.ensures.ok refl c.put_last.ensures.leaves c.put_last.ensures.settled
 
-pub returns-in-Err-put_last : goal.returns-in-Err-put_last
-returns-in-Err-put_last g c =
+pub returns-in-Err-put_last-clause-does : goal.returns-in-Err-put_last-clause-does
+returns-in-Err-put_last-clause-does g c =
     let v = g.S.Store.stand c.args.store.now in
     let w = g.S.Store.stand c.put_last.new.store in
     let k = hub_state c.args.seats.now in
@@ -114,3 +114,19 @@ returns-in-Err-put_last g c =
     subst (λ (y : Sitting). Does v h c.args.seat (Data_call c.args.bytes.now) (Refused (fault_of c.refusal-in-Err-put_last.result)) w (with_sitting c.args.seat (Some y) k)) same
     (subst (λ (z : Fault). Does v h c.args.seat (Data_call c.args.bytes.now) (Refused z) w h) (sym c.refusal-in-Err-put_last.ensures)
     (last_broken v w k c.args.seat x t c.args.bytes.now c.in-Err-put_last.fault c.requires.turn (g.met.S.Store.tied c.args.store.now) holds f.taking all c.in-Err-put_last.ensures.err c.put_last.ensures.leaves))
+
+pub returns-then-reached-clause-exact : goal.returns-then-reached-clause-exact
+returns-then-reached-clause-exact g c =
+    more_exact (sitting_of c.args.session.now) (taking_of c.in-Some.taken) (length c.args.bytes.now) (ap (option_map taking_of) c.in-Some.is) (omega (arith, c.if-came-left.true))
+
+pub returns-else-reached-clause-exact : goal.returns-else-reached-clause-exact
+returns-else-reached-clause-exact g c =
+    more_exact (sitting_of c.args.session.now) (taking_of c.in-Some.taken) (length c.args.bytes.now) (ap (option_map taking_of) c.in-Some.is) (omega (arith, c.if-came-left.true))
+
+pub returns-in-Ok-put_last-clause-exact : goal.returns-in-Ok-put_last-clause-exact
+returns-in-Ok-put_last-clause-exact g c =
+    let x = sitting_of c.args.session.now in
+    let t = taking_of c.in-Some.taken in
+    let holds = ap (option_map taking_of) c.in-Some.is in
+    let fits = (fits_taking x t (length c.args.bytes.now) holds c.requires.fits).fits in
+    whole_exact x t (length c.args.bytes.now) holds (omega (arith, fits, c.if-came-left.false))

@@ -1,6 +1,6 @@
 use Rattle.std.proofs.Common.{◌<◌, Option, Some, None, length, sym, ◌∙◌, ap, subst}
 use Rattle.node_model.specs.Calls.{Data_call}
-use Rattle.node_model.specs.Desks.{Fits, data_answer}
+use Rattle.node_model.specs.Desks.{DataExact, Fits, data_answer}
 use Rattle.hub_core.specs.Hubs.{Sitting, HubState, hub_state, sitting_of, sitting_part, with_sitting}
 use Rattle.hub_core.specs.HubCalls.{HasTurn, Does}
 use Rattle.hub_core.proofs.Sittings.{sit_back, given_still}
@@ -21,8 +21,8 @@ pub put_session-requires : goal.put_session-requires
 put_session-requires g c =
     subst (λ (k : HubState). c.args.seat < length k.chairs) (sym c.take_session.ensures.after) (given_still (hub_state c.args.self.now.seats) c.args.seat None c.requires.turn.ready.given)
 
-pub returns : goal.returns
-returns g c =
+pub returns-clause-does : goal.returns-clause-does
+returns-clause-does g c =
     let v = g.S.Store.stand c.args.self.now.store in
     let w = g.S.Store.stand c.take_data-result.new.store in
     let h = hub_state c.args.self.now.seats in
@@ -32,4 +32,8 @@ returns g c =
     let call = Data_call c.args.bytes.now in
     let back = ap (with_sitting c.args.seat (Some x)) c.take_session.ensures.after ∙ sit_back h c.args.seat (Some x) c.requires.turn.ready.given c.in-Some.ensures.session in
     subst (λ (k : HubState). Does v h c.args.seat call (data_answer c.take_data-result.result) w k) (sym c.put_session.ensures)
-    (subst (λ (k : HubState). Does v k c.args.seat call (data_answer c.take_data-result.result) w (with_sitting c.args.seat (Some y) k0)) back c.take_data-result.ensures)
+    (subst (λ (k : HubState). Does v k c.args.seat call (data_answer c.take_data-result.result) w (with_sitting c.args.seat (Some y) k0)) back c.take_data-result.ensures.does)
+
+pub returns-clause-exact : goal.returns-clause-exact
+returns-clause-exact g c =
+    subst (λ (o : Option Sitting). DataExact (sitting_part o).held (length c.args.bytes.now) (data_answer c.take_data-result.result)) c.in-Some.ensures.session c.take_data-result.ensures.exact

@@ -49,4 +49,4 @@ returns-in-Some-broken g c =
     let claimed : x.claim ≡ Some claim = sym (part_claims h c.args.seat x sits) ∙ c.requires.claimed.is in
     let skipped : y ≡ skipped_sitting claim.number x = c.skip.ensures ∙ ap (λ (o : Option Claim). skipped_sitting (claim_number o) x) claimed in
     subst (λ (n : ℕ). Does v h c.args.seat (Skip_call n) Settled v k) (sym (ap number_in c.requires.claimed.is))
-    (skip_broken v h k c.args.seat x y claim _ (sym c.in-Some-broken.ensures) c.requires.ready.given sits claimed (c.put_session.ensures ∙ ap (with_sitting c.args.seat (Some y)) c.take_session.ensures.after) skipped)
+    (skip_broken v h k c.args.seat x y claim _ (sym c.in-Some-broken.ensures) c.requires.turn c.requires.ready.given sits claimed (c.put_session.ensures ∙ ap (with_sitting c.args.seat (Some y)) c.take_session.ensures.after) skipped)

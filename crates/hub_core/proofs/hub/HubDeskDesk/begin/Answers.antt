@@ -1,8 +1,10 @@
-use Rattle.std.proofs.Common.{refl, sym, map}
+use Rattle.std.proofs.Common.{refl, sym, map, ap}
 use Rattle.node_model.specs.Calls.{Open_call, Refused, Disk}
 use Rattle.ftn_addr.specs.Address.{address}
+use Rattle.node_model.specs.Stores.{StoreState}
 use Rattle.node_model.specs.Desks.{begin_answer}
 use Rattle.hub_core.specs.Hubs.{hub_state}
+use Rattle.hub_core.proofs.Owning.{own_same}
 use Rattle.hub_core.proofs.Turning.{kept_turn, turn_ready, refused_does}
 use Rattle.hub_core.proofs.hub.HubDeskDesk.begin.Goals as goal
 
@@ -13,7 +15,7 @@ returns-in-Some-clause-made g c =
     let h = hub_state c.args.self.now.hub.seats in
     let call = Open_call c.args.role (map address c.args.peers.now) c.args.secure c.args.now in
     kept_turn u v v h h c.args.self.now.seat call (Refused (Disk c.in-Some.count)) c.take_turn.ensures.made c.take_turn.ensures.leaves
-    (refused_does v h h c.args.self.now.seat call c.in-Some.count (sym c.in-Some.ensures) (λ skips. skips) (λ k. refl) refl c.requires.ready.given)
+    (refused_does v h h c.args.self.now.seat call c.in-Some.count (sym c.in-Some.ensures) (λ skips. skips) (λ k. refl) refl c.requires.ready.given (own_same c.args.self.now.seat h v (ap (λ (s : StoreState). s.seat) c.take_turn.ensures.made)))
 
 pub begin_now-requires-clause-turn : goal.begin_now-requires-clause-turn
 begin_now-requires-clause-turn g c =
@@ -22,3 +24,7 @@ begin_now-requires-clause-turn g c =
 pub returns-clause-made : goal.returns-clause-made
 returns-clause-made g c =
     kept_turn (g.S.Store.stand c.args.self.now.hub.store) (g.S.Store.stand c.take_turn.new.store) (g.S.Store.stand c.begin_now.new.self.store) (hub_state c.args.self.now.hub.seats) (hub_state c.begin_now.new.self.seats) c.args.self.now.seat (Open_call c.args.role (map address c.args.peers.now) c.args.secure c.args.now) (begin_answer c.begin_now.result) c.take_turn.ensures.made c.take_turn.ensures.leaves c.begin_now.ensures
+
+pub returns-in-Some-clause-rule : goal.returns-in-Some-clause-rule
+returns-in-Some-clause-rule g c =
+    (refl, own_same c.args.self.now.seat (hub_state c.args.self.now.hub.seats) (g.S.Store.stand c.take_turn.new.store) (ap (λ (s : StoreState). s.seat) c.take_turn.ensures.made))

@@ -1,6 +1,7 @@
-use Rattle.std.proofs.Common.{sym}
+use Rattle.std.proofs.Common.{refl, sym, ap}
 use Rattle.ftn_addr.specs.Key.{key_of}
 use Rattle.node_model.specs.Calls.{File_call, Refused, Disk}
+use Rattle.node_model.specs.Stores.{StoreState}
 use Rattle.node_model.specs.Desks.{file_answer}
 use Rattle.hub_core.specs.Hubs.{hub_state}
 use Rattle.hub_core.proofs.Dropping.{dropped_does}
@@ -15,21 +16,28 @@ returns-in-Some-clause-made g c =
     let k = hub_state c.drop_hold.new.self in
     let key = key_of c.args.key.now in
     kept_turn u v v h k c.args.self.now.seat (File_call key c.args.offset) (Refused (Disk c.in-Some.count)) c.take_turn.ensures.made c.take_turn.ensures.leaves
-    (dropped_does v h k c.args.self.now.seat key c.args.offset c.in-Some.count (sym c.in-Some.ensures) c.requires.ready.given c.requires.in_session c.drop_hold.ensures)
+    (dropped_does v h k c.args.self.now.seat key c.args.offset c.in-Some.count (sym c.in-Some.ensures) (ap (λ (s : StoreState). s.seat) c.take_turn.ensures.made) c.requires.ready.given c.requires.in_session c.drop_hold.ensures)
 
 pub returns-in-Some-clause-part : goal.returns-in-Some-clause-part
 returns-in-Some-clause-part g c =
     let v = g.S.Store.stand c.take_turn.new.store in
     let h = hub_state c.args.self.now.hub.seats in
     let k = hub_state c.drop_hold.new.self in
-    (dropped_does v h k c.args.self.now.seat (key_of c.args.key.now) c.args.offset c.in-Some.count (sym c.in-Some.ensures) c.requires.ready.given c.requires.in_session c.drop_hold.ensures).part
+    (dropped_does v h k c.args.self.now.seat (key_of c.args.key.now) c.args.offset c.in-Some.count (sym c.in-Some.ensures) (ap (λ (s : StoreState). s.seat) c.take_turn.ensures.made) c.requires.ready.given c.requires.in_session c.drop_hold.ensures).part
 
 pub returns-in-Some-clause-ready : goal.returns-in-Some-clause-ready
 returns-in-Some-clause-ready g c =
     let v = g.S.Store.stand c.take_turn.new.store in
     let h = hub_state c.args.self.now.hub.seats in
     let k = hub_state c.drop_hold.new.self in
-    (dropped_does v h k c.args.self.now.seat (key_of c.args.key.now) c.args.offset c.in-Some.count (sym c.in-Some.ensures) c.requires.ready.given c.requires.in_session c.drop_hold.ensures).ready
+    (dropped_does v h k c.args.self.now.seat (key_of c.args.key.now) c.args.offset c.in-Some.count (sym c.in-Some.ensures) (ap (λ (s : StoreState). s.seat) c.take_turn.ensures.made) c.requires.ready.given c.requires.in_session c.drop_hold.ensures).ready
+
+pub returns-in-Some-clause-rule : goal.returns-in-Some-clause-rule
+returns-in-Some-clause-rule g c =
+    let v = g.S.Store.stand c.take_turn.new.store in
+    let h = hub_state c.args.self.now.hub.seats in
+    let k = hub_state c.drop_hold.new.self in
+    (refl, (dropped_does v h k c.args.self.now.seat (key_of c.args.key.now) c.args.offset c.in-Some.count (sym c.in-Some.ensures) (ap (λ (s : StoreState). s.seat) c.take_turn.ensures.made) c.requires.ready.given c.requires.in_session c.drop_hold.ensures).own)
 
 pub file_now-requires-clause-turn : goal.file_now-requires-clause-turn
 file_now-requires-clause-turn g c =
