@@ -1,4 +1,5 @@
 pub mod Filing
+pub mod Members
 pub mod Order
 mod Places
 pub mod Turning

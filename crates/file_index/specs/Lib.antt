@@ -1,3 +1,4 @@
 pub mod Filed
 pub mod Numbered
+pub mod Sets
 pub mod Turns

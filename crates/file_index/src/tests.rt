@@ -1,4 +1,4 @@
-use crate::{FileIndex, NumberIndex, Turn, TurnIndex};
+use crate::{FileIndex, NumberIndex, NumberSet, Turn, TurnIndex};
 use ftn_addr::{Addr, Bytes, FileKey};
 use std::alloc::Global;
 use std::test::Fail;
@@ -108,5 +108,22 @@ fn a_turn_that_was_taken_out_comes_no_more(rt: HostRuntime) -> Result<(), Fail> 
     index.remove(&to, FIRST);
     index.remove(&to, FIRST);
     assert_eq!(rt; index.next(&to, None), Some(Some(THIRD)));
+    Ok(())
+}
+
+#[test]
+fn numbers_come_in_order_until_they_are_taken_out(rt: HostRuntime) -> Result<(), Fail> {
+    let mut set = NumberSet::new(rt.alloc());
+    assert_eq!(rt; set.next(None), Some(None));
+    set.note(9);
+    set.note(3);
+    set.note(5);
+    set.note(3);
+    assert_eq!(rt; set.next(None), Some(Some(3)));
+    assert_eq!(rt; set.next(Some(3)), Some(Some(5)));
+    assert_eq!(rt; set.next(Some(9)), Some(None));
+    set.remove(5);
+    set.remove(4);
+    assert_eq!(rt; set.next(Some(3)), Some(Some(9)));
     Ok(())
 }

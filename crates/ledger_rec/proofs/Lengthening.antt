@@ -20,11 +20,12 @@ use Rattle.ledger_rec.specs.Items.{PartMark, part_mark}
 use Rattle.ledger_rec.specs.Lengthen.{Lengthens}
 use Rattle.ledger_rec.specs.Order.{IsOrderly}
 use Rattle.ledger_rec.specs.Record.{MarkText, Mark}
-use Rattle.ledger_rec.specs.Waiting.{is_waiting}
+use Rattle.ledger_rec.specs.Waiting.{is_needed}
 use Rattle.ledger_rec.specs.declared.lengthen.Lengthened.{Lengthened}
 use Rattle.ledger_rec.specs.declared.lengthen.Lengthened.TheVariants.{Longer, NoMark, BadFold}
 use Rattle.ledger_rec.specs.declared.index.Index.{Index}
 use Rattle.ledger_rec.specs.declared.items.MarkItem.{MarkItem}
+use Rattle.ledger_rec.specs.declared.waiting.Need.{Need}
 
 -- the mark's part, sender and key are the record's
 abbrev pub stands_for : MarkText → MarkItem → Bool
@@ -105,7 +106,7 @@ order_longer NoMark r old new (stood, same) orderly = subst IsOrderly (sym same)
 order_longer BadFold r old new (stood, breaks, same) orderly = subst IsOrderly (sym same) orderly
 
 -- a mark leaves the files that wait
-pub waits_longer : (index : TurnIndex) (result : Lengthened) (r : MarkText) (old new : State) → Lengthens result r old new → IsOrderly old → Turns index (is_waiting old.queue) → Turns index (is_waiting new.queue)
-waits_longer index Longer r old new (stood, goes) orderly turns = indexed_step index old (Mark r) new goes orderly turns
-waits_longer index NoMark r old new (stood, same) orderly turns = turns_same index old.queue new.queue (ap (λ (s : State). s.queue) (sym same)) turns
-waits_longer index BadFold r old new (stood, breaks, same) orderly turns = turns_same index old.queue new.queue (ap (λ (s : State). s.queue) (sym same)) turns
+pub waits_longer : (need : Need) (index : TurnIndex) (result : Lengthened) (r : MarkText) (old new : State) → Lengthens result r old new → IsOrderly old → Turns index (is_needed need old.queue) → Turns index (is_needed need new.queue)
+waits_longer need index Longer r old new (stood, goes) orderly turns = indexed_step need index old (Mark r) new goes orderly turns
+waits_longer need index NoMark r old new (stood, same) orderly turns = turns_same need index old.queue new.queue (ap (λ (s : State). s.queue) (sym same)) turns
+waits_longer need index BadFold r old new (stood, breaks, same) orderly turns = turns_same need index old.queue new.queue (ap (λ (s : State). s.queue) (sym same)) turns

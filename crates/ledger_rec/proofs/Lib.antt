@@ -1,3 +1,4 @@
+mod Acts
 mod Agreeing
 mod Canonical
 mod Changing

@@ -1,6 +1,6 @@
 -- The files that wait, once a record is folded in.
 use Rattle.std.proofs.Common.{◌≡◌, ◌≢◌, ℕ, zero, suc, ◌+◌, ◌<◌, List, [], ◌∷◌, ◌++◌, map, length, get_or, Some, None, Bool, true, false, not, ◌&&◌, ◌||◌, refl, sym, ◌∙◌, ap, subst, inl, inr, arith}
-use Rattle.std.specs.Prelude.{option_map, position, slice_get, ◌==◌, ◌-◌, if◌then◌else◌}
+use Rattle.std.specs.Prelude.{option_map, position, slice_get, ◌==◌, ◌-◌, if◌then◌else◌, nat_lt}
 use Rattle.std.specs.List.{AllByRecursion, list_any, position_or_len}
 use Rattle.std.proofs.lemmas.Bool.{cases_Bool, and_parts, eqb-true, true≢false}
 use Rattle.std.proofs.lemmas.List.{length-map, length-append}
@@ -14,7 +14,9 @@ use Rattle.ledger_rec.specs.Items.{Entry, entry}
 use Rattle.ledger_rec.specs.declared.items.QueueItem.{QueueItem}
 use Rattle.ledger_rec.specs.Order.{AreDifferent, IsOrderly}
 use Rattle.ledger_rec.specs.Record.{RecordText, Queue, Done, Received, Refused, Mark, Taken, Acted, Answered}
-use Rattle.ledger_rec.specs.Waiting.{turn_of, waits_at, is_waiting, wait_of, WasIndexed}
+use Rattle.ledger_rec.specs.Waiting.{has_need, is_needed, met, needs, needs_at, turn_for, wait_of, WasIndexed}
+use Rattle.ledger_rec.specs.declared.waiting.Need.{Need}
+use Rattle.ledger_rec.specs.declared.waiting.Need.TheVariants.{Sending, Action}
 use Rattle.ledger_rec.proofs.Agreeing.{any_more, mapped_some}
 use Rattle.ledger_rec.proofs.Changing.{past_end, none_any}
 use Rattle.ledger_rec.proofs.Differing.{number_of}
@@ -22,22 +24,44 @@ use Rattle.ledger_rec.proofs.Mapped.{list_any_map}
 use Rattle.ledger_rec.proofs.OrderFold.{if_may_some, step_is_after}
 
 -- the turn of a file for its address
-abbrev pub is_turn : Address → Turn → Entry → Bool
-is_turn to t e = same_address to e.dest && same_turn t (turn_of e)
+abbrev pub is_turn : Need → Address → Turn → Entry → Bool
+is_turn need to t e = same_address to e.dest && same_turn t (turn_for need e)
+
+turn_number : (need : Need) (e : Entry) → (turn_for need e).number ≡ e.number
+turn_number Sending e = refl
+turn_number Action e = refl
+
+-- What a file is, once it waits no more.
+
+met_number : (need : Need) (e : Entry) → (met need e).number ≡ e.number
+met_number Sending e = refl
+met_number Action e = refl
+
+met_turn : (need : Need) (to : Address) (t : Turn) (e : Entry) → is_turn need to t (met need e) ≡ is_turn need to t e
+met_turn Sending to t e = refl
+met_turn Action to t e = refl
+
+met_closed : (need : Need) (e : Entry) → has_need need (met need e) ≡ false
+met_closed Sending e = refl
+met_closed Action e = none (nat_lt 0 e.action)
+  where
+    none : (b : Bool) → (b && false) ≡ false
+    none true = refl
+    none false = refl
 
 -- One that begins.
 
-pub begun_waits : (old : List Entry) (e : Entry) (to : Address) (t : Turn) → e.live ≡ true → (is_waiting old to t || is_turn to t e) ≡ is_waiting (old ++ e ∷ []) to t
-begun_waits old e to t live = sym (any_more (waits_at to t) old e ∙ rw live refl)
+pub begun_waits : (need : Need) (old : List Entry) (e : Entry) (to : Address) (t : Turn) → has_need need e ≡ true → (is_needed need old to t || is_turn need to t e) ≡ is_needed need (old ++ e ∷ []) to t
+begun_waits need old e to t waits = sym (any_more (needs_at need to t) old e ∙ rw waits refl)
 
 -- One that ends.
 
 -- a file of another number doesn't wait at that turn
-not_its_turn : (to : Address) (t : Turn) (n : ℕ) (e x : Entry) → e.number ≡ n → n ≢ x.number → is_turn to t e ≡ true → waits_at to t x ≡ false
-not_its_turn to t n e x is other turn =
-    let at : t.number ≡ e.number = eqb-true t.number e.number (and_parts (t.rank == e.flavour) (t.number == e.number) (and_parts (same_address to e.dest) (same_turn t (turn_of e)) turn).1).1 in
-    let apart : (t.number == x.number) ≡ false = differ t.number x.number (λ same. other (sym is ∙ sym at ∙ same)) in
-    rw apart (nothing x.live (same_address to x.dest) (t.rank == x.flavour))
+not_its_turn : (need : Need) (to : Address) (t : Turn) (n : ℕ) (e x : Entry) → e.number ≡ n → n ≢ x.number → is_turn need to t e ≡ true → needs_at need to t x ≡ false
+not_its_turn need to t n e x is other turn =
+    let at : t.number ≡ e.number = eqb-true t.number (turn_for need e).number (and_parts (t.rank == (turn_for need e).rank) (t.number == (turn_for need e).number) (and_parts (same_address to e.dest) (same_turn t (turn_for need e)) turn).1).1 ∙ turn_number need e in
+    let apart : (t.number == (turn_for need x).number) ≡ false = differ t.number (turn_for need x).number (λ same. other (sym is ∙ sym at ∙ same ∙ turn_number need x)) in
+    rw apart (nothing (has_need need x) (same_address to x.dest) (t.rank == (turn_for need x).rank))
   where
     differ : (m k : ℕ) → m ≢ k → (m == k) ≡ false
     differ m k apart = elim (cases_Bool (m == k)) as (λ _. (m == k) ≡ false) [
@@ -51,9 +75,9 @@ not_its_turn to t n e x is other turn =
     nothing true false c = refl
     nothing false b c = refl
 
-none_waits : (to : Address) (t : Turn) (n : ℕ) (e : Entry) (xs : List Entry) → e.number ≡ n → AllByRecursion (λ k. n ≢ k) (map number_of xs) → is_turn to t e ≡ true → is_waiting xs to t ≡ false
-none_waits to t n e [] is all turn = refl
-none_waits to t n e (x ∷ xs) is all turn = rw (not_its_turn to t n e x is all.0 turn, none_waits to t n e xs is all.1 turn) refl
+none_waits : (need : Need) (to : Address) (t : Turn) (n : ℕ) (e : Entry) (xs : List Entry) → e.number ≡ n → AllByRecursion (λ k. n ≢ k) (map number_of xs) → is_turn need to t e ≡ true → is_needed need xs to t ≡ false
+none_waits need to t n e [] is all turn = refl
+none_waits need to t n e (x ∷ xs) is all turn = rw (not_its_turn need to t n e x is all.0 turn, none_waits need to t n e xs is all.1 turn) refl
 
 -- where the first is changed, or a later one
 changed_first : {A : Type 0} (p : A → Bool) (f : A → A) (x : A) (xs ys : List A) → p x ≡ true → changed p f (x ∷ xs) ≡ Some ys → f x ∷ xs ≡ ys
@@ -65,55 +89,54 @@ changed_later : {A : Type 0} (p : A → Bool) (f : A → A) (x : A) (xs ys : Lis
 changed_later p f x xs ys there is =
     mapped_some (λ zs. x ∷ zs) (changed p f xs) ys (sym (ap (λ (b : Bool). if b then Some (f x ∷ xs) else option_map (λ zs. x ∷ zs) (changed p f xs)) there) ∙ is)
 
-live_number : (n : ℕ) (x : Entry) → is_live n x ≡ true → x.number ≡ n
-live_number n x is = eqb-true x.number n (and_parts (x.number == n) x.live is).0
+its_number : (need : Need) (n : ℕ) (x : Entry) → needs need n x ≡ true → x.number ≡ n
+its_number need n x is = eqb-true x.number n (and_parts (x.number == n) (has_need need x) is).0
 
-live_now : (n : ℕ) (x : Entry) → is_live n x ≡ true → x.live ≡ true
-live_now n x is = (and_parts (x.number == n) x.live is).1
-
--- the live file with that number is among these
-live_there : (n : ℕ) (xs ys : List Entry) → changed (is_live n) settled xs ≡ Some ys → AllByRecursion (λ k. n ≢ k) (map number_of xs) → ⊥
-live_there n [] ys is all = cc is
-live_there n (x ∷ xs) ys is all = elim (cases_Bool (is_live n x)) as (λ _. ⊥) [
-  | inl here ↦ all.0 (sym (live_number n x here))
-  | inr there ↦ (let more = changed_later (is_live n) settled x xs ys there is in live_there n xs more.0 more.1 all.1)
+-- the file with that number that waits is among these
+needed_there : (need : Need) (n : ℕ) (xs ys : List Entry) → changed (needs need n) (met need) xs ≡ Some ys → AllByRecursion (λ k. n ≢ k) (map number_of xs) → ⊥
+needed_there need n [] ys is all = cc is
+needed_there need n (x ∷ xs) ys is all = elim (cases_Bool (needs need n x)) as (λ _. ⊥) [
+  | inl here ↦ all.0 (sym (its_number need n x here))
+  | inr there ↦ (let more = changed_later (needs need n) (met need) x xs ys there is in needed_there need n xs more.0 more.1 all.1)
 ]
 
--- the file with that number, once it is settled
-pub record IsEnded (n : ℕ) (xs ys : List Entry) (e : Entry) : Type 0 where
+-- the file with that number, once it waits no more
+pub record IsEnded (need : Need) (n : ℕ) (xs ys : List Entry) (e : Entry) : Type 0 where
   pub number : e.number ≡ n
-  pub waits : (to : Address) (t : Turn) → is_waiting ys to t ≡ (is_waiting xs to t && not (is_turn to t e))
+  pub waits : (to : Address) (t : Turn) → is_needed need ys to t ≡ (is_needed need xs to t && not (is_turn need to t e))
 
-first_ended : (n : ℕ) (x : Entry) (xs : List Entry) → is_live n x ≡ true → AllByRecursion (λ k. x.number ≢ k) (map number_of xs) → IsEnded n (x ∷ xs) (settled x ∷ xs) (settled x)
-first_ended n x xs here all = record {
-  number = live_number n x here;
-  waits = λ to t. elim (cases_Bool (is_turn to t x)) as (λ _. is_waiting (settled x ∷ xs) to t ≡ (is_waiting (x ∷ xs) to t && not (is_turn to t (settled x)))) [
-    | inl turn ↦ rw (turn, none_waits to t x.number x xs refl all turn) (nothing (x.live && true || false))
-    | inr apart ↦ rw apart (rest x.live (is_waiting xs to t))
-  ];
+first_ended : (need : Need) (n : ℕ) (x : Entry) (xs : List Entry) → needs need n x ≡ true → AllByRecursion (λ k. x.number ≢ k) (map number_of xs) → IsEnded need n (x ∷ xs) (met need x ∷ xs) (met need x)
+first_ended need n x xs here all = record {
+  number = met_number need x ∙ its_number need n x here;
+  waits = λ to t.
+      let first : is_needed need (met need x ∷ xs) to t ≡ is_needed need xs to t = ap (λ (b : Bool). b && is_turn need to t (met need x) || is_needed need xs to t) (met_closed need x) in
+      first ∙ elim (cases_Bool (is_turn need to t x)) as (λ _. is_needed need xs to t ≡ (is_needed need (x ∷ xs) to t && not (is_turn need to t x))) [
+        | inl turn ↦ rw (turn, none_waits need to t x.number x xs refl all turn) (nothing (has_need need x && true || false))
+        | inr apart ↦ rw apart (rest (has_need need x) (is_needed need xs to t))
+      ] ∙ ap (λ (b : Bool). is_needed need (x ∷ xs) to t && not b) (sym (met_turn need to t x));
 }
   where
     nothing : (a : Bool) → false ≡ (a && false)
     nothing true = refl
     nothing false = refl
 
-    rest : (live w : Bool) → w ≡ (((live && false) || w) && true)
+    rest : (has w : Bool) → w ≡ (((has && false) || w) && true)
     rest true true = refl
     rest true false = refl
     rest false true = refl
     rest false false = refl
 
-later_ended : (n : ℕ) (x : Entry) (xs ys : List Entry) (e : Entry) → n ≢ x.number → IsEnded n xs ys e → IsEnded n (x ∷ xs) (x ∷ ys) e
-later_ended n x xs ys e other ended = record {
+later_ended : (need : Need) (n : ℕ) (x : Entry) (xs ys : List Entry) (e : Entry) → n ≢ x.number → IsEnded need n xs ys e → IsEnded need n (x ∷ xs) (x ∷ ys) e
+later_ended need n x xs ys e other ended = record {
   number = ended.number;
-  waits = λ to t. elim (cases_Bool (is_turn to t e)) as (λ _. is_waiting (x ∷ ys) to t ≡ (is_waiting (x ∷ xs) to t && not (is_turn to t e))) [
+  waits = λ to t. elim (cases_Bool (is_turn need to t e)) as (λ _. is_needed need (x ∷ ys) to t ≡ (is_needed need (x ∷ xs) to t && not (is_turn need to t e))) [
     | inl turn ↦
-        let first = not_its_turn to t n e x ended.number other turn in
-        let more : is_waiting ys to t ≡ (is_waiting xs to t && not (is_turn to t e)) = ended.waits to t in
+        let first = not_its_turn need to t n e x ended.number other turn in
+        let more : is_needed need ys to t ≡ (is_needed need xs to t && not (is_turn need to t e)) = ended.waits to t in
         rw (first, more, turn) refl
     | inr apart ↦
-        let more : is_waiting ys to t ≡ (is_waiting xs to t && not (is_turn to t e)) = ended.waits to t in
-        rw (more, apart) (both (waits_at to t x) (is_waiting xs to t))
+        let more : is_needed need ys to t ≡ (is_needed need xs to t && not (is_turn need to t e)) = ended.waits to t in
+        rw (more, apart) (both (needs_at need to t x) (is_needed need xs to t))
   ];
 }
   where
@@ -127,42 +150,42 @@ differs_at n (x ∷ xs) zero d all within = λ same. all.0 (sym same)
 differs_at n (x ∷ xs) (suc j) d all within = differs_at n xs j d all.1 (omega (arith, within))
 
 -- the file that stands with that number
-pub ended_at : (n : ℕ) (xs ys : List Entry) (i : ℕ) (d : Entry) → changed (is_live n) settled xs ≡ Some ys → AreDifferent (map number_of xs) → i < length ys → (get_or ys i d).number ≡ n → IsEnded n xs ys (get_or ys i d)
-ended_at n [] ys i d is different within number = absurd (cc is)
-ended_at n (x ∷ xs) ys i d is different within number = elim (cases_Bool (is_live n x)) as (λ _. IsEnded n (x ∷ xs) ys (get_or ys i d)) [
+pub ended_at : (need : Need) (n : ℕ) (xs ys : List Entry) (i : ℕ) (d : Entry) → changed (needs need n) (met need) xs ≡ Some ys → AreDifferent (map number_of xs) → i < length ys → (get_or ys i d).number ≡ n → IsEnded need n xs ys (get_or ys i d)
+ended_at need n [] ys i d is different within number = absurd (cc is)
+ended_at need n (x ∷ xs) ys i d is different within number = elim (cases_Bool (needs need n x)) as (λ _. IsEnded need n (x ∷ xs) ys (get_or ys i d)) [
   | inl here ↦
-      let same : settled x ∷ xs ≡ ys = changed_first (is_live n) settled x xs ys here is in
-      subst (λ (l : List Entry). IsEnded n (x ∷ xs) l (get_or l i d)) same (first i here (subst (λ (l : List Entry). i < length l) (sym same) within) (subst (λ (l : List Entry). (get_or l i d).number ≡ n) (sym same) number))
+      let same : met need x ∷ xs ≡ ys = changed_first (needs need n) (met need) x xs ys here is in
+      subst (λ (l : List Entry). IsEnded need n (x ∷ xs) l (get_or l i d)) same (first i here (subst (λ (l : List Entry). i < length l) (sym same) within) (subst (λ (l : List Entry). (get_or l i d).number ≡ n) (sym same) number))
   | inr there ↦
-      let more = changed_later (is_live n) settled x xs ys there is in
-      subst (λ (l : List Entry). IsEnded n (x ∷ xs) l (get_or l i d)) more.2
-      (later i more.0 more.1 (λ j within number. ended_at n xs more.0 j d more.1 different.1 within number) (subst (λ (l : List Entry). i < length l) (sym more.2) within) (subst (λ (l : List Entry). (get_or l i d).number ≡ n) (sym more.2) number))
+      let more = changed_later (needs need n) (met need) x xs ys there is in
+      subst (λ (l : List Entry). IsEnded need n (x ∷ xs) l (get_or l i d)) more.2
+      (later i more.0 more.1 (λ j within number. ended_at need n xs more.0 j d more.1 different.1 within number) (subst (λ (l : List Entry). i < length l) (sym more.2) within) (subst (λ (l : List Entry). (get_or l i d).number ≡ n) (sym more.2) number))
 ]
   where
-    first : (i : ℕ) → is_live n x ≡ true → i < length (settled x ∷ xs) → (get_or (settled x ∷ xs) i d).number ≡ n → IsEnded n (x ∷ xs) (settled x ∷ xs) (get_or (settled x ∷ xs) i d)
-    first zero here within number = first_ended n x xs here different.0
+    first : (i : ℕ) → needs need n x ≡ true → i < length (met need x ∷ xs) → (get_or (met need x ∷ xs) i d).number ≡ n → IsEnded need n (x ∷ xs) (met need x ∷ xs) (get_or (met need x ∷ xs) i d)
+    first zero here within number = first_ended need n x xs here different.0
     first (suc j) here within number =
-        let all : AllByRecursion (λ k. n ≢ k) (map number_of xs) = subst (λ (m : ℕ). AllByRecursion (λ k. m ≢ k) (map number_of xs)) (live_number n x here) different.0 in
+        let all : AllByRecursion (λ k. n ≢ k) (map number_of xs) = subst (λ (m : ℕ). AllByRecursion (λ k. m ≢ k) (map number_of xs)) (its_number need n x here) different.0 in
         absurd (differs_at n xs j d all (omega (arith, within)) number)
 
-    apart : (zs : List Entry) → changed (is_live n) settled xs ≡ Some zs → n ≢ x.number
-    apart zs is same = live_there n xs zs is (subst (λ (m : ℕ). AllByRecursion (λ k. m ≢ k) (map number_of xs)) (sym same) different.0)
+    apart : (zs : List Entry) → changed (needs need n) (met need) xs ≡ Some zs → n ≢ x.number
+    apart zs is same = needed_there need n xs zs is (subst (λ (m : ℕ). AllByRecursion (λ k. m ≢ k) (map number_of xs)) (sym same) different.0)
 
-    later : (i : ℕ) (zs : List Entry) → changed (is_live n) settled xs ≡ Some zs → ((j : ℕ) → j < length zs → (get_or zs j d).number ≡ n → IsEnded n xs zs (get_or zs j d)) → i < length (x ∷ zs) → (get_or (x ∷ zs) i d).number ≡ n → IsEnded n (x ∷ xs) (x ∷ zs) (get_or (x ∷ zs) i d)
+    later : (i : ℕ) (zs : List Entry) → changed (needs need n) (met need) xs ≡ Some zs → ((j : ℕ) → j < length zs → (get_or zs j d).number ≡ n → IsEnded need n xs zs (get_or zs j d)) → i < length (x ∷ zs) → (get_or (x ∷ zs) i d).number ≡ n → IsEnded need n (x ∷ xs) (x ∷ zs) (get_or (x ∷ zs) i d)
     later zero zs is rest within number = absurd (apart zs is (sym number))
-    later (suc j) zs is rest within number = later_ended n x xs zs (get_or zs j d) (apart zs is) (rest j (omega (arith, within)) number)
+    later (suc j) zs is rest within number = later_ended need n x xs zs (get_or zs j d) (apart zs is) (rest j (omega (arith, within)) number)
 
 -- there is one
-pub ended_there : (n : ℕ) (xs ys : List Entry) → changed (is_live n) settled xs ≡ Some ys → list_any (λ (e : Entry). e.number == n) ys ≡ true
-ended_there n [] ys is = absurd (cc is)
-ended_there n (x ∷ xs) ys is = elim (cases_Bool (is_live n x)) as (λ _. list_any (λ (e : Entry). e.number == n) ys ≡ true) [
+pub ended_there : (need : Need) (n : ℕ) (xs ys : List Entry) → changed (needs need n) (met need) xs ≡ Some ys → list_any (λ (e : Entry). e.number == n) ys ≡ true
+ended_there need n [] ys is = absurd (cc is)
+ended_there need n (x ∷ xs) ys is = elim (cases_Bool (needs need n x)) as (λ _. list_any (λ (e : Entry). e.number == n) ys ≡ true) [
   | inl here ↦
-      let same : settled x ∷ xs ≡ ys = changed_first (is_live n) settled x xs ys here is in
-      let there : (x.number == n) ≡ true = (and_parts (x.number == n) x.live here).0 in
-      subst (λ (l : List Entry). list_any (λ (e : Entry). e.number == n) l ≡ true) same (rw there refl)
+      let same : met need x ∷ xs ≡ ys = changed_first (needs need n) (met need) x xs ys here is in
+      let there : (x.number == n) ≡ true = (and_parts (x.number == n) (has_need need x) here).0 in
+      subst (λ (l : List Entry). list_any (λ (e : Entry). e.number == n) l ≡ true) same (rw (met_number need x, there) refl)
   | inr there ↦
-      let more = changed_later (is_live n) settled x xs ys there is in
-      subst (λ (l : List Entry). list_any (λ (e : Entry). e.number == n) l ≡ true) more.2 (rw (ended_there n xs more.0 more.1) (either (x.number == n)))
+      let more = changed_later (needs need n) (met need) x xs ys there is in
+      subst (λ (l : List Entry). list_any (λ (e : Entry). e.number == n) l ≡ true) more.2 (rw (ended_there need n xs more.0 more.1) (either (x.number == n)))
 ]
   where
     either : (b : Bool) → (b || true) ≡ true
@@ -171,43 +194,46 @@ ended_there n (x ∷ xs) ys is = elim (cases_Bool (is_live n x)) as (λ _. list_
 
 -- One record more.
 
-turns_alike : (index : TurnIndex) (xs ys : List Entry) → ((to : Address) (t : Turn) → is_waiting xs to t ≡ is_waiting ys to t) → Turns index (is_waiting xs) → Turns index (is_waiting ys)
-turns_alike index xs ys alike turns = λ whole to t. turns whole to t ∙ alike to t
+turns_alike : (need : Need) (index : TurnIndex) (xs ys : List Entry) → ((to : Address) (t : Turn) → is_needed need xs to t ≡ is_needed need ys to t) → Turns index (is_needed need xs) → Turns index (is_needed need ys)
+turns_alike need index xs ys alike turns = λ whole to t. turns whole to t ∙ alike to t
 
-pub turns_same : (index : TurnIndex) (xs ys : List Entry) → xs ≡ ys → Turns index (is_waiting xs) → Turns index (is_waiting ys)
-turns_same index xs ys same turns = subst (λ (l : List Entry). Turns index (is_waiting l)) same turns
+pub turns_same : (need : Need) (index : TurnIndex) (xs ys : List Entry) → xs ≡ ys → Turns index (is_needed need xs) → Turns index (is_needed need ys)
+turns_same need index xs ys same turns = subst (λ (l : List Entry). Turns index (is_needed need l)) same turns
 
-acted_waits : (n : ℕ) (xs ys : List Entry) → changed (waits_for_action n) acted_on xs ≡ Some ys → (to : Address) (t : Turn) → is_waiting xs to t ≡ is_waiting ys to t
-acted_waits n [] ys is to t = absurd (cc is)
-acted_waits n (x ∷ xs) ys is to t = elim (cases_Bool (waits_for_action n x)) as (λ _. is_waiting (x ∷ xs) to t ≡ is_waiting ys to t) [
+-- a change that leaves the need and the turn of each file
+changed_else : (need : Need) (p : Entry → Bool) (f : Entry → Entry) → ((to : Address) (t : Turn) (x : Entry) → needs_at need to t (f x) ≡ needs_at need to t x) → (xs ys : List Entry) → changed p f xs ≡ Some ys → (to : Address) (t : Turn) → is_needed need xs to t ≡ is_needed need ys to t
+changed_else need p f same [] ys is to t = absurd (cc is)
+changed_else need p f same (x ∷ xs) ys is to t = elim (cases_Bool (p x)) as (λ _. is_needed need (x ∷ xs) to t ≡ is_needed need ys to t) [
   | inl here ↦
-      let same : acted_on x ∷ xs ≡ ys = changed_first (waits_for_action n) acted_on x xs ys here is in
-      ap (λ (l : List Entry). is_waiting l to t) same
+      ap (λ (b : Bool). b || is_needed need xs to t) (sym (same to t x)) ∙ ap (λ (l : List Entry). is_needed need l to t) (changed_first p f x xs ys here is)
   | inr there ↦
-      let more = changed_later (waits_for_action n) acted_on x xs ys there is in
-      ap (λ (b : Bool). waits_at to t x || b) (acted_waits n xs more.0 more.1 to t) ∙ ap (λ (l : List Entry). is_waiting l to t) more.2
+      let more = changed_later p f x xs ys there is in
+      ap (λ (b : Bool). needs_at need to t x || b) (changed_else need p f same xs more.0 more.1 to t) ∙ ap (λ (l : List Entry). is_needed need l to t) more.2
 ]
 
-indexed_after : (index : TurnIndex) (s : State) (r : RecordText) (t : State) → after s r ≡ Some t → IsOrderly s → Turns index (is_waiting s.queue) → WasIndexed (wait_of r) index t.queue
-indexed_after index s (Queue r) t is o turns =
-    let m = if_may_some (may_queue r s.queue) (with_queued r s) t is in
-    record { old = s.queue; file = new_entry r; is = ap (λ (x : State). x.queue) (sym m.1); live = refl; index = turns }
-indexed_after index s (Done number session) t is o turns =
-    let m = mapped_some (λ queue. record s { queue = queue }) (changed (is_live number) settled s.queue) t is in
-    record { old = s.queue; is = m.1 ∙ ap (λ (x : State). Some x.queue) m.2; different = o.queue; index = turns }
-indexed_after index s (Received r) t is o turns = let m = if_may_some (may_receive r s) (with_receipt r s) t is in turns_same index s.queue t.queue (ap (λ (x : State). x.queue) m.1) turns
-indexed_after index s (Refused r) t is o turns = let m = if_may_some (may_refuse r s) (with_refusal r s) t is in turns_same index s.queue t.queue (ap (λ (x : State). x.queue) m.1) turns
-indexed_after index s (Mark r) t is o turns = let m = if_may_some (may_mark r s) (with_mark r s) t is in turns_same index s.queue t.queue (ap (λ (x : State). x.queue) m.1) turns
-indexed_after index s (Taken take) t is o turns = let m = if_may_some (not (is_among take s.takes)) (with_take take s) t is in turns_same index s.queue t.queue (ap (λ (x : State). x.queue) m.1) turns
-indexed_after index s (Acted number) t is o turns =
-    let m = mapped_some (λ queue. record s { queue = queue }) (changed (waits_for_action number) acted_on s.queue) t is in
-    turns_same index m.0 t.queue (ap (λ (x : State). x.queue) m.2) (turns_alike index s.queue m.0 (acted_waits number s.queue m.0 m.1) turns)
-indexed_after index s (Answered number) t is o turns =
-    let m = mapped_some (λ inbox. record s { inbox = inbox }) (changed (waits_for_answer number) answered s.inbox) t is in
-    turns_same index s.queue t.queue (ap (λ (x : State). x.queue) m.2) turns
+queue_after : (p : Entry → Bool) (f : Entry → Entry) (s t : State) → option_map (λ queue. record s { queue = queue }) (changed p f s.queue) ≡ Some t → changed p f s.queue ≡ Some t.queue
+queue_after p f s t is =
+    let m = mapped_some (λ queue. record s { queue = queue }) (changed p f s.queue) t is in
+    m.1 ∙ ap (λ (x : State). Some x.queue) m.2
 
-pub indexed_step : (index : TurnIndex) (s : State) (r : RecordText) (t : State) → fold_step s r ≡ Some t → IsOrderly s → Turns index (is_waiting s.queue) → WasIndexed (wait_of r) index t.queue
-indexed_step index s r t is o turns = indexed_after index s r t (step_is_after s r t is) o turns
+indexed_after : (index : TurnIndex) (s : State) (r : RecordText) (need : Need) (t : State) → after s r ≡ Some t → IsOrderly s → Turns index (is_needed need s.queue) → WasIndexed need (wait_of r need) index t.queue
+indexed_after index s (Queue r) need t is o turns =
+    let m = if_may_some (may_queue r s.queue) (with_queued r s) t is in
+    record { old = s.queue; file = new_entry r; is = ap (λ (x : State). x.queue) (sym m.1); turns = turns }
+indexed_after index s (Done number session) Sending t is o turns = record { old = s.queue; is = queue_after (is_live number) settled s t is; different = o.queue; turns = turns }
+indexed_after index s (Done number session) Action t is o turns = turns_alike Action index s.queue t.queue (changed_else Action (is_live number) settled (λ to u x. refl) s.queue t.queue (queue_after (is_live number) settled s t is)) turns
+indexed_after index s (Received r) need t is o turns = let m = if_may_some (may_receive r s) (with_receipt r s) t is in turns_same need index s.queue t.queue (ap (λ (x : State). x.queue) m.1) turns
+indexed_after index s (Refused r) need t is o turns = let m = if_may_some (may_refuse r s) (with_refusal r s) t is in turns_same need index s.queue t.queue (ap (λ (x : State). x.queue) m.1) turns
+indexed_after index s (Mark r) need t is o turns = let m = if_may_some (may_mark r s) (with_mark r s) t is in turns_same need index s.queue t.queue (ap (λ (x : State). x.queue) m.1) turns
+indexed_after index s (Taken take) need t is o turns = let m = if_may_some (not (is_among take s.takes)) (with_take take s) t is in turns_same need index s.queue t.queue (ap (λ (x : State). x.queue) m.1) turns
+indexed_after index s (Acted number) Sending t is o turns = turns_alike Sending index s.queue t.queue (changed_else Sending (waits_for_action number) acted_on (λ to u x. refl) s.queue t.queue (queue_after (waits_for_action number) acted_on s t is)) turns
+indexed_after index s (Acted number) Action t is o turns = record { old = s.queue; is = queue_after (waits_for_action number) acted_on s t is; different = o.queue; turns = turns }
+indexed_after index s (Answered number) need t is o turns =
+    let m = mapped_some (λ inbox. record s { inbox = inbox }) (changed (waits_for_answer number) answered s.inbox) t is in
+    turns_same need index s.queue t.queue (ap (λ (x : State). x.queue) m.2) turns
+
+pub indexed_step : (need : Need) (index : TurnIndex) (s : State) (r : RecordText) (t : State) → fold_step s r ≡ Some t → IsOrderly s → Turns index (is_needed need s.queue) → WasIndexed need (wait_of r need) index t.queue
+indexed_step need index s r t is o turns = indexed_after index s r need t (step_is_after s r t is) o turns
 
 -- What the code finds.
 

@@ -1,3 +1,4 @@
+pub mod Acting
 pub mod Batch
 pub mod Fold
 pub mod Indexed

@@ -1,9 +1,10 @@
 //! The fold of a ledger's records.
-ghost use Rattle.std.specs.Prelude.{◌≡◌, ◌+◌, ◌<◌, ◌≤◌, false, [], ◌∷◌, ◌++◌, length, map, take, position, Some, None, OnOk, OnErr, IsErrOf, IsOk};
+ghost use Rattle.std.specs.Prelude.{◌≡◌, ◌+◌, ◌<◌, ◌≤◌, false, [], ◌∷◌, ◌++◌, length, map, option_map, take, position, Some, None, OnOk, OnErr, IsErrOf, IsOk};
 ghost use Rattle.ftn_addr.specs.Address.{address};
 ghost use Rattle.file_index.specs.Turns.{NextTurn};
 ghost use Rattle.ftn_addr.specs.Files.{is_same};
 ghost use Rattle.ftn_addr.specs.Key.{key_of};
+ghost use Rattle.ledger_rec.specs.Acting.{acting_turn, is_acting};
 ghost use Rattle.ledger_rec.specs.Fold.{fold_step, is_among, is_received, is_refused, nothing_folded, without_hold, IsPrepared};
 ghost use Rattle.ledger_rec.specs.Items.{entry, receipt, refusal, part_mark, hold};
 ghost use Rattle.ledger_rec.specs.Record.{record_of};
@@ -16,7 +17,7 @@ use crate::items::{Held, InboxItem, MarkItem, QueueItem, RefusedItem};
 use crate::lists::Lists;
 use crate::rules::{is_received, is_refused, is_same};
 use crate::steps::add;
-use crate::waiting::{Wait, first_waiting};
+use crate::waiting::Need;
 use crate::{FoldFault, Record};
 use file_index::{Turn, TurnIndex};
 use ftn_addr::{Addr, FileKey, NoMemory};
@@ -31,7 +32,10 @@ use std::marker::Model;
 #[derive(Debug, Drop)]
 pub struct Folded {
     pub(crate) lists: Lists,
+    /// The live files.
     waiting: TurnIndex,
+    /// The files whose source waits for its action.
+    acting: TurnIndex,
     holds: Vec<Held>,
     pub(crate) room: u32,
 }
@@ -39,6 +43,7 @@ pub struct Folded {
 impl Model for Folded {
     ghost use Rattle.std.specs.Prelude.{map};
     ghost use Rattle.file_index.specs.Turns.{Turns};
+    ghost use Rattle.ledger_rec.specs.Acting.{is_acting};
     ghost use Rattle.ledger_rec.specs.Fold.{Folding};
     ghost use Rattle.ledger_rec.specs.Indexed.{Agrees};
     ghost use Rattle.ledger_rec.specs.Items.{entry, hold};
@@ -50,7 +55,7 @@ impl Model for Folded {
 
     ghost view = { λ f. record { state = state_of f.lists; holds = map hold f.holds.items; room = f.room } };
 
-    ghost invariant = { λ f. HasRoom f.room f.lists × Agrees f.lists.index (state_of f.lists) × IsOrderly (state_of f.lists) × Turns f.waiting (is_waiting (map entry f.lists.queue.items)) };
+    ghost invariant = { λ f. HasRoom f.room f.lists × Agrees f.lists.index (state_of f.lists) × IsOrderly (state_of f.lists) × Turns f.waiting (is_waiting (map entry f.lists.queue.items)) × Turns f.acting (is_acting (map entry f.lists.queue.items)) };
 }
 
 // Where the first hold of the sender and key stands.
@@ -87,6 +92,7 @@ impl Folded {
                 index: Index::new(alloc),
             },
             waiting: TurnIndex::new(alloc),
+            acting: TurnIndex::new(alloc),
             holds: Vec::new(alloc),
             room: 0,
         }
@@ -118,9 +124,11 @@ impl Folded {
         ensures within { 0 < self.old.room → IsPrepared (record_of rec) self.old.holds → IsErrOf result OutOfMemory → ⊥ }
         ensures roomy { 0 < self.old.room → IsErrOf result OutOfMemory → ⊥ }
     {
-        let wait = Wait::of(&rec);
+        let waits = Need::Sending.change(&rec);
+        let acts = Need::Action.change(&rec);
         add(rec, &mut self.lists)?;
-        wait.note(&self.lists, &mut self.waiting);
+        Need::Sending.note(waits, &self.lists, &mut self.waiting);
+        Need::Action.note(acts, &self.lists, &mut self.acting);
         self.room = self.room.saturating_sub(1);
         Ok(())
     }
@@ -170,9 +178,16 @@ impl Folded {
     pub fn next_waiting(&self, dest: &Addr, after: Option<Turn>) -> Option<Turn>
         ensures { NextTurn (is_waiting self.now.state.queue (address dest.now)) after result }
     {
-        match self.waiting.next(dest, after) {
-            Some(next) => next,
-            None => first_waiting(self.lists.queue.as_slice(), dest, after),
+        Need::Sending.next(&self.waiting, self.lists.queue.as_slice(), dest, after)
+    }
+
+    /// The number of the first queued file of an address whose source waits for its action. It takes no memory.
+    pub fn next_acting(&self, dest: &Addr) -> Option<u32>
+        ensures { NextTurn (is_acting self.now.state.queue (address dest.now)) None (option_map acting_turn result) }
+    {
+        match Need::Action.next(&self.acting, self.lists.queue.as_slice(), dest, None) {
+            Some(turn) => Some(turn.number),
+            None => None,
         }
     }
 

@@ -3,8 +3,10 @@
 //! A [`Record`] is one durable change. [`write_record`] writes its bytes, and [`read_record`] reads them;
 //! each undoes the other ([`one_record_at_most`], [`fits_a_payload`]). [`Folded`] takes the records one
 //! after another, refuses one that doesn't follow from those before, and shows what is queued, received,
-//! refused and marked. With [`Folded::reserve`] and [`Folded::hold`] a caller makes sure that a record
-//! that must be folded later takes no memory then.
+//! refused and marked. It keeps an index of the files that wait to be sent to each address
+//! ([`Folded::next_waiting`]), and one of those whose source waits for its action
+//! ([`Folded::next_acting`]). With [`Folded::reserve`] and [`Folded::hold`] a caller makes sure that a
+//! record that must be folded later takes no memory then.
 //!
 //! Files that are queued together are a [`Batch`]: [`Folded::prepare`] says whether its records follow, and
 //! once they are durable [`Folded::add_batch`] folds them in. [`Folded::lengthen`] makes a standing mark
@@ -52,4 +54,5 @@ pub use laws::{
 pub use lengthen::Lengthened;
 pub use reading::read_record;
 pub use record::{MarkRec, NewFileRec, ReceivedRec, Record, RefusedRec};
+pub use rules::is_request;
 pub use writing::write_record;

@@ -185,8 +185,8 @@ fn first_action(number: u32, queue: &[QueueItem]) -> Option<usize>
     queue.iter().position(|item| item.number == number && (item.action > 0 && !item.acted))
 }
 
-/// Whether a file of that name is a request.
-fn is_request(name: &[u8]) -> bool
+/// Whether a file of that name is a request: it ends with `.req`, with the case of ASCII letters ignored.
+pub fn is_request(name: &[u8]) -> bool
     ensures { result ≡ is_request name.now }
 {
     let place = name.len().saturating_sub(4);

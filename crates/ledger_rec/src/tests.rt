@@ -5,6 +5,7 @@ ghost use Rattle.ftn_addr.specs.Limits.{IsAddress, IsKey};
 ghost use Rattle.ledger_rec.specs.Limits.{Fits, IsMark, IsNewFile};
 ghost use Rattle.ledger_rec.specs.Record.{record_of, mark, new_file};
 
+mod acting;
 mod batches;
 mod folds;
 mod longer_marks;

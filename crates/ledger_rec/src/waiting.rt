@@ -1,4 +1,4 @@
-//! The files that wait for each address.
+//! The files that wait for each address, to be sent or for their action.
 ghost use Rattle.std.specs.Prelude.{◌≡◌, ◌==◌, ◌||◌, Bool, true, false, map, position, Option};
 ghost use Rattle.ftn_addr.specs.Address.{address};
 ghost use Rattle.file_index.specs.Numbered.{Numbers};
@@ -8,7 +8,7 @@ ghost use Rattle.ledger_rec.specs.Indexed.{Agrees};
 ghost use Rattle.ledger_rec.specs.Items.{Entry, entry};
 ghost use Rattle.ledger_rec.specs.Lists.{state_of};
 ghost use Rattle.ledger_rec.specs.Record.{record_of};
-ghost use Rattle.ledger_rec.specs.Waiting.{HasBegun, HasEnded, WasIndexed, is_waiting, turn_of, wait_of, waits_at};
+ghost use Rattle.ledger_rec.specs.Waiting.{HasBegun, HasEnded, WasIndexed, has_need, is_needed, needs_at, turn_for, wait_of};
 
 use crate::Record;
 use crate::items::QueueItem;
@@ -16,63 +16,116 @@ use crate::lists::Lists;
 use file_index::{NumberIndex, Turn, TurnIndex};
 use ftn_addr::{Addr, is_same_address};
 
+/// For what a queued file waits.
+#[derive(Clone, Copy, Debug)]
+pub(crate) enum Need {
+    /// To be sent.
+    Sending,
+    /// That its source is acted on.
+    Action,
+}
+
 /// What a record changes of the files that wait.
 #[derive(Clone, Copy, Debug)]
 pub(crate) enum Wait {
-    /// The last file of the queue waits from now on.
+    /// The last file of the queue waits from now on, where it has the need.
     Begins,
     /// The file with that number waits no more.
     Ends(u32),
     Stays,
 }
 
-impl Wait {
-    pub(crate) fn of(rec: &Record) -> Wait
-        ensures { result ≡ wait_of (record_of rec.now) }
+impl Need {
+    // Whether the file waits for it.
+    fn is_open(self, item: &QueueItem) -> bool
+        ensures { result ≡ has_need self (entry item.now) }
+    {
+        match self {
+            Need::Sending => item.live,
+            Need::Action => item.action > 0 && !item.acted,
+        }
+    }
+
+    // When the file comes: by its number, and before that by its flavour, where it is to be sent.
+    fn turn(self, item: &QueueItem) -> Turn
+        ensures { result ≡ turn_for self (entry item.now) }
+    {
+        let rank = match self {
+            Need::Sending => item.flavour,
+            Need::Action => 0,
+        };
+        Turn {
+            rank,
+            number: item.number,
+        }
+    }
+
+    /// What a record changes of the files that wait for it.
+    pub(crate) fn change(self, rec: &Record) -> Wait
+        ensures { result ≡ wait_of (record_of rec.now) self }
     {
         match rec {
             Record::Queue(_) => Wait::Begins,
-            Record::Done(number, _) => Wait::Ends(*number),
+            Record::Done(number, _) => match self {
+                Need::Sending => Wait::Ends(*number),
+                Need::Action => Wait::Stays,
+            },
             Record::Received(_) => Wait::Stays,
             Record::Refused(_) => Wait::Stays,
             Record::Mark(_) => Wait::Stays,
             Record::Taken(_) => Wait::Stays,
-            Record::Acted(_) => Wait::Stays,
+            Record::Acted(number) => match self {
+                Need::Sending => Wait::Stays,
+                Need::Action => Wait::Ends(*number),
+            },
             Record::Answered(_) => Wait::Stays,
         }
     }
 
     /// Notes in the index what changed in the queue.
-    pub(crate) fn note(self, lists: &Lists, index: &mut TurnIndex)
+    pub(crate) fn note(self, wait: Wait, lists: &Lists, index: &mut TurnIndex)
         requires agrees { Agrees lists.now.index (state_of lists.now) }
-        requires was { WasIndexed self index.old (map entry lists.now.queue.items) }
-        ensures { Turns index.new (is_waiting (map entry lists.now.queue.items)) }
+        requires was { WasIndexed self wait index.old (map entry lists.now.queue.items) }
+        ensures { Turns index.new (is_needed self (map entry lists.now.queue.items)) }
     {
-        match self {
-            Wait::Begins => begin(lists.queue.as_slice(), index),
-            Wait::Ends(number) => end(number, &lists.index.numbers, lists.queue.as_slice(), index),
+        let queue = lists.queue.as_slice();
+        match wait {
+            Wait::Begins => begin(self, queue, index),
+            Wait::Ends(number) => end(self, number, &lists.index.numbers, queue, index),
             Wait::Stays => {}
+        }
+    }
+
+    /// The turn of the first file that waits for it and an address behind that turn: the index's, and
+    /// where memory was wanting the queue's.
+    pub(crate) fn next(
+        self,
+        index: &TurnIndex,
+        queue: &[QueueItem],
+        dest: &Addr,
+        after: Option<Turn>,
+    ) -> Option<Turn>
+        requires { Turns index.now (is_needed self (map entry queue.now)) }
+        ensures { NextTurn (is_needed self (map entry queue.now) (address dest.now)) after result }
+    {
+        match index.next(dest, after) {
+            Some(next) => next,
+            None => first_needed(self, queue, dest, after),
         }
     }
 }
 
-/// When a queued file comes: by its flavour, and then by its number.
-pub(crate) fn turn_of(item: &QueueItem) -> Turn
-    ensures { result ≡ turn_of (entry item.now) }
-{
-    Turn {
-        rank: item.flavour,
-        number: item.number,
-    }
-}
-
-// The last file waits.
-fn begin(queue: &[QueueItem], index: &mut TurnIndex)
-    requires { HasBegun index.old (map entry queue.now) }
-    ensures { Turns index.new (is_waiting (map entry queue.now)) }
+// The last file waits, where it has the need.
+fn begin(need: Need, queue: &[QueueItem], index: &mut TurnIndex)
+    requires { HasBegun need index.old (map entry queue.now) }
+    ensures { Turns index.new (is_needed need (map entry queue.now)) }
 {
     match queue.last() {
-        Some(item) => index.note(&item.dest, turn_of(item)),
+        Some(item) => {
+            if need.is_open(item) {
+                index.note(&item.dest, need.turn(item));
+            }
+        }
         None => unreachable!(),
     }
 }
@@ -97,15 +150,15 @@ fn first_file(number: u32, queue: &[QueueItem]) -> Option<usize>
 }
 
 // The file with that number waits no more.
-fn end(number: u32, numbers: &NumberIndex, queue: &[QueueItem], index: &mut TurnIndex)
+fn end(need: Need, number: u32, numbers: &NumberIndex, queue: &[QueueItem], index: &mut TurnIndex)
     requires numbered { Numbers numbers.now (map (λ e. e.number) (map entry queue.now)) }
-    requires was { HasEnded number index.old (map entry queue.now) }
-    ensures { Turns index.new (is_waiting (map entry queue.now)) }
+    requires was { HasEnded need number index.old (map entry queue.now) }
+    ensures { Turns index.new (is_needed need (map entry queue.now)) }
 {
     match file_at(number, numbers, queue) {
         Some(i) => {
             let item = &queue[i];
-            index.remove(&item.dest, turn_of(item));
+            index.remove(&item.dest, need.turn(item));
         }
         None => unreachable!(),
     }
@@ -123,11 +176,11 @@ fn is_past(after: Option<Turn>, turn: Turn) -> bool
 }
 
 // The turn of a file, where it waits for that address behind that turn.
-fn turn_past(item: &QueueItem, dest: &Addr, after: Option<Turn>) -> Option<Turn>
-    ensures { NextTurn (λ t. waits_at (address dest.now) t (entry item.now)) after result }
+fn turn_past(need: Need, item: &QueueItem, dest: &Addr, after: Option<Turn>) -> Option<Turn>
+    ensures { NextTurn (λ t. needs_at need (address dest.now) t (entry item.now)) after result }
 {
-    let turn = turn_of(item);
-    if item.live && is_same_address(dest, &item.dest) && is_past(after, turn) {
+    let turn = need.turn(item);
+    if need.is_open(item) && is_same_address(dest, &item.dest) && is_past(after, turn) {
         Some(turn)
     } else {
         None
@@ -150,13 +203,13 @@ fn earlier(a: Option<Turn>, b: Option<Turn>) -> Option<Turn>
     }
 }
 
-/// The turn of the first file that waits for an address behind that turn, found by a walk.
-pub(crate) fn first_waiting(queue: &[QueueItem], dest: &Addr, after: Option<Turn>) -> Option<Turn>
-    ensures { NextTurn (is_waiting (map entry queue.now) (address dest.now)) after result }
+// The turn of the first file that waits for an address behind that turn, found by a walk.
+fn first_needed(need: Need, queue: &[QueueItem], dest: &Addr, after: Option<Turn>) -> Option<Turn>
+    ensures { NextTurn (is_needed need (map entry queue.now) (address dest.now)) after result }
 {
     let mut first = None;
     for item in queue {
-        first = earlier(first, turn_past(item, dest, after));
+        first = earlier(first, turn_past(need, item, dest, after));
     }
     first
 }
