@@ -69,16 +69,18 @@ module _ {D : Type 0} (tells : Bool) (content : D → World) (faults moment : D 
       ))
       step.ledger
 
-  module _ (asked : StoreCall) (answer : StoreAnswer) (would : StoreState) (does : StoreDoes (state_of tells (content old) (faults old) m) asked answer would) (told_would : tells ≡ true → IsShelf would.content after) where
-    since : (k : ℕ) (o : Option Shelf) → moment old < k → k ≤ moment new → left_of tells (images new) k o → OpensShelf (StorePasses (state_of tells (content old) (faults old) m) asked) o
-    since k o from to left =
+  -- a fact of what was told before and of what will be holds of every image since
+  module _ (Passes : Shelf → Type 0) (before : tells ≡ true → Passes (shelf_of (stored_in (content old) m))) (later : tells ≡ true → Passes after) where
+    pub opens_since : (k : ℕ) (o : Option Shelf) → moment old < k → k ≤ moment new → left_of tells (images new) k o → OpensShelf Passes o
+    opens_since k o from to left =
         let was = p.run.each k left.1 (omega (arith, from)) to left.2 in
         let now = opens_there left.0 was.0 left.1 (p.kept was.0 was.1) was.2 in
-        opens_to (StorePasses (state_of tells (content old) (faults old) m) asked) left.1 now.0 now.1
-        (⊎_elim
-        (λ before. Before_it (is_told tells left.0 (content old) (faults old) m now.0 before))
-        (λ later. After_it answer would does (subst (IsShelf would.content) (sym later) (told_would left.0)))
-        now.2) o left.3
+        opens_to Passes left.1 now.0 now.1 (⊎_elim (λ same. subst Passes (sym same) (before left.0)) (λ more. subst Passes (sym more) (later left.0)) now.2) o left.3
+
+  module _ (asked : StoreCall) (answer : StoreAnswer) (would : StoreState) (does : StoreDoes (state_of tells (content old) (faults old) m) asked answer would) (told_would : tells ≡ true → IsShelf would.content after) where
+    since : (k : ℕ) (o : Option Shelf) → moment old < k → k ≤ moment new → left_of tells (images new) k o → OpensShelf (StorePasses (state_of tells (content old) (faults old) m) asked) o
+    since = opens_since (StorePasses (state_of tells (content old) (faults old) m) asked)
+        (λ t. Before_it (is_told tells t (content old) (faults old) m (shelf_of (stored_in (content old) m)) refl)) (λ t. After_it answer would does (told_would t))
 
     -- the disk failed
     pub appended_failed : (m' : Memory) → BreaksStore asked (state_of tells (content old) (faults old) m) (state_of tells (content new) (faults new) m')
@@ -107,6 +109,14 @@ module _ {D : Type 0} (tells : Bool) (content : D → World) (faults moment : D 
       same = λ is. ap (shelf_in c) state ∙ (now_there is c image).1 ∙ sym (told is);
     }
 
+    -- and a fact of what is told then holds of it
+    pub opens_now : (Passes : Shelf → Type 0) → (tells ≡ true → Passes after) → (o : Option Shelf) → left_of tells (images new) (moment new) o → OpensShelf Passes o
+    opens_now Passes later o left =
+        let there = now_there left.0 left.1 left.2 in
+        opens_to Passes left.1 (shelf_in left.1 t)
+        (record { payloads = m.books.payloads ++ more; ledger = inl (durable left.1 left.2); state = t; folds = p.more_folds; files = there.0; is = refl })
+        (subst Passes (sym there.1) (later left.0)) o left.3
+
     pub appended_kept : (asked : StoreCall) (answer : StoreAnswer) (m' : Memory) → IsMade asked answer → StoreDoes (state_of tells (content old) (faults old) m) asked answer (state_of tells (content new) (faults new) m')
         → (tells ≡ true → shelf_of (stored_in (content new) m') ≡ after)
         → StoreKept (standing tells content faults moment images old m) asked answer (standing tells content faults moment images new m')
@@ -115,9 +125,5 @@ module _ {D : Type 0} (tells : Bool) (content : D → World) (faults moment : D 
       later = p.run.grew.later;
       before = λ k o le left. (left.0, left.1, p.run.grew.before k left.1 le left.2, left.3);
       since = since asked answer (state_of tells (content new) (faults new) m') does (λ is. is_told tells is (content new) (faults new) m' after (sym (told is)));
-      now = λ whole o left.
-          let there = now_there left.0 left.1 left.2 in
-          opens_to (IsShelf (state_of tells (content new) (faults new) m').content) left.1 (shelf_in left.1 t)
-          (record { payloads = m.books.payloads ++ more; ledger = inl (durable left.1 left.2); state = t; folds = p.more_folds; files = there.0; is = refl })
-          (is_told tells left.0 (content new) (faults new) m' (shelf_in left.1 t) (there.1 ∙ sym (told left.0))) o left.3;
+      now = λ whole. opens_now (IsShelf (state_of tells (content new) (faults new) m').content) (λ is. is_told tells is (content new) (faults new) m' after (sym (told is)));
     }

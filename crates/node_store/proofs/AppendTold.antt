@@ -1,6 +1,6 @@
 -- Only the ledger changed: what is told then, and what one record more tells.
 use Rattle.std.proofs.Common.{◌≡◌, ℕ, zero, suc, ◌+◌, ◌-◌, ◌≤◌, List, [], ◌∷◌, ◌++◌, length, drop, map, Option, Some, None, Result, Ok, Err, Bool, true, false, refl, sym, ◌∙◌, ap, arith, length-append, append-nil}
-use Rattle.std.specs.Prelude.{option_map, if◌then◌else◌}
+use Rattle.std.specs.Prelude.{option_map, ◌&&◌, if◌then◌else◌}
 use Rattle.std.proofs.lemmas.List.{drop-append-le}
 use Rattle.disk_model.specs.World as W
 use Rattle.disk_model.specs.World.{World}
@@ -24,11 +24,12 @@ use Rattle.node_store.specs.Logs.{log_of, logged, noted}
 use Rattle.node_store.specs.Names.{in_name, out_name, take_number}
 use Rattle.node_store.specs.Recording.{IsRecorded}
 use Rattle.node_store.specs.Stored.{Part, Memory, front_of, told_in, sizes_in, told_parts, part_by, stock_by, stored_in, state_of, IsMemory, IsSound}
-use Rattle.node_store.specs.Worlds.{bytes_of, gift_of, takes_in, outside_in, gift_told, durable_in, shelf_in}
+use Rattle.node_store.specs.Worlds.{bytes_of, or_else, gift_of, is_absent, takes_in, outside_in, gift_told, durable_in, shelf_in}
 use Rattle.node_store.proofs.Alike.{ledger_no_take, takes_alike}
 use Rattle.node_store.proofs.Calls.{is_told}
 use Rattle.node_store.proofs.NameLaws.{in_not_ledger, out_not_ledger}
 use Rattle.node_store.proofs.Puts.{same_sizes}
+use Rattle.node_store.proofs.GivenFiles.{SameGiven}
 
 -- what is told
 
@@ -36,9 +37,9 @@ module _ (d c : World) (only : Only ledger_name d c) where
   told_only : (given : List ℕ) → told_in c given ≡ told_in d given
   told_only given = λ i. record {
     queued = λ number size. front_of size (bytes_of (only.others (out_name number) (out_not_ledger number) i));
-    received = λ number size. if is_among number given then gift_of (in_name number) size (only.gifts i) else Some (front_of size (bytes_of (only.others (in_name number) (in_not_ledger number) i)));
+    received = λ number size. if is_among number given then or_else (only.others (in_name number) (in_not_ledger number) i) (gift_of (in_name number) size (only.gifts i)) else Some (front_of size (bytes_of (only.others (in_name number) (in_not_ledger number) i)));
     front = λ number len. front_of len (bytes_of (only.others (in_name number) (in_not_ledger number) i));
-    given = λ number. is_among number given;
+    given = λ number. is_absent (only.others (in_name number) (in_not_ledger number) i) && is_among number given;
   }
 
   takes_only : takes_in c ≡ takes_in d
@@ -111,7 +112,7 @@ module _ (tells : Bool) (told told' : World) (faults faults' : ℕ) (m : Memory)
       → ((c : Contents ℕ) → stock_by c with_record ≡ f (stock_by c m)) → ((c : Contents (List ℕ)) → stock_by c with_record ≡ g (stock_by c m))
       → state_of tells told' faults' with_record ≡ placed (changed f g (noted r ∷ []) (state_of tells told faults m))
   recorded_told f g takes sizes bytes =
-      let sized = same_sizes tells told told' m.given (λ t. (only t).gifts) in
+      let sized = same_sizes tells told told' m.given (λ t. (only t).gifts) (λ t n among. (only t).others (in_name n) (in_not_ledger n)) in
       let stock = ap (λ (c : Contents ℕ). stock_by c with_record) sized ∙ sizes (sizes_in tells told m.given) in
       let content = go tells (λ t. stored_recorded g takes bytes (only t)) in
       let records : length b.payloads ≡ length m.books.payloads + 1 = ap length recorded.payloads ∙ length-append m.books.payloads (payload ∷ []) in
@@ -156,10 +157,10 @@ module _ (tells : Bool) (told told' : World) (faults faults' : ℕ) (m : Memory)
       StorePasses (state_of tells told faults m) asked (shelf_of b) × Logs m.seat a.log b.log
       × PartsStay asked (state_of tells told faults m).stock a.stock b.stock
 
-  pub breaks_same : (asked : StoreCall) → TouchesDisk asked → Increased faults faults' → (tells ≡ true → stored_in told' m ≡ stored_in told m) → (tells ≡ true → told'.gifts ≡ told.gifts)
+  pub breaks_same : (asked : StoreCall) → TouchesDisk asked → Increased faults faults' → (tells ≡ true → stored_in told' m ≡ stored_in told m) → (tells ≡ true → told'.gifts ≡ told.gifts) → (tells ≡ true → SameGiven m.given told told')
       → BreaksStore asked (state_of tells told faults m) (state_of tells told' faults' broken_memory)
-  breaks_same asked touches rose same gifts =
-      let sized = same_sizes tells told told' m.given gifts in
+  breaks_same asked touches rose same gifts given =
+      let sized = same_sizes tells told told' m.given gifts given in
       record {
         touches = touches;
         rose = rose;

@@ -1,6 +1,6 @@
 -- A part that came whole becomes a receipt.
 use Rattle.std.proofs.Common.{◌≡◌, ◌≢◌, inl, inr, ⊎_elim, ℕ, ◌-◌, ◌==◌, List, [], ◌∷◌, ◌++◌, length, map, Option, Some, None, Ok, Bool, true, false, ◌&&◌, refl, sym, ◌∙◌, ap, subst, arith}
-use Rattle.std.specs.Prelude.{find, option_map, if◌then◌else◌}
+use Rattle.std.specs.Prelude.{find, option_map, if◌then◌else◌, ◌||◌, not}
 use Rattle.ftn_addr.specs.Counts.{Increased}
 use Rattle.disk_model.specs.World.{World}
 use Rattle.disk_model.specs.Changes.{Every, Follows, Only}
@@ -21,7 +21,7 @@ use Rattle.node_store.specs.Names.{in_name}
 use Rattle.node_store.specs.Recording.{IsRecorded, IsSynced, Records}
 use Rattle.node_store.specs.Stored.{Part, Memory, front_of, told_in, sizes_in, told_parts, part_by, state_of, received_text, closed_in, without_part, IsPart, IsMemory, IsSound}
 use Rattle.node_store.specs.Tied.{orderly_true, IsDrawn}
-use Rattle.node_store.specs.Worlds.{bytes_of, gift_of, durable_in, HasLength, HasFiles}
+use Rattle.node_store.specs.Worlds.{bytes_of, gift_of, durable_in, HasLength, HasFiles, or_else, is_absent}
 use Rattle.node_store.proofs.Calls.{standing}
 use Rattle.node_store.proofs.ClosedParts.{has_number, all_left, orderly_left, others_found}
 use Rattle.node_store.proofs.Committed.{ungiven, memory_without, memory_broken, memory_committed}
@@ -30,6 +30,7 @@ use Rattle.node_store.proofs.PutCall.{all_found, found_of, open_part}
 use Rattle.node_store.proofs.PutSound.{told_holds}
 use Rattle.node_store.proofs.Receipts.{received_step, files_received, durable_received, IsWholeIn, stock_committed}
 use Rattle.node_model.proofs.Lists.{some_inj}
+use Rattle.node_store.proofs.GivenFiles.{and_false}
 
 -- The books with the receipt, where the hold is ended.
 pub record IsReceipted (payload : List ℕ) (q : Part) (session : ℕ) (secure : Bool) (seat : ℕ) (old new : Books) : Type 0 where
@@ -76,13 +77,20 @@ receipt_follows m q session secure is found in_session =
     let drawn = (all_found (IsDrawn m.drawn) q.number m.parts q (orderly_true m.drawn m.parts is.orderly).1 found).0 in
     received_step m.books.folding.state q session secure drawn.0 in_session part.unknown (⊎_elim (λ k. inl k.marked) (λ u. inr u.unused) part.number)
 
+-- the file of an open part wasn't given
+pub part_ungiven : (m : Memory) (q : Part) → IsMemory m → find (has_number q.number) m.parts ≡ Some q → is_among q.number m.given ≡ false
+part_ungiven m q is found = ungiven q.number m.books.folding.state.inbox m.given (all_found (IsPart m.books.folding) q.number m.parts q is.parts found).0.received is.given
+
 module _ {D : Type 0} (tells : Bool) (content : D → World) (files : D → World → Type 0) (faults moment : D → ℕ) (images : D → ℕ → World → Type 0) (old new : D) (m : Memory) (q : Part) (session : ℕ) (secure : Bool) (payload : List ℕ)
     (p : IsCommitting tells content files moment images old new m q session secure payload) where
   part_is : IsPart m.books.folding q
   part_is = (all_found (IsPart m.books.folding) q.number m.parts q p.sound.memory.parts p.found).0
 
   not_given : is_among q.number m.given ≡ false
-  not_given = ungiven q.number m.books.folding.state.inbox m.given part_is.received p.sound.memory.given
+  not_given = part_ungiven m q p.sound.memory p.found
+
+  ungiven_flag : (a : Bool) → (a && is_among q.number m.given) ≡ false
+  ungiven_flag a = ap (λ (b : Bool). a && b) not_given ∙ and_false a
 
   body : tells ≡ true → HasLength (in_name q.number) q.have (content old)
   body t = (all_found (λ (x : Part). HasLength (in_name x.number) x.have (content old)) q.number m.parts q (p.sound.bodies p.whole t).parts p.found).0
@@ -96,12 +104,15 @@ module _ {D : Type 0} (tells : Bool) (content : D → World) (files : D → Worl
   whole_size false lost = ap Some (sym p.all)
 
   in_sizes : IsWholeIn (sizes_in tells (content old) m.given) q
-  in_sizes = record { given = not_given; received = whole_size tells (option_map length (gift_of (in_name q.number) q.key.size (content old).gifts)) }
+  in_sizes = record {
+    given = ungiven_flag (not tells || is_absent ((content old).own (in_name q.number)));
+    received = whole_size tells (option_map length (or_else ((content old).own (in_name q.number)) (gift_of (in_name q.number) q.key.size (content old).gifts)));
+  }
 
   in_bytes : IsWholeIn (told_in (content old) m.given) q
   in_bytes = record {
-    given = not_given;
-    received = ap (λ (b : Bool). if b then gift_of (in_name q.number) q.key.size (content old).gifts else Some (front_of q.key.size (bytes_of ((content old).own (in_name q.number))))) not_given
+    given = ungiven_flag (is_absent ((content old).own (in_name q.number)));
+    received = ap (λ (b : Bool). if b then or_else ((content old).own (in_name q.number)) (gift_of (in_name q.number) q.key.size (content old).gifts) else Some (front_of q.key.size (bytes_of ((content old).own (in_name q.number))))) not_given
         ∙ ap (λ (n : ℕ). Some (front_of n (bytes_of ((content old).own (in_name q.number))))) (sym p.all);
   }
 

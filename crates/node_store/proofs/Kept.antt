@@ -124,7 +124,7 @@ append-nothing [] = refl
 append-nothing (y ∷ l) = ap (λ (k : List ℕ). y ∷ k) (append-nothing l)
 
 -- one number more, which is a receipt of these files
-receipt_there : (r : Receipt) (rs : List Receipt) → Member r rs → has_receipt r.number rs ≡ true
+pub receipt_there : (r : Receipt) (rs : List Receipt) → Member r rs → has_receipt r.number rs ≡ true
 receipt_there r [] there = absurd there
 receipt_there r (x ∷ xs) (inl same) = or_true (x.number == r.number) (has_receipt r.number xs) ((Decides-eqb x.number r.number).1 (ap (λ (y : Receipt). y.number) (sym same)))
 receipt_there r (x ∷ xs) (inr later) = or_true_right (x.number == r.number) (has_receipt r.number xs) (receipt_there r xs later)

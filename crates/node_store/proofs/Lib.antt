@@ -9,13 +9,19 @@ mod ListedItems
 mod Looked
 mod OpenSound
 mod Opened
+pub mod OpenedNodes
 mod Recovering
 mod Removing
+mod Requests
 mod Rest
 mod Straying
 mod Tended
 mod Unrefused
 mod Untouched
+pub mod ActOn
+pub mod ActCall
+pub mod ActSource
+pub mod ActingNext
 pub mod Alike
 pub mod AppendCall
 pub mod AppendTold
@@ -27,12 +33,22 @@ pub mod ClosedParts
 pub mod CommitCall
 pub mod Committed
 pub mod CopyCall
+pub mod Due
 pub mod FileNames
 pub mod FirstParts
 pub mod Fitting
 pub mod FoldMarks
+pub mod FoldSound
 pub mod Found
+pub mod GiftCall
+pub mod GiftTold
+pub mod GiftWorld
+pub mod GiveAs
+pub mod GiveCall
+pub mod GivenFiles
+pub mod GivenKept
 pub mod Grown
+pub mod HeldCall
 pub mod HexDigits
 pub mod KeyLookups
 pub mod Known
@@ -46,6 +62,7 @@ pub mod NameLaws
 pub mod NumberNames
 pub mod Numbered
 pub mod Offering
+pub mod OneEntry
 pub mod OneRecord
 pub mod OpenCall
 pub mod OpenTold
@@ -72,5 +89,7 @@ pub mod RefuseCall
 pub mod ReplacedParts
 pub mod SettleCall
 pub mod StageCall
+pub mod StillKept
 pub mod Syncing
 pub mod TellAlike
+pub mod Walked

@@ -31,7 +31,7 @@ different_last f (x ∷ xs) y different other = (all_last f (f x) xs y different
     all_last f n (x ∷ xs) y all new = (all.0, all_last f n xs y all.1 new)
 
 -- one changed, with its number
-changed_keeps : {A : Type 0} (number : A → ℕ) (p : A → Bool) (f : A → A) → ((x : A) → number (f x) ≡ number x) → (xs ys : List A) → changed p f xs ≡ Some ys → map number ys ≡ map number xs
+pub changed_keeps : {A : Type 0} (number : A → ℕ) (p : A → Bool) (f : A → A) → ((x : A) → number (f x) ≡ number x) → (xs ys : List A) → changed p f xs ≡ Some ys → map number ys ≡ map number xs
 changed_keeps number p f same [] ys is = none_some is
 changed_keeps number p f same (x ∷ xs) ys is = elim (changed_is p f x xs ys is) [
   | Here passed e ↦ ap (map number) e ∙ ap (λ (n : ℕ). n ∷ map number xs) (same x)
@@ -55,7 +55,7 @@ part_is_not n k from key (m ∷ ms) is apart =
     (λ later. part_is_not n k from key ms later apart.1)
     (or_cases (m.number == n && is_same from key m.from m.key) (is_part_of n from key ms) is)
 
-receipt_differs : (r : ReceivedText) (s : State) → may_receive r s ≡ true → IsOrderly s → AllByRecursion (λ k. k ≢ r.receipt) (map (λ (x : Receipt). x.number) s.inbox)
+pub receipt_differs : (r : ReceivedText) (s : State) → may_receive r s ≡ true → IsOrderly s → AllByRecursion (λ k. k ≢ r.receipt) (map (λ (x : Receipt). x.number) s.inbox)
 receipt_differs r s may o =
     let h = or_cases (is_part_of r.receipt r.from r.key s.marks) (not (is_among r.receipt s.parts)) (and_true (not (is_known r.from r.key s)) (is_part_of r.receipt r.from r.key s.marks || not (is_among r.receipt s.parts)) may).1 in
     each s.inbox o.inbox o.free h
@@ -131,7 +131,7 @@ numbered_fold ps s is =
 
 -- one record more is the node's change for it
 
-after_mirrored : {B : Type 0} (c : Contents B) (s : State) (r : RecordText) (t : State) → after s r ≡ Some t → IsNumbered s → durable_by c t ≡ durable_after c r (durable_by c s)
+pub after_mirrored : {B : Type 0} (c : Contents B) (s : State) (r : RecordText) (t : State) → after s r ≡ Some t → IsNumbered s → durable_by c t ≡ durable_after c r (durable_by c s)
 after_mirrored c s (Queue r) t is n = let m = if_may_some (may_queue r s.queue) (with_queued r s) t is in ap (durable_by c) (sym m.1) ∙ queue_mirrored c r s
 after_mirrored c s (Done number session) t is n =
     let m = mapped_some (λ queue. record s { queue = queue }) (changed (is_live number) settled s.queue) t is in

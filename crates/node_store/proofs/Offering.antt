@@ -21,7 +21,7 @@ use Rattle.node_store.specs.Offers.{turn_of, place_of}
 use Rattle.node_store.proofs.Found.{seen_from, seen_there}
 use Rattle.node_store.proofs.Listed.{IsListed}
 
-same_address-refl : (a : Address) → same_address a a ≡ true
+pub same_address-refl : (a : Address) → same_address a a ≡ true
 same_address-refl a =
     and_both (a.zone == a.zone) _ (number-refl a.zone) (and_both (a.net == a.net) _ (number-refl a.net) (and_both (a.node == a.node) _ (number-refl a.node) (and_both (a.point == a.point) _ (number-refl a.point) (bytes-refl a.domain))))
 
@@ -42,23 +42,23 @@ live_is c e = go e.live
     go false = refl
 
 -- one among these that passes
-any_there : (p : Entry → Bool) (e : Entry) (xs : List Entry) → Member e xs → p e ≡ true → list_any p xs ≡ true
+pub any_there : (p : Entry → Bool) (e : Entry) (xs : List Entry) → Member e xs → p e ≡ true → list_any p xs ≡ true
 any_there p e [] there passes = absurd there
 any_there p e (x ∷ xs) (inl same) passes = or_true (p x) (list_any p xs) (subst (λ (y : Entry). p y ≡ true) same passes)
 any_there p e (x ∷ xs) (inr later) passes = or_true_right (p x) (list_any p xs) (any_there p e xs later passes)
 
-one_there : (p : Entry → Bool) (xs : List Entry) → list_any p xs ≡ true → (e : Entry) × Member e xs × (p e ≡ true)
+pub one_there : (p : Entry → Bool) (xs : List Entry) → list_any p xs ≡ true → (e : Entry) × Member e xs × (p e ≡ true)
 one_there p [] is = absurd (let clash : false ≡ true = is in cc clash)
 one_there p (x ∷ xs) is = ⊎_elim (λ here. (x, inl refl, here)) (λ later. let e = one_there p xs later in (e.0, inr e.1, e.2)) (or_cases (p x) (list_any p xs) is)
 
-turn_is : (t u : Turn) → same_turn t u ≡ true → t ≡ u
+pub turn_is : (t u : Turn) → same_turn t u ≡ true → t ≡ u
 turn_is t u same =
     let h = and_true (t.rank == u.rank) (t.number == u.number) same in
     let rank : t.rank ≡ u.rank = (Decides-eqb t.rank u.rank).0 h.0 in
     let number : t.number ≡ u.number = (Decides-eqb t.number u.number).0 h.1 in
     λ i. record { rank = rank i; number = number i }
 
-turn-refl : (t : Turn) → same_turn t t ≡ true
+pub turn-refl : (t : Turn) → same_turn t t ≡ true
 turn-refl t = and_both (t.rank == t.rank) (t.number == t.number) ((Decides-eqb t.rank t.rank).1 refl) ((Decides-eqb t.number t.number).1 refl)
 
 module _ (c : Contents ℕ) (queue : List Entry) (dest : Address) (after : Option (Flavour × ℕ)) (listed : AllByRecursion IsListed queue) where

@@ -42,6 +42,7 @@ use Rattle.node_store.proofs.OpenTold.{number_is, full_is, begins_is, stored_ope
 use Rattle.node_store.proofs.PartRecord.{broken_sound}
 use Rattle.node_store.proofs.Puts.{same_sizes}
 use Rattle.node_store.proofs.TellAlike.{shelf_told}
+use Rattle.node_store.proofs.GivenFiles.{same_alike}
 
 -- what a call ensures where it succeeded, and where it failed
 
@@ -189,7 +190,7 @@ module _ {D : Type 0} (tells : Bool) (content : D → World) (files : D → Worl
   failed_shelf count t = shelf_told m (content old) (content new) (files_there t) (alike (content old) (content new) (step t))
 
   sized : sizes_in tells (content new) m.given ≡ sizes_in tells (content old) m.given
-  sized = same_sizes tells (content old) (content new) m.given (λ t. (alike (content old) (content new) (step t)).gifts)
+  sized = same_sizes tells (content old) (content new) m.given (λ t. (alike (content old) (content new) (step t)).gifts) (λ t. same_alike m.books.folding.state (content old) (content new) m.given p.sound.memory.given (alike (content old) (content new) (step t)))
 
   abbrev passes : Stored → Stored → Type 0
   passes a b =

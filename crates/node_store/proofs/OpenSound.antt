@@ -1,5 +1,5 @@
 -- A store that was opened is sound, and tells what was opened.
-use Rattle.std.proofs.Common.{◌≡◌, inl, ◌≤◌, ℕ, List, length, Bool, true, refl, ◌∙◌, ap, subst, arith}
+use Rattle.std.proofs.Common.{◌≡◌, inl, ◌≤◌, ℕ, List, length, Bool, true, refl, sym, ◌∙◌, ap, subst, arith}
 use Rattle.disk_model.specs.World.{World}
 use Rattle.disk_model.specs.Changes.{Every, Follows}
 use Rattle.disk_model.specs.Moments.{Now}
@@ -12,12 +12,12 @@ use Rattle.node_store.specs.Books.{Books, IsBooks}
 use Rattle.node_store.specs.Finding.{IsFound, IsOpened}
 use Rattle.node_store.specs.Keeping.{AreReceipts, given_in}
 use Rattle.node_store.specs.Opening.{IsNewBooks, IsTidied, Recovers, greatest, opened_memory}
-use Rattle.node_store.specs.Stored.{IsSound, IsKept, stored_in}
+use Rattle.node_store.specs.Stored.{AreGone, IsSound, IsKept, stored_in}
 use Rattle.node_store.specs.Tending.{IsTended, Mirrors}
 use Rattle.node_store.specs.Worlds.{HasFiles, shelf_in}
 use Rattle.node_store.proofs.Alike.{AreAlike, alike_shelf, alike_files, all_by}
 use Rattle.node_store.proofs.Greatest.{among_greatest, each_below, numbers_below}
-use Rattle.node_store.proofs.Opened.{told_same}
+use Rattle.node_store.proofs.Opened.{given_gone, told_same}
 use Rattle.node_store.proofs.Recovering.{opened_is}
 
 mirrors_alike : (s : State) (f c : World) → Mirrors s f c → AreAlike s f c
@@ -62,7 +62,7 @@ module _ {D : Type 0} (files : D → World → Type 0) (moment : D → ℕ) (ima
           queued = each_below (λ (e : Entry). e.number) 0 s.queue;
         };
         kept = λ whole. opened_kept;
-        bodies = λ whole t. record { parts = tt; staged = tt };
+        bodies = λ whole t. record { parts = tt; staged = tt; given = subst (λ (ns : List ℕ). AreGone ns (content disk)) (sym (are_given (content disk) (told t disk))) (given_gone (content disk) s.inbox) };
       }
 
 -- what the disk read before opened to what is told now

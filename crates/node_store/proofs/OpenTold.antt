@@ -36,6 +36,7 @@ use Rattle.node_store.proofs.NameLaws.{one_in_name, in_not_out}
 use Rattle.node_store.proofs.PartOpened.{opened_memory, others_differ, orderly_opened, alike_opened}
 use Rattle.node_store.proofs.Puts.{same_sizes}
 use Rattle.node_store.proofs.TellAlike.{durable_told}
+use Rattle.node_store.proofs.GivenFiles.{same_alike}
 
 -- look-ups of what is told
 
@@ -186,7 +187,7 @@ module _ (m : Memory) (is : IsMemory m) (from : Address) (key : Key) (mark : Opt
 
       pub opened_told : (faults faults' : ℕ) → faults' ≡ faults → state_of tells told' faults' (opened_memory m hs from key mark n) ≡ opened from key (state_of tells told faults m)
       opened_told faults faults' calm =
-          let sized = same_sizes tells told told' m.given (λ t. (alike_opened m is from key mark n begins told told' (step t)).gifts) in
+          let sized = same_sizes tells told told' m.given (λ t. (alike_opened m is from key mark n begins told told' (step t)).gifts) (λ t. same_alike m.books.folding.state told told' m.given is.given (alike_opened m is from key mark n begins told told' (step t))) in
           let cs = sizes_in tells told m.given in
           let stock : stock_by (sizes_in tells told' m.given) (opened_memory m hs from key mark n) ≡ part_opened from key n 0 (stock_by cs m) =
           ap (λ (c : Contents ℕ). stock_by c (opened_memory m hs from key mark n)) sized ∙ stock_opened cs cs 0 refl refl refl refl in

@@ -1,6 +1,6 @@
 -- A store that was opened tells what the disk's content opens to.
 use Rattle.std.proofs.Common.{◌≡◌, ◌⊎◌, inl, inr, ℕ, ◌≤◌, ◌==◌, ◌||◌, List, [], ◌∷◌, ◌++◌, length, take, map, replicate, Option, Some, None, Bool, true, false, refl, sym, ◌∙◌, ap, subst}
-use Rattle.std.specs.Prelude.{if◌then◌else◌}
+use Rattle.std.specs.Prelude.{◌&&◌, if◌then◌else◌}
 use Rattle.std.specs.List.{AllByRecursion}
 use Rattle.std.proofs.Math.Seq.{take-append_seam}
 use Rattle.std.proofs.lemmas.List.{take-append-le}
@@ -18,7 +18,7 @@ use Rattle.node_store.specs.Contents.{entry_by, receipt_by, mark_by, durable_by}
 use Rattle.node_store.specs.Keeping.{given_in}
 use Rattle.node_store.specs.Names.{in_name, out_name}
 use Rattle.node_store.specs.Opening.{IsTidied, Recovers}
-use Rattle.node_store.specs.Stored.{front_of, told_in}
+use Rattle.node_store.specs.Stored.{front_of, told_in, AreGone}
 use Rattle.node_store.specs.Worlds.{bytes_of, or_else, gift_of, is_absent, contents_in, durable_in, shelf_in, HasLength, HasFront, HasNoOther, HasFiles, LedgerOf, OpensAs}
 use Rattle.node_store.proofs.Recovering.{opened_is, opens_so}
 
@@ -56,16 +56,16 @@ module _ (f : World) (given : List ℕ) where
 
   told_receipt : (r : Receipt) → is_among r.number given ≡ is_absent (f.own (in_name r.number)) → HasNoOther (in_name r.number) r.key.size f → receipt_by (contents_in f) r ≡ receipt_by (told_in f given) r
   told_receipt r is has = λ i.
-      record { number = r.number; from = r.from; key = r.key; bytes = go (f.own (in_name r.number)) refl (is_among r.number given) is i; secure = r.secure; answered = r.answered; given = sym is i }
+      record { number = r.number; from = r.from; key = r.key; bytes = go (f.own (in_name r.number)) refl (is_among r.number given) is i; secure = r.secure; answered = r.answered; given = flag (is_absent (f.own (in_name r.number))) (is_among r.number given) is i }
     where
-      gift : Option (List ℕ)
-      gift = gift_of (in_name r.number) r.key.size f.gifts
+      flag : (a b : Bool) → b ≡ a → a ≡ (a && b)
+      flag true b same = sym same
+      flag false b same = refl
 
       go : (o : Option (List ℕ)) → f.own (in_name r.number) ≡ o → (b : Bool) → b ≡ is_absent (f.own (in_name r.number)) → or_else (f.own (in_name r.number)) (gift_of (in_name r.number) r.key.size f.gifts)
-          ≡ (if b then gift_of (in_name r.number) r.key.size f.gifts else Some (front_of r.key.size (bytes_of (f.own (in_name r.number)))))
-      go None at true same = ap (λ (o : Option (List ℕ)). or_else o (gift_of (in_name r.number) r.key.size f.gifts)) at
+          ≡ (if b then or_else (f.own (in_name r.number)) (gift_of (in_name r.number) r.key.size f.gifts) else Some (front_of r.key.size (bytes_of (f.own (in_name r.number)))))
+      go o at true same = refl
       go None at false same = off (sym (same ∙ ap is_absent at))
-      go (Some b) at true same = off (same ∙ ap is_absent at)
       go (Some b) at false same =
           ap (λ (o : Option (List ℕ)). or_else o (gift_of (in_name r.number) r.key.size f.gifts)) at
           ∙ ap Some (sym (ap (λ (o : Option (List ℕ)). front_of r.key.size (bytes_of o)) at ∙ front_whole r.key.size b (has b at)))
@@ -76,6 +76,14 @@ module _ (f : World) (given : List ℕ) where
   told_inbox all (r ∷ rs) is within has = λ i. told_receipt r (is r (within r (inl refl))) has.0 i ∷ told_inbox all rs is (λ x there. within x (inr there)) has.1 i
 
 -- the receipts that count as given are those whose files don't stand
+
+pub given_gone : (f : World) (rs : List Receipt) → AreGone (given_in f rs) f
+given_gone f [] = tt
+given_gone f (r ∷ rs) = go (f.own (in_name r.number)) refl (given_gone f rs)
+  where
+    go : (o : Option (List ℕ)) → f.own (in_name r.number) ≡ o → AreGone (given_in f rs) f → AreGone (if is_absent (f.own (in_name r.number)) then r.number ∷ given_in f rs else given_in f rs) f
+    go None at rest = subst (λ (b : Bool). AreGone (if b then r.number ∷ given_in f rs else given_in f rs) f) (sym (ap is_absent at)) (at, rest)
+    go (Some bytes) at rest = subst (λ (b : Bool). AreGone (if b then r.number ∷ given_in f rs else given_in f rs) f) (sym (ap is_absent at)) rest
 
 or_later : (a b : Bool) → b ≡ true → a || b ≡ true
 or_later true b is = refl

@@ -26,6 +26,7 @@ use Rattle.node_store.proofs.Committed.{all_with}
 use Rattle.node_store.proofs.FirstParts.{all_without}
 use Rattle.node_store.proofs.NameLaws.{one_in_name, in_not_out}
 use Rattle.node_store.proofs.Receipts.{all-append}
+use Rattle.node_store.proofs.GivenFiles.{still_gone, same_alike}
 
 -- parts that stay
 
@@ -176,4 +177,5 @@ module _ (m : Memory) (is : IsMemory m) (from : Address) (key : Key) (mark : Opt
           (λ p h differs. (h.0, step.others.others (in_name p.number) (λ same. differs (one_in_name p.number n same)) ∙ h.1, h.2)) left
           (all_without (has_file from key) (λ (p : Part). HasLength (in_name p.number) p.have d) m.parts has.parts) others_differ) ready;
       staged = all_by (λ (p : Put). HasLength (out_name p.number) p.size d) (λ (p : Put). HasLength (out_name p.number) p.size c) (λ p h. (h.0, step.others.others (out_name p.number) (λ same. in_not_out n p.number (sym same)) ∙ h.1, h.2)) m.staged has.staged;
+      given = still_gone m.given d c has.given (same_alike m.books.folding.state d c m.given is.given alike_opened);
     }

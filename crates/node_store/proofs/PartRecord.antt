@@ -26,6 +26,7 @@ use Rattle.node_store.proofs.Calls.{standing, is_told}
 use Rattle.node_store.proofs.NameLaws.{in_not_ledger, out_not_ledger}
 use Rattle.node_store.proofs.RecordCall.{IsRecording, recorded_failed, recorded_now, recorded_kept}
 use Rattle.node_store.proofs.RecordTold.{same_stored, record_told, OthersStay, breaks_told}
+use Rattle.node_store.proofs.GivenFiles.{still_gone}
 
 -- What such a call is given: that the store was in order, what the disk did, the books with the record, and how that changes what
 -- is told, and any world with that file.
@@ -53,6 +54,7 @@ pub bodies_stay : (told told' : World) (m : Memory) (b : Books) (ps : List Part)
 bodies_stay told told' m b ps only has parts = record {
   parts = all_by (λ (p : Part). HasLength (in_name p.number) p.have told) (λ (p : Part). HasLength (in_name p.number) p.have told') (λ p h. (h.0, only.others (in_name p.number) (in_not_ledger p.number) ∙ h.1, h.2)) ps parts;
   staged = all_by (λ (p : Put). HasLength (out_name p.number) p.size told) (λ (p : Put). HasLength (out_name p.number) p.size told') (λ p h. (h.0, only.others (out_name p.number) (out_not_ledger p.number) ∙ h.1, h.2)) m.staged has.staged;
+  given = still_gone m.given told told' has.given (λ n among. only.others (in_name n) (in_not_ledger n));
 }
 
 module _ {D : Type 0} (tells : Bool) (content : D → World) (files : D → World → Type 0) (faults moment : D → ℕ) (images : D → ℕ → World → Type 0) (old new : D) (m : Memory) (b : Books) (ps : List Part) (name payload : List ℕ) (r : RecordText) (f : Sizes → Sizes) (g : Stock → Stock)

@@ -15,6 +15,10 @@ abbrev rebooked : Books → List (List ℕ) → ℕ → ℕ → List ℕ → Sta
 rebooked b payloads reserved opened seats state =
     record { payloads = payloads; reserved = reserved; opened = opened; seats = seats; folding = record b.folding { state = state } }
 
+pub same-then : (a b c : Books) → AreSame a b → AreSame b c → AreSame a c
+same-then a b c first second =
+    record { payloads = second.payloads ∙ first.payloads; opened = second.opened ∙ first.opened; seats = second.seats ∙ first.seats; state = second.state ∙ first.state; holds = second.holds ∙ first.holds }
+
 -- what is told changes by the places alone
 pub places_told : (tells : Bool) (w : World) (faults : ℕ) (m : Memory) (b : Books) (n : ℕ) → AreSame m.books b → b.reserved ≡ n
     → state_of tells w faults (record m { books = b }) ≡ record (state_of tells w faults m) { reserved = n }
@@ -62,5 +66,5 @@ module _ {D : Type 0} (tells : Bool) (content : D → World) (moment : D → ℕ
   sound_same disk m b same books s = record {
     memory = memory_same m b same books s.memory;
     kept = λ whole w now. kept_same tells (content disk) m b same w (s.kept whole w now);
-    bodies = λ whole t. let h = s.bodies whole t in record { parts = h.parts; staged = h.staged };
+    bodies = λ whole t. let h = s.bodies whole t in record { parts = h.parts; staged = h.staged; given = h.given };
   }

@@ -28,6 +28,7 @@ use Rattle.node_store.proofs.Puts.{stored_put, put_told, same_sizes, one_length}
 use Rattle.node_store.proofs.PutSound.{told_holds, memory_put, bodies_put}
 use Rattle.node_store.proofs.TellAlike.{front_there, shelf_told}
 use Rattle.node_store.proofs.Quiet.{IsQuiet, quiet_kept, quiet_now, quiet_call, retold}
+use Rattle.node_store.proofs.GivenFiles.{same_alike}
 
 -- the first part with that number
 
@@ -155,7 +156,7 @@ module _ {D : Type 0} (tells : Bool) (content : D → World) (files : D → Worl
   same_failed t = shelf_told m (content old) (content new) (files_there t) (alike t)
 
   sized : sizes_in tells (content new) m.given ≡ sizes_in tells (content old) m.given
-  sized = same_sizes tells (content old) (content new) m.given (λ t. (alike t).gifts)
+  sized = same_sizes tells (content old) (content new) m.given (λ t. (alike t).gifts) (λ t. same_alike m.books.folding.state (content old) (content new) m.given p.sound.memory.given (alike t))
 
   abbrev passes : Stored → Stored → Type 0
   passes a b =

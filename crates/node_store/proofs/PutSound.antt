@@ -17,7 +17,7 @@ use Rattle.node_store.specs.Stored.{Part, Put, Memory, part_by, grown, IsPart, I
 use Rattle.node_store.specs.Tied.{Apart, AllApart}
 use Rattle.node_store.specs.Worlds.{HasLength}
 use Rattle.node_store.proofs.NameLaws.{one_in_name, in_not_out}
-use Rattle.node_store.proofs.Puts.{orderly_grown, has_longer}
+use Rattle.node_store.proofs.Puts.{orderly_grown, given_put, has_longer}
 
 -- the open part with that number is the only one
 
@@ -85,7 +85,7 @@ module _ (number n : ℕ) where
 
 pub bodies_put : (number at : ℕ) (bytes : List ℕ) (told told' : World) (m : Memory) → HasLength (in_name number) at told → OnOwn (Rewrites (in_name number) (Holds at bytes)) told told' → HasBodies m told
     → HasBodies (record m { parts = map (grown number (length bytes)) m.parts }) told'
-bodies_put number at bytes told told' m body step has = record { parts = parts m.parts has.parts; staged = staged m.staged has.staged }
+bodies_put number at bytes told told' m body step has = record { parts = parts m.parts has.parts; staged = staged m.staged has.staged; given = given_put number at bytes told told' step m.given has.given }
   where
     one : (p : Part) → HasLength (in_name p.number) p.have told → HasLength (in_name p.number) (grown number (length bytes) p).have told'
     one p h = go (p.number == number) refl

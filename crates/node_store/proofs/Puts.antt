@@ -1,12 +1,14 @@
 -- Bytes are put behind those of an open part: what is told then.
-use Rattle.std.proofs.Common.{◌≡◌, ℕ, ◌+◌, ◌==◌, List, [], ◌∷◌, ◌++◌, length, drop, map, Option, Some, None, Bool, true, false, ◌&&◌, refl, sym, ◌∙◌, ap, subst, arith, length-append, append-nil, add-zero}
+use Rattle.std.proofs.Common.{◌≡◌, ℕ, ◌+◌, ◌==◌, List, [], ◌∷◌, ◌++◌, length, drop, map, Option, Some, None, Bool, true, false, ◌&&◌, inl, inr, refl, sym, ◌∙◌, ap, subst, arith, length-append, append-nil, add-zero}
 use Rattle.std.specs.Prelude.{option_map, if◌then◌else◌}
 use Rattle.std.specs.List.{AllByRecursion, list_all}
+use Rattle.std.proofs.lemmas.Bool.{cases_eq}
 use Rattle.std.proofs.lemmas.Bool.Decides.{Decides-eqb}
 use Rattle.std.proofs.lemmas.List.{take_all, drop_all}
 use Rattle.disk_model.specs.World as W
 use Rattle.disk_model.specs.World.{World}
 use Rattle.disk_model.specs.Changes.{OnOwn, Rewrites, Holds}
+use Rattle.ledger_rec.specs.Fold.{is_among}
 use Rattle.node_model.specs.Items.{Mark, MarkOf}
 use Rattle.node_model.specs.Stocks.{put_part, part_put}
 use Rattle.node_model.specs.StoreStates.{stored_after}
@@ -14,9 +16,10 @@ use Rattle.node_model.specs.Stores.{with_bytes}
 use Rattle.node_model.proofs.Lists.{some_inj, off}
 use Rattle.node_store.specs.Contents.{Contents, durable_by}
 use Rattle.node_store.specs.Names.{in_name, out_name}
-use Rattle.node_store.specs.Stored.{Part, Put, Memory, front_of, told_in, sizes_in, are_apart, is_drawn, is_orderly, told_parts, part_by, staged_by, stock_by, stored_in, state_of, grown, HasBodies}
-use Rattle.node_store.specs.Worlds.{bytes_of, outside_in, gift_told, HasLength, HasFiles}
-use Rattle.node_store.proofs.Alike.{AreAlike, takes_alike}
+use Rattle.node_store.specs.Stored.{Part, Put, Memory, front_of, told_in, sizes_in, are_apart, is_drawn, is_orderly, told_parts, part_by, staged_by, stock_by, stored_in, state_of, grown, AreGone, HasBodies}
+use Rattle.node_store.specs.Worlds.{bytes_of, or_else, gift_of, is_absent, outside_in, gift_told, HasLength, HasFiles}
+use Rattle.node_store.proofs.Alike.{AreAlike, takes_alike, all_by}
+use Rattle.node_store.proofs.GivenFiles.{SameGiven, and_false, both_gone}
 use Rattle.node_store.proofs.NameLaws.{one_in_name, in_not_out}
 use Rattle.node_store.proofs.TellAlike.{front_whole, durable_told}
 
@@ -47,10 +50,29 @@ module _ (number n : ℕ) where
       one true = refl
       one false = refl
 
--- of a disk that tells, only the gifts matter for the numbers of bytes
-pub same_sizes : (tells : Bool) (w v : World) (given : List ℕ) → (tells ≡ true → v.gifts ≡ w.gifts) → sizes_in tells v given ≡ sizes_in tells w given
-same_sizes true w v given same = ap (λ (g : List W.Gift). sizes_in true (record w { gifts = g }) given) (same refl)
-same_sizes false w v given same = refl
+-- what was given is gone after a put too
+pub given_put : (number at : ℕ) (bytes : List ℕ) (d c : World) → OnOwn (Rewrites (in_name number) (Holds at bytes)) d c → (given : List ℕ) → AreGone given d → AreGone given c
+given_put number at bytes d c step given gone = all_by (λ n. d.own (in_name n) ≡ None) (λ n. c.own (in_name n) ≡ None) one given gone
+  where
+    one : (n : ℕ) → d.own (in_name n) ≡ None → c.own (in_name n) ≡ None
+    one n none = elim (cases_eq n number) [
+      | inl same ↦ let named : in_name n ≡ in_name number = ap in_name same in ap c.own named ∙ step.own.absent (ap d.own (sym named) ∙ none)
+      | inr other ↦ step.own.others (in_name n) (λ e. other (one_in_name n number e)) ∙ none
+    ]
+
+-- of a disk that tells, the gifts and the files that may have been given matter for the numbers of bytes
+pub same_sizes : (tells : Bool) (w v : World) (given : List ℕ) → (tells ≡ true → v.gifts ≡ w.gifts) → (tells ≡ true → SameGiven given w v) → sizes_in tells v given ≡ sizes_in tells w given
+same_sizes true w v given gifts same = λ i. record { queued = λ n size. size; received = λ n size. sized n size (is_among n given) refl i; front = λ n len. len; given = λ n. flag n (is_among n given) refl i }
+  where
+    sized : (n size : ℕ) (b : Bool) → is_among n given ≡ b
+        → (if b then option_map length (or_else (v.own (in_name n)) (gift_of (in_name n) size v.gifts)) else Some size) ≡ (if b then option_map length (or_else (w.own (in_name n)) (gift_of (in_name n) size w.gifts)) else Some size)
+    sized n size true is = λ i. option_map length (or_else (same refl n is i) (gift_of (in_name n) size (gifts refl i)))
+    sized n size false is = refl
+
+    flag : (n : ℕ) (b : Bool) → is_among n given ≡ b → (is_absent (v.own (in_name n)) && b) ≡ (is_absent (w.own (in_name n)) && b)
+    flag n true is = ap (λ (o : Option (List ℕ)). is_absent o && true) (same refl n is)
+    flag n false is = and_false (is_absent (v.own (in_name n))) ∙ sym (and_false (is_absent (w.own (in_name n))))
+same_sizes false w v given gifts same = refl
 
 -- the bytes
 holds_behind : (at : ℕ) (bytes b c : List ℕ) → length b ≡ at → Holds at bytes b c → c ≡ b ++ bytes
@@ -140,7 +162,7 @@ module _ (tells : Bool) (told told' : World) (number at : ℕ) (bytes : List ℕ
 
   pub put_told : (faults faults' : ℕ) → faults' ≡ faults → state_of tells told' faults' put_memory ≡ with_bytes number bytes (state_of tells told faults m)
   put_told faults faults' same =
-      let sized = same_sizes tells told told' m.given (λ t. (alike t).gifts) in
+      let sized = same_sizes tells told told' m.given (λ t. (alike t).gifts) (λ t. both_gone m.given told told' (has t).given (given_put number at bytes told told' (step t) m.given (has t).given)) in
       let parts = ap (map (part_by (sizes_in tells told m.given))) (told_grown number (length bytes) m.drawn m.parts) ∙ sizes_grown number (length bytes) tells told m.given (told_parts m.drawn m.parts) in
       let stock : stock_by (sizes_in tells told' m.given) put_memory ≡ part_put number (λ k. k + length bytes) (stock_by (sizes_in tells told m.given) m) =
       ap (λ (c : Contents ℕ). stock_by c put_memory) sized ∙ (λ i. record { state = durable_by (sizes_in tells told m.given) m.books.folding.state; parts = parts i; staged = map (staged_by (sizes_in tells told m.given)) m.staged }) in

@@ -36,6 +36,8 @@ use Rattle.node_store.proofs.Mirrors.{map-append}
 use Rattle.node_store.proofs.Positive.{some_fold}
 use Rattle.node_store.proofs.QueueKeeps.{HasNew, new_there, new_seen, files_queued, memory_queued, bodies_queued, all_some}
 use Rattle.node_store.proofs.QueueTold.{HasPut, all_put, unstaged, batch_of, batch_noted, queue_seen, slots_seen, durable_queued, stored_batched, batched_told}
+use Rattle.node_store.specs.Names.{in_name}
+use Rattle.node_store.proofs.NameLaws.{in_not_ledger}
 
 -- What a batch is asked for, as the fold sees it.
 pub record IsAsked (taken request : Option ℕ) (fs : List NewEntry) (m : Memory) : Type 0 where
@@ -146,7 +148,7 @@ module _ {D : Type 0} (tells : Bool) (content : D → World) (files : D → Worl
         appended_failed tells content faults moment images old new m (AllSynced (files old) fresh) (map spelling rs) ask.state after appending
         (Queue_all taken request fs) (Slots (slots_in fs s.queue)) (with_all_queued taken request fs (state_of tells (content old) (faults old) m)) (slots_are tells (content old) (faults old) m taken request fs ask.put, fits, refl)
         would_tell (record m { broken = Some (faults new) })
-        (breaks_same tells (content old) (content new) (faults old) (faults new) m (Queue_all taken request fs) tt rose (λ t. stored_only (content old) (content new) (only t) m) (λ t. (only t).gifts))
+        (breaks_same tells (content old) (content new) (faults old) (faults new) m (Queue_all taken request fs) tt rose (λ t. stored_only (content old) (content new) (only t) m) (λ t. (only t).gifts) (λ t n among. (only t).others (in_name n) (in_not_ledger n)))
 
     -- the records are durable
     module _ (b : Books) (books : IsBooks b) (batched : IsBatched (map spelling rs) rs m.seat m.books b) (durable : Every (Now moment images new) (LedgerIs b.payloads)) (synced : Every (Now moment images new) (AllSynced (files old) fresh)) (calm : faults new ≡ faults old) where

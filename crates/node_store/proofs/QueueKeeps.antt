@@ -32,6 +32,7 @@ use Rattle.node_store.proofs.Mirrors.{Here, Later, changed_is}
 use Rattle.node_store.proofs.NameLaws.{in_not_ledger, out_not_ledger}
 use Rattle.node_store.proofs.QueueTold.{HasPut, unstaged}
 use Rattle.node_store.proofs.TellAlike.{front_whole}
+use Rattle.node_store.proofs.GivenFiles.{still_gone}
 
 -- lists
 
@@ -152,6 +153,7 @@ module _ (m : Memory) (b : Books) (taken request : Option ℕ) (fs : List NewEnt
   bodies_queued d c only has = record {
     parts = all_by (λ (p : Part). HasLength (in_name p.number) p.have d) (λ (p : Part). HasLength (in_name p.number) p.have c) (λ p h. (h.0, only.others (in_name p.number) (in_not_ledger p.number) ∙ h.1, h.2)) m.parts has.parts;
     staged = all_left (λ (p : Put). some_passes (λ (g : NewEntry). g.number == p.number) fs) (λ (p : Put). HasLength (out_name p.number) p.size d) (λ (p : Put). HasLength (out_name p.number) p.size c) (λ p other h. (h.0, only.others (out_name p.number) (out_not_ledger p.number) ∙ h.1, h.2)) m.staged has.staged;
+    given = still_gone m.given d c has.given (λ n among. only.others (in_name n) (in_not_ledger n));
   }
 
 -- Files.

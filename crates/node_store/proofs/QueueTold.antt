@@ -44,6 +44,8 @@ use Rattle.node_store.proofs.Mirrors.{map-append, answer_mirrored}
 use Rattle.node_store.proofs.Numbered.{numbered_fold}
 use Rattle.node_store.proofs.PlanLemmas.{find_mapped}
 use Rattle.node_store.proofs.Puts.{same_sizes}
+use Rattle.node_store.specs.Names.{in_name}
+use Rattle.node_store.proofs.NameLaws.{in_not_ledger}
 
 -- The words of a record, and back.
 
@@ -240,7 +242,7 @@ module _ (tells : Bool) (told told' : World) (faults faults' : ℕ) (m : Memory)
 
   pub batched_told : state_of tells told' faults' after_batch ≡ with_all_queued taken request fs (state_of tells told faults m)
   batched_told =
-      let sized = same_sizes tells told told' m.given (λ t. (only t).gifts) in
+      let sized = same_sizes tells told told' m.given (λ t. (only t).gifts) (λ t n among. (only t).others (in_name n) (in_not_ledger n)) in
       let stock = ap (λ (c : Contents ℕ). stock_by c after_batch) sized ∙ stock_batched (sizes_in tells told m.given) in
       let content = go tells (λ t. stored_batched (only t)) in
       let more : length (map noted rs) ≡ length (map spelling rs) = length-map rs noted ∙ sym (length-map rs spelling) in

@@ -1,6 +1,6 @@
 -- Reading an own file.
 use Rattle.std.proofs.Common.{◌≡◌, ℕ, ◌==◌, List, length, take, drop, map, Option, Some, None, Bool, true, false, refl, sym, ◌∙◌, ap, subst, arith}
-use Rattle.std.specs.Prelude.{IsSome, find, option_map, if◌then◌else◌}
+use Rattle.std.specs.Prelude.{IsSome, find, option_map, not, ◌&&◌, ◌||◌, if◌then◌else◌}
 use Rattle.disk_model.specs.World.{World}
 use Rattle.disk_model.specs.Changes.{Every, Same, Stands}
 use Rattle.disk_model.specs.Moments.{Steps}
@@ -21,10 +21,11 @@ use Rattle.node_store.specs.Contents.{Contents, entry_by, receipt_by}
 use Rattle.node_store.specs.Names.{in_name, out_name}
 use Rattle.node_store.specs.Stored as T
 use Rattle.node_store.specs.Stored.{Memory, front_of, told_in, sizes_in, stored_in, state_of, IsSound}
-use Rattle.node_store.specs.Worlds.{bytes_of, gift_of, is_absent, contents_in, shelf_in, HasLength, HasNoOther, HasFiles}
+use Rattle.node_store.specs.Worlds.{bytes_of, or_else, gift_of, is_absent, contents_in, shelf_in, HasLength, HasNoOther, HasFiles}
 use Rattle.node_store.proofs.AppendTold.{breaks_same}
 use Rattle.node_store.proofs.Calls.{standing}
 use Rattle.node_store.proofs.Found.{seen_from, seen_there, views_agree, only_one, is_found, found_is, found_seen}
+use Rattle.node_store.proofs.GivenFiles.{and_false}
 use Rattle.node_store.proofs.Numbered.{numbered_fold}
 use Rattle.node_store.proofs.Quiet.{quiet_call, quiet_now, retold}
 use Rattle.node_store.proofs.SettleCall.{IsLiveEntry, live_entry}
@@ -65,7 +66,7 @@ module _ {D : Type 0} (tells : Bool) (content : D → World) (faults moment : D 
   pub same_failed : (asked : _) → Rattle.node_model.specs.Stores.TouchesDisk asked → Increased (faults old) (faults new) → StoreKept (standing tells content faults moment images old m) asked (Refuses Disk) (standing tells content faults moment images new (record m { broken = Some (faults new) }))
   same_failed asked touches rose =
       same_call asked (Refuses Disk) (record m { broken = Some (faults new) }) told_same
-      (breaks_same tells (content old) (content new) (faults old) (faults new) m asked touches rose (λ t. ap (λ (w : World). stored_in w m) (same t)) (λ t. ap (λ (w : World). w.gifts) (same t)))
+      (breaks_same tells (content old) (content new) (faults old) (faults new) m asked touches rose (λ t. ap (λ (w : World). stored_in w m) (same t)) (λ t. ap (λ (w : World). w.gifts) (same t)) (λ t n among. ap (λ (w : World). w.own (in_name n)) (same t)))
 
 pub if_told : (tells : Bool) (s : Stored) (P : Stored → Type 0) → (tells ≡ true → P s) → IfTold (if tells then Some s else None) P
 if_told true s P has = has refl
@@ -128,14 +129,19 @@ entry_size c number items queue x same found =
     ∙ ap (option_map (entry_by c)) (found_seen (λ (e : QueueItem). e.number) (λ (e : Entry). e.number) entry (λ e. refl) number items ∙ ap (option_map entry) found))
 
 -- The file of a receipt that wasn't given.
-pub record IsKeptReceipt (number : ℕ) (given : List ℕ) (s : State) : Type 0 where
+pub record IsKeptReceipt (number : ℕ) (given : ℕ → Bool) (s : State) : Type 0 where
   pub item : Receipt
   pub there : Member item s.inbox
   pub numbered : item.number ≡ number
-  pub kept : is_among item.number given ≡ false
+  pub kept : given item.number ≡ false
+
+-- what isn't told as given doesn't count as absent and given
+not_given : (tells absent among : Bool) → ((not tells || absent) && among) ≡ false → (absent && among) ≡ false
+not_given true absent among none = none
+not_given false absent among none = ap (λ (b : Bool). absent && b) none ∙ and_false absent
 
 module _ (tells : Bool) (told : World) (faults : ℕ) (m : Memory) (number : ℕ) (is : IsKept number (state_of tells told faults m)) where
-  pub kept : IsKeptReceipt number m.given m.books.folding.state
+  pub kept : IsKeptReceipt number (sizes_in tells told m.given).given m.books.folding.state
   kept =
       let r = seen_from (receipt_by (sizes_in tells told m.given)) is.receipt m.books.folding.state.inbox is.there in
       record {
@@ -151,7 +157,8 @@ module _ (tells : Bool) (told : World) (faults : ℕ) (m : Memory) (number : ℕ
       let r = kept.item in
       let views = ap (λ (d : Shelf). d.state.inbox) same in
       let absent : is_absent (told.own (in_name r.number)) ≡ false =
-      ap (λ (x : N.Receipt). x.given) (views_agree (receipt_by (contents_in told)) (receipt_by (told_in told m.given)) r m.books.folding.state.inbox views kept.there) ∙ kept.kept in
+      ap (λ (x : N.Receipt). x.given) (views_agree (receipt_by (contents_in told)) (receipt_by (told_in told m.given)) r m.books.folding.state.inbox views kept.there)
+      ∙ not_given tells (is_absent (told.own (in_name r.number))) (is_among r.number m.given) kept.kept in
       let other = Each-member (λ (x : Receipt). HasNoOther (in_name x.number) x.key.size told) r m.books.folding.state.inbox has.received kept.there in
       subst (λ (n : ℕ). HasLength (in_name n) r.key.size told) kept.numbered (go (told.own (in_name r.number)) refl absent other)
     where
@@ -167,11 +174,15 @@ module _ (tells : Bool) (told : World) (faults : ℕ) (m : Memory) (number : ℕ
         receipt = receipt_by (told_in told m.given) r;
         there = seen_there (receipt_by (told_in told m.given)) r m.books.folding.state.inbox kept.there;
         numbered = kept.numbered;
-        some =
-            ap (λ (b : Bool). if b then gift_of (in_name r.number) r.key.size told.gifts else Some (front_of r.key.size (bytes_of (told.own (in_name r.number))))) kept.kept
-            ∙ ap (λ (f : Option (List ℕ)). Some (front_of r.key.size (bytes_of f))) file
-            ∙ ap Some (front_whole r.key.size bytes long);
+        some = go (is_among r.number m.given) file;
       }
+    where
+      go : (b : Bool) → told.own (in_name kept.item.number) ≡ Some bytes
+          → (if b then or_else (told.own (in_name kept.item.number)) (gift_of (in_name kept.item.number) kept.item.key.size told.gifts) else Some (front_of kept.item.key.size (bytes_of (told.own (in_name kept.item.number))))) ≡ Some bytes
+      go true file = ap (λ (f : Option (List ℕ)). or_else f (gift_of (in_name kept.item.number) kept.item.key.size told.gifts)) file
+      go false file =
+          ap (λ (f : Option (List ℕ)). Some (front_of kept.item.key.size (bytes_of f))) file
+          ∙ ap Some (front_whole kept.item.key.size bytes long)
 
   -- as an inbox in memory has it
   module _ (items : List InboxItem) (inbox : map receipt items ≡ m.books.folding.state.inbox) where

@@ -71,10 +71,10 @@ module _ (told : World) (given : List ℕ) (s : State) (q : Part) (session : ℕ
       let there : c.own (in_name q.number) ≡ Some body.0 = own ∙ body.1 in
       let front : front_of q.key.size (bytes_of (told.own (in_name q.number))) ≡ body.0 =
       ap (λ (f : Option (List ℕ)). front_of q.key.size (bytes_of f)) body.1 ∙ front_whole q.key.size body.0 (body.2 ∙ all) in
-      let bytes : or_else (c.own (in_name q.number)) (gift_of (in_name q.number) q.key.size c.gifts) ≡ (if is_among q.number given then gift_of (in_name q.number) q.key.size told.gifts else Some (front_of q.key.size (bytes_of (told.own (in_name q.number))))) =
+      let bytes : or_else (c.own (in_name q.number)) (gift_of (in_name q.number) q.key.size c.gifts) ≡ (if is_among q.number given then or_else (told.own (in_name q.number)) (gift_of (in_name q.number) q.key.size told.gifts) else Some (front_of q.key.size (bytes_of (told.own (in_name q.number))))) =
       ap (λ (f : Option (List ℕ)). or_else f (gift_of (in_name q.number) q.key.size c.gifts)) there ∙ ap Some (sym front)
-      ∙ sym (ap (λ (b : Bool). if b then gift_of (in_name q.number) q.key.size told.gifts else Some (front_of q.key.size (bytes_of (told.own (in_name q.number))))) ungiven) in
-      let is_given : is_absent (c.own (in_name q.number)) ≡ is_among q.number given = ap is_absent there ∙ sym ungiven in
+      ∙ sym (ap (λ (b : Bool). if b then or_else (told.own (in_name q.number)) (gift_of (in_name q.number) q.key.size told.gifts) else Some (front_of q.key.size (bytes_of (told.own (in_name q.number))))) ungiven) in
+      let is_given : is_absent (c.own (in_name q.number)) ≡ (is_absent (told.own (in_name q.number)) && is_among q.number given) = ap is_absent there ∙ sym (ap (λ (f : Option (List ℕ)). is_absent f && is_among q.number given) body.1) in
       λ i. record { number = q.number; from = q.from; key = q.key; bytes = bytes i; secure = secure; answered = false; given = is_given i }
 
   -- and it has the told state with the receipt

@@ -1,6 +1,6 @@
 -- One record more of an open part, and only the ledger changed on the disk: what is told then.
 use Rattle.std.proofs.Common.{◌≡◌, ℕ, ◌+◌, ◌-◌, List, [], ◌∷◌, ◌++◌, length, drop, map, Option, Some, None, Result, Ok, Err, Bool, true, false, refl, sym, ◌∙◌, ap, arith, length-append, length-drop, append-nil}
-use Rattle.std.specs.Prelude.{option_map, if◌then◌else◌}
+use Rattle.std.specs.Prelude.{option_map, ◌&&◌, if◌then◌else◌}
 use Rattle.std.proofs.lemmas.List.{drop-append-le}
 use Rattle.ftn_addr.specs.Counts.{Increased}
 use Rattle.disk_model.specs.World as W
@@ -22,7 +22,7 @@ use Rattle.node_store.specs.Contents.{Contents, durable_by}
 use Rattle.node_store.specs.Logs.{noted, logged, log_of}
 use Rattle.node_store.specs.Names.{in_name, out_name}
 use Rattle.node_store.specs.Stored.{Part, Memory, front_of, told_in, sizes_in, told_parts, part_by, stock_by, stored_in, state_of}
-use Rattle.node_store.specs.Worlds.{bytes_of, gift_of, takes_in, outside_in, gift_told}
+use Rattle.node_store.specs.Worlds.{bytes_of, or_else, gift_of, is_absent, takes_in, outside_in, gift_told}
 use Rattle.node_store.proofs.Alike.{ledger_alike, takes_alike}
 use Rattle.node_store.proofs.Calls.{is_told}
 use Rattle.node_store.proofs.NameLaws.{in_not_ledger, out_not_ledger}
@@ -55,9 +55,9 @@ module _ (told told' : World) (only : Only ledger_name told told') (given : List
   pub same_told : told_in told' given ≡ told_in told given
   same_told = λ i. record {
     queued = λ number size. front_of size (bytes_of (only.others (out_name number) (out_not_ledger number) i));
-    received = λ number size. if is_among number given then gift_of (in_name number) size (only.gifts i) else Some (front_of size (bytes_of (only.others (in_name number) (in_not_ledger number) i)));
+    received = λ number size. if is_among number given then or_else (only.others (in_name number) (in_not_ledger number) i) (gift_of (in_name number) size (only.gifts i)) else Some (front_of size (bytes_of (only.others (in_name number) (in_not_ledger number) i)));
     front = λ number len. front_of len (bytes_of (only.others (in_name number) (in_not_ledger number) i));
-    given = λ number. is_among number given;
+    given = λ number. is_absent (only.others (in_name number) (in_not_ledger number) i) && is_among number given;
   }
 
 -- The same memory tells the same then.
@@ -94,7 +94,7 @@ module _ (tells : Bool) (told told' : World) (faults faults' : ℕ) (m : Memory)
   pub record_told : state_of tells told' faults' with_record ≡ placed (changed f g (noted r ∷ []) (state_of tells told faults m))
   record_told =
       let stock : stock_by (sizes_in tells told' m.given) with_record ≡ f (stock_by (sizes_in tells told m.given) m) =
-      ap (λ (c : Contents ℕ). stock_by c with_record) (same_sizes tells told told' m.given (λ t. (only t).gifts)) ∙ sizes in
+      ap (λ (c : Contents ℕ). stock_by c with_record) (same_sizes tells told told' m.given (λ t. (only t).gifts) (λ t n among. (only t).others (in_name n) (in_not_ledger n))) ∙ sizes in
       let records : length b.payloads ≡ length m.books.payloads + 1 = ap length payloads ∙ length-append m.books.payloads (payload ∷ []) in
       let appended : length (log_of b.seats (drop b.opened b.payloads)) ≡ length (log_of m.books.seats (drop m.books.opened m.books.payloads)) + 1 =
       ap length log ∙ length-append (log_of m.books.seats (drop m.books.opened m.books.payloads)) (record { seat = m.seat; entry = noted r } ∷ []) in
@@ -148,7 +148,7 @@ module _ (tells : Bool) (told told' : World) (faults faults' : ℕ) (m : Memory)
   }
     where
       sized : sizes_in tells told' m.given ≡ sizes_in tells told m.given
-      sized = same_sizes tells told told' m.given (λ t. (only t).gifts)
+      sized = same_sizes tells told told' m.given (λ t. (only t).gifts) (λ t n among. (only t).others (in_name n) (in_not_ledger n))
 
       content : (b : Bool) → (b ≡ true → passes (stored_in told m) (stored_in told' broken_with)) → TellsOn passes (if b then Some (stored_in told m) else None) (if b then Some (stored_in told' broken_with) else None)
       content true is = is refl

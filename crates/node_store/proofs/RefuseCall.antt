@@ -44,6 +44,7 @@ use Rattle.node_store.proofs.PartRecord.{bodies_stay}
 use Rattle.node_store.proofs.Places.{part_same}
 use Rattle.node_store.proofs.Receipts.{all_marks_left, above_zero}
 use Rattle.node_store.proofs.RecordTold.{same_stored, stored_more, record_told}
+use Rattle.node_store.proofs.NameLaws.{in_not_ledger}
 
 -- the fold takes the refusal
 pub refused_step : (s : State) (r : RefusedText) → r.session ≢ 0 → is_known r.from r.key s ≡ false → fold_step s (Refused r) ≡ Some (with_refusal r s)
@@ -163,7 +164,7 @@ module _ {D : Type 0} (tells : Bool) (content : D → World) (files : D → Worl
       (refused who r.session r.reason (state_of tells (content old) (faults old) m)) refl
       (would_tell tells (content old) (faults old) m (file_refused who) (file_refused who) (Lasting.with_refusal who) (noted (Refused r) ∷ []) (λ s. refl))
       (record m { broken = Some (faults new) })
-      (breaks_same tells (content old) (content new) (faults old) (faults new) m (Refuse_file r.from r.key r.session r.reason) tt rose (λ t. same_stored (content old) (content new) m (only_ledger t)) (λ t. (only_ledger t).gifts))
+      (breaks_same tells (content old) (content new) (faults old) (faults new) m (Refuse_file r.from r.key r.session r.reason) tt rose (λ t. same_stored (content old) (content new) m (only_ledger t)) (λ t. (only_ledger t).gifts) (λ t n among. (only_ledger t).others (in_name n) (in_not_ledger n)))
 
   -- the refusal is durable
   module _ (b : Books) (payloads : b.payloads ≡ m.books.payloads ++ payload ∷ []) (places : b.reserved ≡ m.books.reserved - 1) (opened : b.opened ≡ m.books.opened) (seats : b.seats ≡ m.books.seats ++ m.seat ∷ []) (folded : b.folding.state ≡ with_refusal r m.books.folding.state)

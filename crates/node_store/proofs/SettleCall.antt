@@ -1,5 +1,5 @@
 -- Settling a live entry.
-use Rattle.std.proofs.Common.{◌≡◌, ◌≢◌, ⊎_elim, ℕ, ◌<◌, ◌≤◌, ◌==◌, List, [], ◌∷◌, ◌++◌, Option, Some, None, Ok, Bool, true, false, ◌&&◌, refl, sym, ◌∙◌, ap, subst, inl, inr, arith}
+use Rattle.std.proofs.Common.{◌≡◌, ◌≢◌, ℕ, ◌<◌, ◌==◌, List, [], ◌∷◌, ◌++◌, Option, Some, None, Ok, Bool, true, false, ◌&&◌, refl, sym, ◌∙◌, ap, subst, inl, inr, arith}
 use Rattle.std.specs.Prelude.{option_map, if◌then◌else◌}
 use Rattle.std.specs.List.{AllByRecursion}
 use Rattle.std.proofs.lemmas.Bool.Decides.{Decides-eqb, Decides-ltb}
@@ -8,7 +8,7 @@ use Rattle.disk_model.specs.Changes.{Every, Only}
 use Rattle.disk_model.specs.Moments.{Now, Leaves}
 use Rattle.ftn_addr.specs.Counts.{Increased}
 use Rattle.ledger_file.specs.Ledger.{ledger_name, LedgerIs, Appends}
-use Rattle.ledger_rec.specs.Fold.{State, Folding, fold_step, changed, settled, is_live, after}
+use Rattle.ledger_rec.specs.Fold.{State, fold_step, changed, settled, is_live, after}
 use Rattle.ledger_rec.specs.Items.{Entry}
 use Rattle.ledger_rec.specs.Payloads.{record_in, fold_of}
 use Rattle.ledger_rec.specs.Record.{Done}
@@ -26,17 +26,19 @@ use Rattle.node_store.specs.Books.{Books, IsBooks}
 use Rattle.node_store.specs.Contents.{Contents, entry_by}
 use Rattle.node_store.specs.Names.{in_name, out_name}
 use Rattle.node_store.specs.Recording.{IsRecorded}
-use Rattle.node_store.specs.Stored.{Part, Put, Memory, sizes_in, stock_by, stored_in, state_of, has_receipt, IsPart, IsPut, IsMemory, HasBodies, IsSound}
-use Rattle.node_store.specs.Worlds.{HasLength, HasFiles}
+use Rattle.node_store.specs.Stored.{Part, Put, Memory, sizes_in, stock_by, stored_in, state_of, HasBodies, IsSound, AreGone}
+use Rattle.node_store.specs.Worlds.{HasLength}
 use Rattle.node_store.proofs.Alike.{all_by}
 use Rattle.node_store.proofs.AppendCall.{Any, appended_failed, appended_now, appended_kept}
 use Rattle.node_store.proofs.AppendTold.{stored_recorded, recorded_told, shelf_with, breaks_same, stored_only}
 use Rattle.node_store.proofs.Calls.{standing}
 use Rattle.node_store.proofs.Found.{seen_from}
-use Rattle.node_store.proofs.Listed.{IsListed, all_changed, listed_fold}
+use Rattle.node_store.proofs.Listed.{IsListed, listed_fold}
 use Rattle.node_store.proofs.NameLaws.{in_not_ledger, out_not_ledger}
 use Rattle.node_store.proofs.Numbered.{mapped_some, step_is_after, step_mirrored, step_in_world}
+use Rattle.node_store.proofs.OneEntry.{IsChanged, KeepsFile, changed_files, changed_takes, memory_changed}
 use Rattle.node_store.proofs.OneRecord.{IsOne, appending, would_tell}
+use Rattle.node_store.proofs.GivenFiles.{still_gone}
 
 pub changed_some : {A : Type 0} (p : A → Bool) (f : A → A) (x : A) (xs : List A) → Member x xs → p x ≡ true → (ys : List A) × (changed p f xs ≡ Some ys)
 changed_some p f x [] there passes = absurd there
@@ -85,64 +87,26 @@ done_follows ps s number session size folds l some =
     )
 
 -- what it leaves
-pub record IsSettled (number : ℕ) (s t : State) : Type 0 where
-  pub queue : List Entry
-  pub changes : changed (is_live number) settled s.queue ≡ Some queue
-  pub is : t ≡ record s { queue = queue }
 
-pub settled_by : (s t : State) (number session : ℕ) → fold_step s (Done number session) ≡ Some t → IsSettled number s t
+settled_keeps : KeepsFile settled
+settled_keeps = record { number = λ e. refl; key = λ e. refl; live = λ e live. off (sym live) }
+
+abbrev IsSettled : ℕ → State → State → Type 0
+IsSettled number s t = IsChanged (is_live number) settled s t
+
+settled_by : (s t : State) (number session : ℕ) → fold_step s (Done number session) ≡ Some t → IsSettled number s t
 settled_by s t number session step =
     let m = mapped_some (λ queue. record s { queue = queue }) (changed (is_live number) settled s.queue) t (step_is_after s (Done number session) t step) in
     record { queue = m.0; changes = m.1; is = sym m.2 }
 
-module _ (number : ℕ) (s t : State) (h : IsSettled number s t) where
-  pub settled_files : (c : World) → HasFiles s c → HasFiles t c
-  settled_files c has =
-      subst (λ (u : State). HasFiles u c) (sym h.is) (record {
-        live = all_changed (λ (e : Entry). e.live ≡ true → HasLength (out_name e.number) e.key.size c) (is_live number) settled (λ e was live. off (sym live)) s.queue h.queue h.changes has.live;
-        marked = has.marked;
-        received = has.received;
-      })
-
-  pub settled_takes : t.takes ≡ s.takes
-  settled_takes = ap (λ (u : State). u.takes) h.is
-
--- memory
-
-part_beside : (f : Folding) (queue : List Entry) (room : ℕ) (p : Part) → IsPart f p → IsPart (record { state = record f.state { queue = queue }; holds = f.holds; room = room }) p
-part_beside f queue room p is =
-    record { from = is.from; key = is.key; sizes = is.sizes; within = is.within; receipt = is.receipt; next = is.next; held = is.held; unknown = is.unknown; number = ⊎_elim (λ a. inl (record { marked = a.marked; given_away = a.given_away })) (λ b. inr (record { unused = b.unused; unmarked = b.unmarked; first = b.first })) is.number; marks = is.marks; received = is.received }
-
-put_beside : (last number : ℕ) (s t : State) → IsSettled number s t → (p : Put) → IsPut last s p → IsPut last t p
-put_beside last number s t h p is = record {
-  some = is.some;
-  drawn = is.drawn;
-  above = subst (λ (u : State). AllByRecursion (λ (e : Entry). e.number ≢ p.number) u.queue) (sym h.is) (all_changed (λ (e : Entry). e.number ≢ p.number) (is_live number) settled (λ e other. other) s.queue h.queue h.changes is.above);
-}
-
-pub memory_settled : (m : Memory) (b : Books) (number : ℕ) → IsSettled number m.books.folding.state b.folding.state → b.folding.holds ≡ m.books.folding.holds → IsBooks b → IsMemory m → IsMemory (record m { books = b })
-memory_settled m b number h holds books is =
-    let folding : b.folding ≡ record { state = record m.books.folding.state { queue = h.queue }; holds = m.books.folding.holds; room = b.folding.room } =
-    (λ i. record { state = h.is i; holds = holds i; room = b.folding.room }) in
-    record {
-      books = books;
-      orderly = is.orderly;
-      parts = subst (λ (f : Folding). AllByRecursion (IsPart f) m.parts) (sym folding) (all_by (IsPart m.books.folding) (IsPart (record { state = record m.books.folding.state { queue = h.queue }; holds = m.books.folding.holds; room = b.folding.room })) (part_beside m.books.folding h.queue b.folding.room) m.parts is.parts);
-      marked = subst (λ (u : State). AllByRecursion (λ k. k.number ≤ m.drawn) u.marks) (sym h.is) is.marked;
-      received = subst (λ (u : State). AllByRecursion (λ r. r.number ≤ m.drawn) u.inbox) (sym h.is) is.received;
-      numbers = subst (λ (u : State). AllByRecursion (λ n. n ≤ m.drawn) u.parts) (sym h.is) is.numbers;
-      given = subst (λ (u : State). AllByRecursion (λ n. has_receipt n u.inbox ≡ true) m.given) (sym h.is) is.given;
-      staged = all_by (IsPut m.last_staged m.books.folding.state) (IsPut m.last_staged b.folding.state) (put_beside m.last_staged number m.books.folding.state b.folding.state h) m.staged is.staged;
-      queued = subst (λ (u : State). AllByRecursion (λ (e : Entry). e.number ≤ m.last_staged) u.queue) (sym h.is) (all_changed (λ (e : Entry). e.number ≤ m.last_staged) (is_live number) settled (λ e low. low) m.books.folding.state.queue h.queue h.changes is.queued);
-    }
-
 -- files of parts and staged files, where only the ledger changed
-pub bodies_only : (d c : World) (m m' : Memory) → Only ledger_name d c → m'.parts ≡ m.parts → m'.staged ≡ m.staged → HasBodies m d → HasBodies m' c
-bodies_only d c m m' only parts staged has = record {
+pub bodies_only : (d c : World) (m m' : Memory) → Only ledger_name d c → m'.parts ≡ m.parts → m'.staged ≡ m.staged → m'.given ≡ m.given → HasBodies m d → HasBodies m' c
+bodies_only d c m m' only parts staged given has = record {
   parts = subst (AllByRecursion (λ (p : Part). HasLength (in_name p.number) p.have c)) (sym parts)
       (all_by (λ (p : Part). HasLength (in_name p.number) p.have d) (λ (p : Part). HasLength (in_name p.number) p.have c) (λ p h. (h.0, only.others (in_name p.number) (in_not_ledger p.number) ∙ h.1, h.2)) m.parts has.parts);
   staged = subst (AllByRecursion (λ (p : Put). HasLength (out_name p.number) p.size c)) (sym staged)
       (all_by (λ (p : Put). HasLength (out_name p.number) p.size d) (λ (p : Put). HasLength (out_name p.number) p.size c) (λ p h. (h.0, only.others (out_name p.number) (out_not_ledger p.number) ∙ h.1, h.2)) m.staged has.staged);
+  given = subst (λ (ns : List ℕ). AreGone ns c) (sym given) (still_gone m.given d c has.given (λ n among. only.others (in_name n) (in_not_ledger n)));
 }
 
 -- the whole call
@@ -157,9 +121,9 @@ module _ {D : Type 0} (tells : Bool) (content : D → World) (faults moment : D 
         whole = whole;
         spells = spells;
         step = step;
-        takes = settled_takes number m.books.folding.state t h;
+        takes = changed_takes (is_live number) settled settled_keeps m.books.folding.state t h;
         mirrored = λ c. step_in_world c m.books.payloads m.books.folding.state (Done number session) t sound.memory.books.folds step;
-        files = settled_files number m.books.folding.state t h;
+        files = changed_files (is_live number) settled settled_keeps m.books.folding.state t h;
         run = run;
       }
 
@@ -174,7 +138,7 @@ module _ {D : Type 0} (tells : Bool) (content : D → World) (faults moment : D 
       (Settle number session) Well (S.settled number session (state_of tells (content old) (faults old) m)) refl
       (would_tell tells (content old) (faults old) m (on_state (with_done number)) (on_state (with_done number)) (with_done number) (Done_record number session ∷ []) (λ s. refl))
       (record m { broken = Some (faults new) })
-      (breaks_same tells (content old) (content new) (faults old) (faults new) m (Settle number session) tt rose (λ t. stored_only (content old) (content new) (only t) m) (λ t. (only t).gifts))
+      (breaks_same tells (content old) (content new) (faults old) (faults new) m (Settle number session) tt rose (λ t. stored_only (content old) (content new) (only t) m) (λ t. (only t).gifts) (λ t n among. (only t).others (in_name n) (in_not_ledger n)))
 
   -- the record is durable
   module _ (b : Books) (books : IsBooks b) (recorded : IsRecorded payload (Done number session) m.seat m.books b) (durable : Every (Now moment images new) (LedgerIs b.payloads)) (calm : faults new ≡ faults old) where
@@ -185,7 +149,7 @@ module _ {D : Type 0} (tells : Bool) (content : D → World) (faults moment : D 
     is_settled = settled_by m.books.folding.state b.folding.state number session recorded.folded
 
     takes : b.folding.state.takes ≡ m.books.folding.state.takes
-    takes = settled_takes number m.books.folding.state b.folding.state is_settled
+    takes = changed_takes (is_live number) settled settled_keeps m.books.folding.state b.folding.state is_settled
 
     stock_settled : {B : Type 0} (c : Contents B) → stock_by c after_it ≡ on_state (with_done number) (stock_by c m)
     stock_settled c = λ i. record (stock_by c m) { state = step_mirrored c m.books.payloads m.books.folding.state (Done number session) b.folding.state sound.memory.books.folds recorded.folded i }
@@ -207,10 +171,10 @@ module _ {D : Type 0} (tells : Bool) (content : D → World) (faults moment : D 
 
     pub settle_sound : IsSound tells content moment images new (record m { books = b })
     settle_sound = record {
-      memory = memory_settled m b number is_settled recorded.holds books sound.memory;
+      memory = memory_changed (is_live number) settled settled_keeps m b is_settled recorded.holds books sound.memory;
       kept = λ still.
           appended_now tells content faults moment images old new m Any (payload ∷ []) b.folding.state (shelf_with (with_done number) (shelf_of (stored_in (content old) m)))
           (appending tells content moment images old new m payload (Done number session) b.folding.state (with_done number) (one b.folding.state recorded.folded))
           ledger_now (λ w image. tt) after_it recorded.payloads refl told_settled;
-      bodies = λ still t. bodies_only (content old) (content new) m after_it (only t) refl refl (sound.bodies whole t);
+      bodies = λ still t. bodies_only (content old) (content new) m after_it (only t) refl refl refl (sound.bodies whole t);
     }

@@ -21,6 +21,7 @@ use Rattle.node_store.specs.Worlds.{bytes_of, outside_in, gift_told, shelf_in, H
 use Rattle.node_store.proofs.Alike.{AreAlike, SameFront, out_no_take, one_alike, takes_alike, all_of, all_by}
 use Rattle.node_store.proofs.AppendTold.{breaks_same}
 use Rattle.node_store.proofs.Calls.{standing, is_told, kept_opens, settled}
+use Rattle.node_store.proofs.GivenFiles.{still_gone}
 use Rattle.node_store.proofs.Listed.{all_last}
 use Rattle.node_store.proofs.Mirrors.{map-append}
 use Rattle.node_store.proofs.NameLaws.{one_out_name, in_not_out, out_not_ledger}
@@ -128,7 +129,7 @@ module _ {D : Type 0} (tells : Bool) (content : D → World) (faults moment : D 
   stage_failed asked touches rose =
       quiet_run tells content faults moment images (Only (out_name number)) old new m (record m { broken = Some (faults new) }) p.sound p.whole stays p.run asked (Refuses Disk)
       (λ t. ap shelf_of (same_stored t))
-      (breaks_same tells (content old) (content new) (faults old) (faults new) m asked touches rose same_stored (λ t. (p.only t).gifts))
+      (breaks_same tells (content old) (content new) (faults old) (faults new) m asked touches rose same_stored (λ t. (p.only t).gifts) (λ t n among. (p.only t).others (in_name n) (in_not_out n number)))
 
   -- nothing is staged, and the same is told
   pub stage_none : (asked : StoreCall) (answer : StoreAnswer) → StoreMade (state_of tells (content old) (faults old) m) asked answer (state_of tells (content new) (faults new) m)
@@ -138,7 +139,7 @@ module _ {D : Type 0} (tells : Bool) (content : D → World) (faults moment : D 
 
   pub none_told : faults new ≡ faults old → state_of tells (content new) (faults new) m ≡ state_of tells (content old) (faults old) m
   none_told calm =
-      let sized = same_sizes tells (content old) (content new) m.given (λ t. (p.only t).gifts) in
+      let sized = same_sizes tells (content old) (content new) m.given (λ t. (p.only t).gifts) (λ t n among. (p.only t).others (in_name n) (in_not_out n number)) in
       let content_now = go tells same_stored in
       λ i. record (state_of tells (content old) (faults old) m) {
         content = content_now i;
@@ -168,7 +169,7 @@ module _ {D : Type 0} (tells : Bool) (content : D → World) (faults moment : D 
 
     pub staged_told : state_of tells (content new) (faults new) after_stage ≡ with_staged bytes (state_of tells (content old) (faults old) m)
     staged_told =
-        let sized = same_sizes tells (content old) (content new) m.given (λ t. (p.only t).gifts) in
+        let sized = same_sizes tells (content old) (content new) m.given (λ t. (p.only t).gifts) (λ t n among. (p.only t).others (in_name n) (in_not_out n number)) in
         let staged = map-append (staged_by (sizes_in tells (content old) m.given)) m.staged (record { number = number; size = size } ∷ []) in
         let stock = ap (λ (c : Contents ℕ). stock_by c after_stage) sized
         ∙ (λ i. record (stock_by (sizes_in tells (content old) m.given) m) { staged = staged i })
@@ -227,6 +228,7 @@ module _ {D : Type 0} (tells : Bool) (content : D → World) (faults moment : D 
         record {
           parts = all_by (λ (x : Part). HasLength (in_name x.number) x.have (content old)) (λ (x : Part). HasLength (in_name x.number) x.have (content new)) (λ x h. (h.0, o.others (in_name x.number) (in_not_out x.number number) ∙ h.1, h.2)) m.parts has.parts;
           staged = all_last (λ (x : Put). HasLength (out_name x.number) x.size (content new)) m.staged (record { number = number; size = size }) (kept_staged m.staged is.staged has.staged) (bytes, written t, sym long);
+          given = still_gone m.given (content old) (content new) has.given (λ n among. o.others (in_name n) (in_not_out n number));
         }
       where
         kept_staged : (ps : List Put) → AllByRecursion (IsPut m.last_staged m.books.folding.state) ps → AllByRecursion (λ (x : Put). HasLength (out_name x.number) x.size (content old)) ps → AllByRecursion (λ (x : Put). HasLength (out_name x.number) x.size (content new)) ps
@@ -260,6 +262,7 @@ module _ {D : Type 0} (tells : Bool) (content : D → World) (faults moment : D 
           record {
             parts = all_by (λ (x : Part). HasLength (in_name x.number) x.have (content old)) (λ (x : Part). HasLength (in_name x.number) x.have (content new)) (λ x h. (h.0, o.others (in_name x.number) (in_not_out x.number number) ∙ h.1, h.2)) m.parts has.parts;
             staged = each m.staged is.staged has.staged;
+            given = still_gone m.given (content old) (content new) has.given (λ n among. o.others (in_name n) (in_not_out n number));
           }
         where
           each : (ps : List Put) → AllByRecursion (IsPut m.last_staged m.books.folding.state) ps → AllByRecursion (λ (x : Put). HasLength (out_name x.number) x.size (content old)) ps → AllByRecursion (λ (x : Put). HasLength (out_name x.number) x.size (content new)) ps

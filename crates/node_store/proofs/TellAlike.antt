@@ -1,6 +1,6 @@
 -- Worlds whose files are alike tell the same.
 use Rattle.std.proofs.Common.{◌≡◌, ℕ, ◌≤◌, List, [], ◌∷◌, ◌++◌, length, take, map, replicate, Option, Some, Bool, true, false, refl, sym, ◌∙◌, ap, arith}
-use Rattle.std.specs.Prelude.{if◌then◌else◌}
+use Rattle.std.specs.Prelude.{◌&&◌, if◌then◌else◌}
 use Rattle.std.specs.List.{AllByRecursion}
 use Rattle.std.proofs.Math.Seq.{take-append_seam}
 use Rattle.std.proofs.lemmas.List.{take-append-le, length-take}
@@ -13,7 +13,7 @@ use Rattle.node_store.specs.Contents.{entry_by, receipt_by, refusal_of, mark_by,
 use Rattle.node_store.specs.Names.{in_name, out_name}
 use Rattle.node_model.specs.StoreStates.{shelf_of}
 use Rattle.node_store.specs.Stored.{Memory, front_of, told_in, stored_in}
-use Rattle.node_store.specs.Worlds.{bytes_of, gift_of, gift_told, outside_in, HasFront, HasFiles}
+use Rattle.node_store.specs.Worlds.{bytes_of, or_else, gift_of, is_absent, gift_told, outside_in, HasFront, HasFiles}
 use Rattle.node_store.proofs.Alike.{AreAlike, SameFront, takes_alike}
 
 -- a front that is there is taken as it is
@@ -32,14 +32,14 @@ module _ (given : List ℕ) (d c : World) where
       go true now = ap (λ (f : Option (List ℕ)). N.Live (front_of e.key.size (bytes_of f))) (now refl)
       go false now = refl
 
-  entries_told : (es : List Entry) → AllByRecursion (λ (e : Entry). e.live ≡ true → c.own (out_name e.number) ≡ d.own (out_name e.number)) es → map (entry_by (told_in c given)) es ≡ map (entry_by (told_in d given)) es
+  pub entries_told : (es : List Entry) → AllByRecursion (λ (e : Entry). e.live ≡ true → c.own (out_name e.number) ≡ d.own (out_name e.number)) es → map (entry_by (told_in c given)) es ≡ map (entry_by (told_in d given)) es
   entries_told [] same = refl
   entries_told (e ∷ es) same = λ i. entry_told e same.0 i ∷ entries_told es same.1 i
 
   receipts_told : c.gifts ≡ d.gifts → (rs : List Receipt) → AllByRecursion (λ (r : Receipt). c.own (in_name r.number) ≡ d.own (in_name r.number)) rs → map (receipt_by (told_in c given)) rs ≡ map (receipt_by (told_in d given)) rs
   receipts_told gifts [] same = refl
   receipts_told gifts (r ∷ rs) same = λ i.
-      record { number = r.number; from = r.from; key = r.key; bytes = if is_among r.number given then gift_of (in_name r.number) r.key.size (gifts i) else Some (front_of r.key.size (bytes_of (same.0 i))); secure = r.secure; answered = r.answered; given = is_among r.number given }
+      record { number = r.number; from = r.from; key = r.key; bytes = if is_among r.number given then or_else (same.0 i) (gift_of (in_name r.number) r.key.size (gifts i)) else Some (front_of r.key.size (bytes_of (same.0 i))); secure = r.secure; answered = r.answered; given = is_absent (same.0 i) && is_among r.number given }
       ∷ receipts_told gifts rs same.1 i
 
   mark_told : (m : PartMark) → HasFront (in_name m.number) m.len d → SameFront (in_name m.number) m.len d c → mark_by (told_in c given) m ≡ mark_by (told_in d given) m
@@ -50,7 +50,7 @@ module _ (given : List ℕ) (d c : World) where
       (ap (λ (f : Option (List ℕ)). front_of m.len (bytes_of f)) new.1 ∙ front_there m.len new.0 long ∙ new.2
       ∙ sym (front_there m.len front.0 front.2) ∙ sym (ap (λ (f : Option (List ℕ)). front_of m.len (bytes_of f)) front.1))
 
-  marks_told : (ms : List PartMark) → AllByRecursion (λ (m : PartMark). HasFront (in_name m.number) m.len d) ms → AllByRecursion (λ (m : PartMark). SameFront (in_name m.number) m.len d c) ms → map (mark_by (told_in c given)) ms ≡ map (mark_by (told_in d given)) ms
+  pub marks_told : (ms : List PartMark) → AllByRecursion (λ (m : PartMark). HasFront (in_name m.number) m.len d) ms → AllByRecursion (λ (m : PartMark). SameFront (in_name m.number) m.len d c) ms → map (mark_by (told_in c given)) ms ≡ map (mark_by (told_in d given)) ms
   marks_told [] fronts same = refl
   marks_told (m ∷ ms) fronts same = λ i. mark_told m fronts.0 same.0 i ∷ marks_told ms fronts.1 same.1 i
 

@@ -1,7 +1,10 @@
+pub mod Acting
 pub mod Beginnings
 pub mod Books
 pub mod Contents
 pub mod Finding
+pub mod Gifts
+pub mod Giving
 pub mod Keeping
 pub mod Logs
 pub mod Lookups
@@ -12,6 +15,7 @@ pub mod Opening
 pub mod Outlines
 pub mod Planned
 pub mod Recording
+pub mod Sounds
 pub mod Stored
 pub mod Strays
 pub mod Tending

@@ -11,7 +11,7 @@ use Rattle.node_model.specs.Stocks.{StagedOf, staged_map, stock_map, sizes}
 use Rattle.node_store.specs.Contents.{Contents, entry_by, receipt_by, refusal_of, mark_by, durable_by}
 use Rattle.node_store.specs.Names.{in_name, out_name}
 use Rattle.node_store.specs.Stored.{Part, Put, Memory, front_of, told_in, sizes_in, told_parts, part_by, staged_by, stock_by}
-use Rattle.node_store.specs.Worlds.{bytes_of, gift_of}
+use Rattle.node_store.specs.Worlds.{bytes_of, or_else, gift_of, is_absent}
 
 length-zeros : (n : ℕ) → length {A = ℕ} (replicate n 0) ≡ n
 length-zeros zero = refl
@@ -67,9 +67,9 @@ received_size false gift size own = ap Some (length-front size own)
 pub told_sizes : (w : World) (given : List ℕ) → contents_map length (told_in w given) ≡ sizes_in true w given
 told_sizes w given = λ i. record {
   queued = λ n size. length-front size (bytes_of (w.own (out_name n))) i;
-  received = λ n size. received_size (is_among n given) (gift_of (in_name n) size w.gifts) size (bytes_of (w.own (in_name n))) i;
+  received = λ n size. received_size (is_among n given) (or_else (w.own (in_name n)) (gift_of (in_name n) size w.gifts)) size (bytes_of (w.own (in_name n))) i;
   front = λ n len. length-front len (bytes_of (w.own (in_name n))) i;
-  given = λ n. is_among n given;
+  given = λ n. is_absent (w.own (in_name n)) && is_among n given;
 }
 
 pub told_outline : (w : World) (m : Memory) → stock_by (sizes_in true w m.given) m ≡ sizes (stock_by (told_in w m.given) m)

@@ -1,5 +1,5 @@
 -- What a store has in memory, what it tells, and what ties both to its disk (own).
-use Rattle.std.specs.Prelude.{◌+◌, ◌≡◌, ◌≢◌, ◌⊎◌, ℕ, ◌==◌, nat_le, not, ◌&&◌, ◌≤◌, Bool, true, false, List, [], ◌∷◌, ◌++◌, length, take, drop, map, replicate, Option, Some, None, option_map, if◌then◌else◌, IsSome}
+use Rattle.std.specs.Prelude.{◌+◌, ◌≡◌, ◌≢◌, ◌⊎◌, ℕ, ◌==◌, nat_le, not, ◌&&◌, ◌||◌, ◌≤◌, Bool, true, false, List, [], ◌∷◌, ◌++◌, length, take, drop, map, replicate, Option, Some, None, option_map, if◌then◌else◌, IsSome}
 use Rattle.std.specs.List.{AllByRecursion, list_all, list_any}
 use Rattle.ftn_addr.specs.Address.{Address}
 use Rattle.ftn_addr.specs.Files.{is_same}
@@ -20,7 +20,7 @@ use Rattle.node_store.specs.Books.{Books, IsBooks}
 use Rattle.node_store.specs.Contents.{Contents, durable_by}
 use Rattle.node_store.specs.Logs.{log_of}
 use Rattle.node_store.specs.Names.{in_name, out_name}
-use Rattle.node_store.specs.Worlds.{bytes_of, gift_of, outside_in, gift_told, takes_in, shelf_in, HasLength, HasFiles, Opens}
+use Rattle.node_store.specs.Worlds.{bytes_of, or_else, gift_of, is_absent, outside_in, gift_told, takes_in, shelf_in, HasLength, HasFiles, Opens}
 
 -- an open part: its number, from whom, of which file, and how many bytes it has; the record of its receipt; and those of its
 -- marks, the first of which is given away, while later ones are lent
@@ -38,9 +38,9 @@ pub record Put : Type 0 where
   pub number : ℕ
   pub size : ℕ
 
--- What a store has in memory: the ledger with its fold; the receipts whose files were given; the open parts and the staged
--- files; the greatest numbers of both that were drawn, the seat of the next records, the receipt last given or held, and two
--- counts.
+-- What a store has in memory: the ledger with its fold; the receipts whose files were given, or of a broken store may have
+-- been; the open parts and the staged files; the greatest numbers of both that were drawn, the seat of the next records, the
+-- receipt last given or held, and two counts.
 pub record Memory : Type 0 where
   pub books : Books
   pub given : List ℕ
@@ -64,15 +64,16 @@ pub record Holding (D : Type 0) : Type 0 where
 abbrev pub front_of : ℕ → List ℕ → List ℕ
 front_of n bytes = take n (bytes ++ replicate n 0)
 
--- The bytes that are told, where the disk reads so: as many as memory says, whatever the files' lengths.
+-- The bytes that are told, where the disk reads so: as many as memory says, whatever the files' lengths. Those of a file that
+-- may have been given are read as an opening does, and it was given where it doesn't stand.
 abbrev pub told_in : World → List ℕ → Contents (List ℕ)
 told_in w given =
-    record { queued = λ number size. front_of size (bytes_of (w.own (out_name number))); received = λ number size. if is_among number given then gift_of (in_name number) size w.gifts else Some (front_of size (bytes_of (w.own (in_name number)))); front = λ number len. front_of len (bytes_of (w.own (in_name number))); given = λ number. is_among number given }
+    record { queued = λ number size. front_of size (bytes_of (w.own (out_name number))); received = λ number size. if is_among number given then or_else (w.own (in_name number)) (gift_of (in_name number) size w.gifts) else Some (front_of size (bytes_of (w.own (in_name number)))); front = λ number len. front_of len (bytes_of (w.own (in_name number))); given = λ number. is_absent (w.own (in_name number)) && is_among number given }
 
 -- how many there are; of a disk that doesn't tell, as if nothing given were lost
 abbrev pub sizes_in : Bool → World → List ℕ → Contents ℕ
 sizes_in tells w given =
-    record { queued = λ number size. size; received = λ number size. if tells && is_among number given then option_map length (gift_of (in_name number) size w.gifts) else Some size; front = λ number len. len; given = λ number. is_among number given }
+    record { queued = λ number size. size; received = λ number size. if tells && is_among number given then option_map length (or_else (w.own (in_name number)) (gift_of (in_name number) size w.gifts)) else Some size; front = λ number len. len; given = λ number. (not tells || is_absent (w.own (in_name number))) && is_among number given }
 
 -- no two parts have one number, or one sender and key; each number was drawn
 abbrev pub are_apart : Part → Part → Bool
@@ -178,10 +179,15 @@ pub record IsKept (tells : Bool) (told : World) (m : Memory) (w : World) : Type 
   pub files : tells ≡ true → HasFiles m.books.folding.state w
   pub same : tells ≡ true → shelf_in w m.books.folding.state ≡ shelf_of (stored_in told m)
 
--- each open part and each staged file has its bytes
+-- the files of these receipts don't stand
+abbrev pub AreGone : List ℕ → World → Type 0
+AreGone given w = AllByRecursion (λ n. w.own (in_name n) ≡ None) given
+
+-- each open part and each staged file has its bytes, and what was given is gone
 pub record HasBodies (m : Memory) (w : World) : Type 0 where
   pub parts : AllByRecursion (λ (p : Part). HasLength (in_name p.number) p.have w) m.parts
   pub staged : AllByRecursion (λ (p : Put). HasLength (out_name p.number) p.size w) m.staged
+  pub given : AreGone m.given w
 
 -- What a stop now may leave opens to what the store keeps, unless the disk failed.
 pub record IsSound {D : Type 0} (tells : Bool) (content : D → World) (moment : D → ℕ) (images : D → ℕ → World → Type 0) (disk : D) (m : Memory) : Type 0 where

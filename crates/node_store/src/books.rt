@@ -125,6 +125,13 @@ impl Books {
         Ok(())
     }
 
+    /// A ledger has at most so many records, the places reserved among them. It does nothing.
+    pub(crate) fn holds_few(&self)
+        ensures { length self.now.payloads + self.now.reserved ≤ 262144 }
+    {
+        self.ledger.holds_few();
+    }
+
     /// Gives reserved places back. It takes no memory.
     pub(crate) fn release(&mut self, places: u32)
         requires { places ≤ self.old.reserved }

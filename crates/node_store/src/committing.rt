@@ -32,6 +32,7 @@ impl<D: Disk> NodeStore<D> {
         ) {
             Ok(()) => {
                 self.books.unhold(&from, &key);
+                self.kept.note(part);
                 Ok(())
             }
             Err(_) => {

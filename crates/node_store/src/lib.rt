@@ -1,4 +1,4 @@
-//! A node's store on a disk: the ledger's records, and the own files beside it. It is begun, and not a `Store` yet.
+//! A node's store on a disk: the ledger's records, and the own files beside it.
 //!
 //! What it keeps is said over worlds, which are what a disk holds: [`NodeStore`]'s invariant ties what a stop now may leave to
 //! what the store tells (`specs/Worlds.antt`, `specs/Stored.antt`). The laws ([`each_record_is_a_change`] and its kin) say what
@@ -15,18 +15,21 @@
 //! files, `readying` makes the file of a part ready, and `planning` says what queueing files will write; `store` is the store.
 //! Its calls stand in `beginning`, `marking`, `committing` and `refusing` (a part is opened, marked, becomes a receipt or is
 //! refused), `staging` and
-//! `queueing` (files are staged, and then queued), `queued` (queued files) and `reading`. `opening` makes the store of a disk.
+//! `queueing` (files are staged, and then queued), `queued` (queued files), `acting` (their sources are acted on), `reading` and
+//! `giving` (received files are given), where `round` says which comes next. `opening` makes the store of a disk, and
+//! `store_calls` makes it a store.
 //! `laws` says what holds of every name, ledger and world.
 //!
-//! Left out: the calls that give and act, and so the trait of stores itself; and the marks in the outbound that an opening takes
-//! away.
+//! Left out: the marks in the outbound that an opening takes away.
 #![tactic(auto)]
 
+mod acting;
 mod batches;
 mod beginning;
 mod books;
 mod committing;
 mod digits;
+mod giving;
 mod laws;
 mod lookups;
 mod marking;
@@ -41,9 +44,11 @@ mod reading;
 mod readying;
 mod recording;
 mod refusing;
+mod round;
 mod spelling;
 mod staging;
 mod store;
+mod store_calls;
 #[cfg(test)]
 mod tests;
 

@@ -23,7 +23,7 @@ mod tidying;
 
 use crate::books::Books;
 use crate::opening::finding::{Found, find};
-use crate::opening::numbers::{counted, greatest, greatest_queued, waiting};
+use crate::opening::numbers::{counted, greatest, greatest_queued, kept, waiting};
 use crate::store::NodeStore;
 use disk_model::Disk;
 pub use fault::StoreOpenFault;
@@ -69,10 +69,12 @@ fn of_found<D: Disk>(alloc: Global, disk: D, found: Found, text: Bytes) -> NodeS
     } = found;
     let drawn = greatest(books.folded().parts());
     let last_staged = greatest_queued(books.folded().queue());
+    let kept = kept(alloc, books.folded().inbox(), given.as_slice());
     NodeStore {
         disk,
         books,
         given,
+        kept,
         parts: Vec::new(alloc),
         staged: Vec::new(alloc),
         drawn,

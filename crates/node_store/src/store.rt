@@ -3,12 +3,15 @@ ghost use Rattle.std.specs.Prelude.{◌≡◌, ◌≤◌, length, option_map, No
 ghost use Rattle.ftn_addr.specs.Address.{address};
 ghost use Rattle.ftn_addr.specs.Key.{key_of as key_in};
 ghost use Rattle.node_model.specs.Durable.{mark_of as mark_in};
+ghost use Rattle.node_model.specs.Node.{Settings};
 ghost use Rattle.node_model.specs.StoreWords.{part_at};
 ghost use Rattle.node_model.specs.Stocks.{known_in};
 ghost use Rattle.node_model.specs.Stores.{By_seat, IsOpen, Part_put, Release, Reserve, StoreKept, Well, well_answer};
 ghost use Rattle.disk_model.specs.Changes.{Every};
 ghost use Rattle.disk_model.specs.Moments.{Now};
 ghost use Rattle.node_model.specs.StoreStates.{shelf_of};
+ghost use Rattle.node_store.specs.Finding.{IsNewMemory};
+ghost use Rattle.node_store.specs.Sounds.{KeepsSound};
 ghost use Rattle.node_store.specs.Stored.{stand_of, stored_in};
 ghost use Rattle.node_store.specs.Worlds.{OpensAs};
 
@@ -17,15 +20,16 @@ use crate::lookups::{known, mark_of};
 use crate::names::in_file;
 use crate::part::{OpenPart, StagedFile, grow, have_of};
 use disk_model::Disk;
-use ftn_addr::{Addr, Bytes, FileKey};
+use file_index::NumberSet;
+use ftn_addr::{Addr, Bytes, FileKey, MAX_NUMBER};
 use ledger_file::AppendFault;
 use node_model::{Known, PartAt, StoreFault};
 use std::marker::Model;
 
 /// A store on a disk: a ledger, and the own files beside it.
 ///
-/// Its calls so far reserve places, give them back, look files up, read them, stage and queue them, settle what was sent, open a
-/// part, put bytes into it, mark, commit and refuse it.
+/// Its calls reserve places, give them back, look files up, read them, stage and queue them, settle what was sent, act on the
+/// sources of queued files, open a part, put bytes into it, mark, commit and refuse it, and give received files to other programs.
 ///
 /// What a stop may leave of the disk opens to what the store keeps, unless the disk failed. So the disk is never lent for
 /// writing.
@@ -34,6 +38,7 @@ pub struct NodeStore<D: Disk> {
     pub(crate) disk: D,
     pub(crate) books: Books,
     pub(crate) given: Vec<u32>,
+    pub(crate) kept: NumberSet,
     pub(crate) parts: Vec<OpenPart>,
     pub(crate) staged: Vec<StagedFile>,
     pub(crate) drawn: u32,
@@ -47,14 +52,23 @@ pub struct NodeStore<D: Disk> {
 
 impl<D: Disk> Model for NodeStore<D> {
     ghost use Rattle.std.specs.Prelude.{◌+◌, ◌≤◌, length};
+    ghost use Rattle.file_index.specs.Sets.{Kept};
+    ghost use Rattle.node_store.specs.Giving.{is_kept};
     ghost use Rattle.node_store.specs.Stored.{Holding, Memory, IsSound};
 
     ghost Value = { Holding D };
 
     ghost view = { λ s. record { disk = s.disk; memory = record { books = s.books; given = s.given.items; parts = s.parts.items; staged = s.staged.items; drawn = s.drawn; last_staged = s.last_staged; seat = s.seat; last_given = s.last_given; fulls = s.fulls; broken = s.broken } } };
 
-    // There is room for the text of a record.
-    ghost invariant = { λ s. IsSound D.tells D.content D.moment D.images s.disk (record { books = s.books; given = s.given.items; parts = s.parts.items; staged = s.staged.items; drawn = s.drawn; last_staged = s.last_staged; seat = s.seat; last_given = s.last_given; fulls = s.fulls; broken = s.broken }) × (1400 ≤ s.text.spare + length s.text.list) };
+    // There is room for the text of a record; and the set keeps the receipts whose files weren't given.
+    ghost invariant = { λ s. IsSound D.tells D.content D.moment D.images s.disk (record { books = s.books; given = s.given.items; parts = s.parts.items; staged = s.staged.items; drawn = s.drawn; last_staged = s.last_staged; seat = s.seat; last_given = s.last_given; fulls = s.fulls; broken = s.broken }) × (1400 ≤ s.text.spare + length s.text.list) × Kept s.kept (is_kept s.given.items s.books.folding.state.inbox) };
+}
+
+// A number in four bytes is at most the greatest.
+fn fits_four(number: u32)
+    ensures { number ≤ MAX_NUMBER }
+{
+    let _number = number;
 }
 
 impl<D: Disk> NodeStore<D> {
@@ -80,6 +94,16 @@ impl<D: Disk> NodeStore<D> {
         ensures stopped { D.tells ≡ true → Every (Now D.moment D.images self.now.disk) (λ w. OpensAs w (shelf_of (stored_in (D.content self.now.disk) self.now.memory))) }
     {
         let _seat = self.seat;
+    }
+
+    /// What a store that was just opened keeps is what a sound node without seats keeps; of a store that tells nothing, so is
+    /// something that it may keep. It does nothing.
+    pub fn opens_soundly(&self)
+        requires { IsNewMemory self.now.memory }
+        ensures { (settings : Settings) → KeepsSound settings (stand_of D.tells D.content D.fault_count D.moment D.images self.now).state }
+    {
+        self.books.holds_few();
+        fits_four(self.drawn);
     }
 
     /// How often a call of the disk failed.

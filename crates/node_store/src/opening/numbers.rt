@@ -1,9 +1,15 @@
-//! Numbers of what was opened: the greatest that were drawn, and how many there are.
-ghost use Rattle.std.specs.Prelude.{◌≡◌, ◌+◌, count_by, if◌then◌else◌, length, map};
-ghost use Rattle.ledger_rec.specs.Items.{Entry, entry};
+//! Numbers of what was opened: the greatest that were drawn, the receipts whose files are kept, and how many there are.
+ghost use Rattle.std.specs.Prelude.{◌≡◌, ◌&&◌, ◌+◌, ℕ, Bool, count_by, if◌then◌else◌, length, map, not};
+ghost use Rattle.file_index.specs.Sets.{Kept};
+ghost use Rattle.ledger_rec.specs.Fold.{is_among};
+ghost use Rattle.ledger_rec.specs.Items.{Entry, entry, receipt};
+ghost use Rattle.node_store.specs.Giving.{is_kept};
 ghost use Rattle.node_store.specs.Opening.{counted, greatest};
+ghost use Rattle.node_store.specs.Stored.{has_receipt};
 
-use ledger_rec::QueueItem;
+use file_index::NumberSet;
+use ledger_rec::{InboxItem, QueueItem};
+use std::alloc::Global;
 
 /// The greatest of these numbers.
 pub(crate) fn greatest(numbers: &[u32]) -> u32
@@ -25,6 +31,35 @@ pub(crate) fn greatest_queued(queue: &[QueueItem]) -> u32
         most = most.max(item.number);
     }
     most
+}
+
+// The receipts of an inbox.
+fn received(alloc: Global, inbox: &[InboxItem]) -> NumberSet
+    ensures { Kept result (λ n. has_receipt n (map receipt inbox.now)) }
+{
+    let mut numbers = NumberSet::new(alloc);
+    for item in inbox {
+        numbers.note(item.receipt);
+    }
+    numbers
+}
+
+// Takes these numbers out.
+fn take_out(given: &[u32], numbers: &mut NumberSet)
+    ensures { (p : ℕ → Bool) → Kept numbers.old p → Kept numbers.new (λ n. p n && not (is_among n given.now)) }
+{
+    for number in given {
+        numbers.remove(*number);
+    }
+}
+
+/// The receipts whose files weren't given.
+pub(crate) fn kept(alloc: Global, inbox: &[InboxItem], given: &[u32]) -> NumberSet
+    ensures { Kept result (is_kept given.now (map receipt inbox.now)) }
+{
+    let mut numbers = received(alloc, inbox);
+    take_out(given, &mut numbers);
+    numbers
 }
 
 /// One more, if so.

@@ -1,6 +1,8 @@
-use Rattle.std.proofs.Common.{◌≡◌, ◌∙◌, List, map, None, sym, ap, subst, arith}
+use Rattle.std.proofs.Common.{◌≡◌, ◌∙◌, ℕ, List, map, None, sym, ap, subst, arith}
+use Rattle.file_index.specs.Sets.{Kept}
 use Rattle.ledger_rec.specs.Fold.{Folding}
-use Rattle.ledger_rec.specs.Items.{Entry}
+use Rattle.ledger_rec.specs.Items.{Entry, Receipt, receipt}
+use Rattle.node_store.specs.Giving.{is_kept}
 use Rattle.node_store.specs.Opening.{greatest, opened_memory}
 use Rattle.node_store.specs.Stored.{IsSound, Memory}
 use Rattle.node_store.proofs.OpenSound.{opened_sound}
@@ -18,4 +20,6 @@ invariant_of-result g c =
       subst (λ (x : Memory). IsSound g.D.Disk.tells g.D.Disk.content g.D.Disk.moment g.D.Disk.images c.args.disk x) (sym is)
           (opened_sound g.D.Disk.files g.D.Disk.moment g.D.Disk.images g.D.Disk.tells g.D.Disk.content g.met.D.Disk.told c.args.disk b c.args.found.given.items c.requires.books c.requires.tended c.requires.given c.requires.receipts),
       omega (arith, c.requires.room),
+      subst (λ (l : List Receipt). Kept c.kept-kept.result (is_kept c.args.found.given.items l)) (c.inbox.ensures ∙ ap (λ (f : Folding). f.state.inbox) c.folded-3.ensures)
+          (subst (λ (ns : List ℕ). Kept c.kept-kept.result (is_kept ns (map receipt c.inbox.result.now))) c.as_slice.ensures.value c.kept-kept.ensures),
     )

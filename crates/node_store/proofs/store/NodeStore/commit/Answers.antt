@@ -1,22 +1,25 @@
-use Rattle.std.proofs.Common.{◌≡◌, ℕ, List, [], ◌∷◌, Option, Some, None, Ok, refl, sym, ◌∙◌, ap, subst, arith}
-use Rattle.std.specs.Prelude.{find, IsSome}
+use Rattle.std.proofs.Common.{◌≡◌, ◌==◌, ℕ, List, [], ◌∷◌, Option, Some, None, Ok, refl, sym, ◌∙◌, ap, subst, arith}
+use Rattle.std.specs.Prelude.{◌||◌, find, IsSome}
+use Rattle.file_index.specs.Sets.{Kept}
 use Rattle.disk_model.specs.Changes.{Every}
 use Rattle.disk_model.specs.Moments.{Leaves, Now}
 use Rattle.ledger_file.specs.Ledger.{LedgerIs}
-use Rattle.ledger_rec.specs.Fold.{State, fold_step, without_hold}
+use Rattle.ledger_rec.specs.Fold.{State, fold_step, new_receipt, without_hold}
 use Rattle.ledger_rec.specs.Limits.{Fits}
 use Rattle.ledger_rec.specs.Payloads.{record_in}
 use Rattle.ledger_rec.specs.Record.{RecordText, Received, record_of}
 use Rattle.node_model.specs.declared.store.StoreFault.TheVariants.{Disk}
 use Rattle.node_model.specs.Stores.{StoreKept, Commit, IsWhole, Well, Refuses}
 use Rattle.node_store.specs.Books.{Books}
+use Rattle.node_store.specs.Giving.{is_kept}
 use Rattle.node_store.specs.Names.{in_name}
 use Rattle.node_store.specs.Recording.{IsRecorded, IsSynced, Records}
 use Rattle.node_store.specs.Stored.{Holding, Memory, Part, Closed, IsSound, received_text, stand_of, state_of, without_part}
 use Rattle.node_store.proofs.ClosedParts.{has_number}
-use Rattle.node_store.proofs.CommitCall.{IsCommitting, whole_part, receipt_follows, closed_receipt, receipt_fits, receipted, commit_kept, commit_sound, commit_failed, failed_commit_sound}
+use Rattle.node_store.proofs.CommitCall.{IsCommitting, part_ungiven, whole_part, receipt_follows, closed_receipt, receipt_fits, receipted, commit_kept, commit_sound, commit_failed, failed_commit_sound}
 use Rattle.node_store.proofs.NameLaws.{in_not_ledger}
 use Rattle.node_store.proofs.PutCall.{stands}
+use Rattle.node_store.proofs.StillKept.{kept_in, kept_received}
 use Rattle.node_store.proofs.store.NodeStore.commit.Goals as goal
 
 pub close-requires : goal.close-requires
@@ -103,7 +106,8 @@ invariant_of-self g c =
     let durable = subst (λ (l : List (List ℕ)). Every (Now g.D.Disk.moment g.D.Disk.images new) (LedgerIs l)) same c.in-Ok.ensures.durable in
     let synced = subst (λ (k : List ℕ). Every (Now g.D.Disk.moment g.D.Disk.images new) (IsSynced (g.D.Disk.files s.disk) k)) name c.in-Ok.ensures.synced in
     let sound = commit_sound g.D.Disk.tells g.D.Disk.content g.D.Disk.files g.D.Disk.fault_count g.D.Disk.moment g.D.Disk.images s.disk new m q c.args.session c.args.secure payload p b more.0 c.in-Ok.ensures.cause.calm durable synced c.unhold.ensures.books more.1 in
-    (subst (λ (ps : List Part). IsSound g.D.Disk.tells g.D.Disk.content g.D.Disk.moment g.D.Disk.images new (record m { books = b; parts = ps })) others sound, c.spell.ensures.room)
+    let noted = subst (λ (k : ℕ). Kept c.note.new.self (λ n. is_kept s.given.items s.books.folding.state.inbox n || n == k)) (sym o.numbered) (c.note.ensures (is_kept s.given.items s.books.folding.state.inbox) c.self.invariant.2) in
+    (subst (λ (ps : List Part). IsSound g.D.Disk.tells g.D.Disk.content g.D.Disk.moment g.D.Disk.images new (record m { books = b; parts = ps })) others sound, c.spell.ensures.room, kept_received c.note.new.self s.given.items s.books.folding.state b.folding.state (new_receipt (received_text q c.args.session c.args.secure)) (ap (λ (x : State). x.inbox) more.0.folded) (part_ungiven m q is found) noted)
 
 pub returns-in-Ok : goal.returns-in-Ok
 returns-in-Ok g c =
@@ -161,7 +165,7 @@ invariant_of-self-in-Err g c =
     let same : s.books ≡ c.record_file.new.self = sym c.in-Err.ensures.same in
     let sound = failed_commit_sound g.D.Disk.tells g.D.Disk.content g.D.Disk.files g.D.Disk.fault_count g.D.Disk.moment g.D.Disk.images s.disk new m q c.args.session c.args.secure payload p c.faults.result in
     let moved = subst (λ (ps : List Part). IsSound g.D.Disk.tells g.D.Disk.content g.D.Disk.moment g.D.Disk.images new (record m { parts = ps; broken = Some c.faults.result })) others sound in
-    (subst (λ (b : Books). IsSound g.D.Disk.tells g.D.Disk.content g.D.Disk.moment g.D.Disk.images new (record m { books = b; parts = c.close.new.parts.items; broken = Some c.faults.result })) same moved, c.spell.ensures.room)
+    (subst (λ (b : Books). IsSound g.D.Disk.tells g.D.Disk.content g.D.Disk.moment g.D.Disk.images new (record m { books = b; parts = c.close.new.parts.items; broken = Some c.faults.result })) same moved, c.spell.ensures.room, kept_in s.kept s.given.items s.books c.record_file.new.self (ap (λ (x : Books). x.folding.state) c.in-Err.ensures.same) c.self.invariant.2)
 
 pub returns : goal.returns
 returns g c =

@@ -10,6 +10,7 @@ use Rattle.node_store.specs.Stored.{Holding, Memory, IsSound, stand_of, state_of
 use Rattle.node_store.proofs.AppendTold.{broken_sound}
 use Rattle.node_store.proofs.SettleCall.{done_follows, live_entry, settle_kept, settle_sound, settle_failed}
 use Rattle.node_store.proofs.OneRecord.{only_content}
+use Rattle.node_store.proofs.StillKept.{kept_in, kept_step}
 use Rattle.node_store.proofs.store.NodeStore.done.Goals as goal
 
 pub append_record-requires-clause-follows : goal.append_record-requires-clause-follows
@@ -33,6 +34,7 @@ invariant_of-self g c =
     let made = c.in-Ok.ensures in (
       settle_sound g.D.Disk.tells g.D.Disk.content g.D.Disk.fault_count g.D.Disk.moment g.D.Disk.images s.disk new m c.args.number c.args.session payload c.self.invariant.0 whole spells c.append_record.ensures.stop only b c.append_record.ensures.books made.recorded made.durable made.cause.calm,
       c.spell.ensures.room,
+      kept_step s.kept s.given.items s.books.folding.state (Done c.args.number c.args.session) b.folding.state tt made.recorded.folded c.self.invariant.2,
     )
 
 pub returns-in-Ok : goal.returns-in-Ok
@@ -74,4 +76,4 @@ invariant_of-self-in-Err g c =
     let m : Memory = record { books = s.books; given = s.given.items; parts = s.parts.items; staged = s.staged.items; drawn = s.drawn; last_staged = s.last_staged; seat = s.seat; last_given = s.last_given; fulls = s.fulls; broken = s.broken } in
     let same : s.books ≡ c.append_record.new.self = sym c.in-Err.ensures.same in
     let sound = broken_sound g.D.Disk.tells g.D.Disk.content g.D.Disk.moment g.D.Disk.images c.append_record.new.disk m c.faults.result c.self.invariant.0.memory in
-    (subst (λ (b : Books). IsSound g.D.Disk.tells g.D.Disk.content g.D.Disk.moment g.D.Disk.images c.append_record.new.disk (record m { books = b; broken = Some c.faults.result })) same sound, c.spell.ensures.room)
+    (subst (λ (b : Books). IsSound g.D.Disk.tells g.D.Disk.content g.D.Disk.moment g.D.Disk.images c.append_record.new.disk (record m { books = b; broken = Some c.faults.result })) same sound, c.spell.ensures.room, kept_in s.kept s.given.items s.books c.append_record.new.self (ap (λ (x : Books). x.folding.state) c.in-Err.ensures.same) c.self.invariant.2)

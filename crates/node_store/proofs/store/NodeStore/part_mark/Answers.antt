@@ -20,6 +20,7 @@ use Rattle.node_store.proofs.ClosedParts.{has_number, found_at, somewhere}
 use Rattle.node_store.proofs.MarkCall.{IsMarkCall, marking, mark_stays, mark_kept, mark_sound, mark_failed, failed_mark_sound}
 use Rattle.node_store.proofs.PutCall.{all_found, open_part, stands}
 use Rattle.node_store.proofs.ReplacedParts.{replaced, set_at}
+use Rattle.node_store.proofs.StillKept.{kept_in, kept_step}
 use Rattle.node_store.proofs.store.NodeStore.part_mark.Goals as goal
 
 pub unreachable-requires : goal.unreachable-requires
@@ -115,7 +116,7 @@ invariant_of-self g c =
     let parts : replaced q.number (all_marked q) s.parts.items ≡ set s.parts.items place c.mark_part.new.part =
     ap (λ (k : ℕ). replaced k (all_marked q) s.parts.items) numbered ∙ sym (set_at c.args.part (all_marked q) s.parts.items place q at) ∙ ap (set s.parts.items place) (sym (c.in-Ok.ensures.marked ∙ ap all_marked item)) in
     let sound = mark_sound g.D.Disk.tells g.D.Disk.content g.D.Disk.files g.D.Disk.fault_count g.D.Disk.moment g.D.Disk.images s.disk new m q payload p b recorded c.in-Ok.ensures.cause.calm c.in-Ok.ensures.durable synced c.mark_part.ensures.books in
-    (subst (λ (ps : List Part). IsSound g.D.Disk.tells g.D.Disk.content g.D.Disk.moment g.D.Disk.images new (record m { books = b; parts = ps })) parts sound, c.mark_part.ensures.text)
+    (subst (λ (ps : List Part). IsSound g.D.Disk.tells g.D.Disk.content g.D.Disk.moment g.D.Disk.images new (record m { books = b; parts = ps })) parts sound, c.mark_part.ensures.text, kept_step s.kept s.given.items s.books.folding.state (Mark (mark_text q q.have)) b.folding.state tt recorded.folded c.self.invariant.2)
 
 pub invariant_of-self-in-Err : goal.invariant_of-self-in-Err
 invariant_of-self-in-Err g c =
@@ -144,7 +145,7 @@ invariant_of-self-in-Err g c =
     ap (λ (k : ℕ). replaced k (marks_all q) s.parts.items) numbered ∙ sym (set_at c.args.part (marks_all q) s.parts.items place q at) ∙ ap (set s.parts.items place) (sym (c.in-Err.ensures.unmarked ∙ ap marks_all item)) in
     let sound = failed_mark_sound g.D.Disk.tells g.D.Disk.content g.D.Disk.files g.D.Disk.fault_count g.D.Disk.moment g.D.Disk.images s.disk new m q payload p c.faults.result in
     let moved = subst (λ (ps : List Part). IsSound g.D.Disk.tells g.D.Disk.content g.D.Disk.moment g.D.Disk.images new (record m { parts = ps; broken = Some c.faults.result })) parts sound in
-    (subst (λ (b : Books). IsSound g.D.Disk.tells g.D.Disk.content g.D.Disk.moment g.D.Disk.images new (record m { books = b; parts = set s.parts.items place c.mark_part.new.part; broken = Some c.faults.result })) same moved, c.mark_part.ensures.text)
+    (subst (λ (b : Books). IsSound g.D.Disk.tells g.D.Disk.content g.D.Disk.moment g.D.Disk.images new (record m { books = b; parts = set s.parts.items place c.mark_part.new.part; broken = Some c.faults.result })) same moved, c.mark_part.ensures.text, kept_in s.kept s.given.items s.books c.mark_part.new.books (ap (λ (x : Books). x.folding.state) c.in-Err.ensures.same) c.self.invariant.2)
 
 pub returns-in-Ok : goal.returns-in-Ok
 returns-in-Ok g c =

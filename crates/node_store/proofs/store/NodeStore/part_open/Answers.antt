@@ -23,6 +23,7 @@ use Rattle.node_store.proofs.BegunParts.{at_mark, is_mark_of}
 use Rattle.node_store.proofs.OpenCall.{on_err, on_ok, IsOpening, parts_held, mark_stands, open_full, open_unmade, open_kept, open_sound, open_failed, failed_open_sound}
 use Rattle.node_store.proofs.PartOpened.{held_books}
 use Rattle.node_store.proofs.OpenTold.{mark_at, unknown_folded}
+use Rattle.node_store.proofs.StillKept.{kept_in}
 use Rattle.node_store.proofs.store.NodeStore.part_open.Goals as goal
 
 pub returns-in_default : goal.returns-in_default
@@ -125,7 +126,7 @@ invariant_of-self-in-Ok-make_ready g c =
     let sound = open_sound g.D.Disk.tells g.D.Disk.content g.D.Disk.files g.D.Disk.fault_count g.D.Disk.moment g.D.Disk.images s.disk new m hs from key mark n p c.in-Ok-make_ready.ensures.cause.calm few c.requires.address_limits c.requires.key_limits c.begin.ensures.time unknown (on_ok c.make_room.result (is_held from key hs ≡ true) (sym c.if-is_err.ensures.value) c.make_room.ensures.held) ready in
     let booked = subst (λ (b : Books). IsSound g.D.Disk.tells g.D.Disk.content g.D.Disk.moment g.D.Disk.images new (record m { books = b; parts = without_file from key s.parts.items ++ begun n from key mark ∷ []; drawn = max s.drawn n })) books sound in
     let placed = subst (λ (ps : List Part). IsSound g.D.Disk.tells g.D.Disk.content g.D.Disk.moment g.D.Disk.images new (record m { books = c.make_room.new.books; parts = ps; drawn = max s.drawn n })) parts booked in
-    (subst (λ (k : ℕ). IsSound g.D.Disk.tells g.D.Disk.content g.D.Disk.moment g.D.Disk.images new (record m { books = c.make_room.new.books; parts = c.put_in_place.new.parts.items; drawn = k })) drawn placed, c.self.invariant.1)
+    (subst (λ (k : ℕ). IsSound g.D.Disk.tells g.D.Disk.content g.D.Disk.moment g.D.Disk.images new (record m { books = c.make_room.new.books; parts = c.put_in_place.new.parts.items; drawn = k })) drawn placed, c.self.invariant.1, kept_in s.kept s.given.items s.books c.make_room.new.books (ap (λ (x : Books). x.folding.state) c.make_room.ensures.same) c.self.invariant.2)
 
 pub invariant_of-self-in-Err : goal.invariant_of-self-in-Err
 invariant_of-self-in-Err g c =
@@ -152,7 +153,7 @@ invariant_of-self-in-Err g c =
     let books : held_books s.books hs ≡ c.make_room.new.books = sym c.make_room.ensures.same in
     let sound = failed_open_sound g.D.Disk.tells g.D.Disk.content g.D.Disk.files g.D.Disk.fault_count g.D.Disk.moment g.D.Disk.images s.disk new m hs from key mark n p c.faults.result in
     let booked = subst (λ (b : Books). IsSound g.D.Disk.tells g.D.Disk.content g.D.Disk.moment g.D.Disk.images new (record m { books = b; broken = Some c.faults.result })) books sound in
-    (subst (λ (ps : List Part). IsSound g.D.Disk.tells g.D.Disk.content g.D.Disk.moment g.D.Disk.images new (record m { books = c.make_room.new.books; parts = ps; broken = Some c.faults.result })) (sym c.make_room.ensures.parts) booked, c.self.invariant.1)
+    (subst (λ (ps : List Part). IsSound g.D.Disk.tells g.D.Disk.content g.D.Disk.moment g.D.Disk.images new (record m { books = c.make_room.new.books; parts = ps; broken = Some c.faults.result })) (sym c.make_room.ensures.parts) booked, c.self.invariant.1, kept_in s.kept s.given.items s.books c.make_room.new.books (ap (λ (x : Books). x.folding.state) c.make_room.ensures.same) c.self.invariant.2)
 
 pub returns-in-Ok-make_ready : goal.returns-in-Ok-make_ready
 returns-in-Ok-make_ready g c =

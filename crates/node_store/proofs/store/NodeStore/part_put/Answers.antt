@@ -66,6 +66,7 @@ invariant_of-self g c =
       subst (λ (ps : List Part). IsSound g.D.Disk.tells g.D.Disk.content g.D.Disk.moment g.D.Disk.images new (record m { parts = ps })) parts
           (put_sound g.D.Disk.tells g.D.Disk.content g.D.Disk.files g.D.Disk.fault_count g.D.Disk.moment g.D.Disk.images s.disk new m q c.args.bytes.now p written c.in-Ok.ensures.cause.calm fits),
       c.self.invariant.1,
+      c.self.invariant.2,
     )
 
 pub returns-in-Ok : goal.returns-in-Ok

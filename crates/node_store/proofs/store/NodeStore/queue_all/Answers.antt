@@ -26,6 +26,7 @@ use Rattle.node_store.proofs.Places.{places_told, same_stored, sound_same}
 use Rattle.node_store.proofs.QueueCall.{asked, count_is, queue_failed, queue_kept, queue_sound}
 use Rattle.node_store.proofs.QueueKeeps.{new_there, new_stand}
 use Rattle.node_store.proofs.QueueTold.{batch_of, unstaged}
+use Rattle.node_store.proofs.StillKept.{kept_batch, kept_in}
 use Rattle.node_store.proofs.store.NodeStore.queue_all.Goals as goal
 
 pub plan_batch-requires : goal.plan_batch-requires
@@ -116,6 +117,7 @@ invariant_of-self g c =
       subst (λ (l : List Put). IsSound g.D.Disk.tells g.D.Disk.content g.D.Disk.moment g.D.Disk.images new (record m { books = b; staged = l })) staged
           (queue_sound g.D.Disk.tells g.D.Disk.content g.D.Disk.files g.D.Disk.fault_count g.D.Disk.moment g.D.Disk.images s.disk new m take request fs c.self.invariant.0 whole g.met.D.Disk.reads ask records c.more_records_fold_on.ensures run only room b c.append_batch.ensures.books batched made.durable synced made.calm),
       c.self.invariant.1,
+      kept_batch s.kept s.given.items s.books.folding.state (map new_file c.in-Ok.plan.fresh.items) take request b.folding.state made.batched.folded c.self.invariant.2,
     )
 
 pub returns-in-Ok-append_batch : goal.returns-in-Ok-append_batch
@@ -168,7 +170,7 @@ invariant_of-self-in-Err-NoMemory g c =
     let new = c.append_batch.new.disk in
     let b = c.append_batch.new.self in
     let new_disk : new ≡ s.disk = ⊎_elim (λ (e : c.in-Err-NoMemory.field-0 ≡ DiskFault). absurd (let clash : MemoryFault ≡ DiskFault = sym c.in-Err-NoMemory.field-0-is ∙ e in cc)) (λ e. e) c.in-Err-NoMemory.ensures.untouched in
-    (subst (λ d. IsSound g.D.Disk.tells g.D.Disk.content g.D.Disk.moment g.D.Disk.images d (record m { books = b })) (sym new_disk) (sound_same g.D.Disk.tells g.D.Disk.content g.D.Disk.moment g.D.Disk.images s.disk m b c.in-Err-NoMemory.ensures.same c.append_batch.ensures.books c.self.invariant.0), c.self.invariant.1)
+    (subst (λ d. IsSound g.D.Disk.tells g.D.Disk.content g.D.Disk.moment g.D.Disk.images d (record m { books = b })) (sym new_disk) (sound_same g.D.Disk.tells g.D.Disk.content g.D.Disk.moment g.D.Disk.images s.disk m b c.in-Err-NoMemory.ensures.same c.append_batch.ensures.books c.self.invariant.0), c.self.invariant.1, kept_in s.kept s.given.items s.books b c.in-Err-NoMemory.ensures.same.state c.self.invariant.2)
 
 pub returns-in-Err-NoMemory : goal.returns-in-Err-NoMemory
 returns-in-Err-NoMemory g c =
@@ -204,8 +206,8 @@ invariant_of-self-in-Err-Full g c =
     let b = c.append_batch.new.self in
     let new_disk : new ≡ s.disk = ⊎_elim (λ (e : c.in-Err-Full.field-0 ≡ DiskFault). absurd (let clash : FullFault ≡ DiskFault = sym c.in-Err-Full.field-0-is ∙ e in cc)) (λ e. e) c.in-Err-Full.ensures.untouched in
     let h = sound_same g.D.Disk.tells g.D.Disk.content g.D.Disk.moment g.D.Disk.images s.disk m b c.in-Err-Full.ensures.same c.append_batch.ensures.books c.self.invariant.0 in
-    let counted : IsSound g.D.Disk.tells g.D.Disk.content g.D.Disk.moment g.D.Disk.images s.disk (record m { books = b; fulls = c.saturating_add-self-inside.result }) = record { memory = record { books = h.memory.books; orderly = h.memory.orderly; parts = h.memory.parts; marked = h.memory.marked; received = h.memory.received; numbers = h.memory.numbers; given = h.memory.given; staged = h.memory.staged; queued = h.memory.queued }; kept = λ still w now. let k = h.kept still w now in record { ledger = k.ledger; files = k.files; same = k.same }; bodies = λ still t. let x = h.bodies still t in record { parts = x.parts; staged = x.staged } } in
-    (subst (λ d. IsSound g.D.Disk.tells g.D.Disk.content g.D.Disk.moment g.D.Disk.images d (record m { books = b; fulls = c.saturating_add-self-inside.result })) (sym new_disk) counted, c.self.invariant.1)
+    let counted : IsSound g.D.Disk.tells g.D.Disk.content g.D.Disk.moment g.D.Disk.images s.disk (record m { books = b; fulls = c.saturating_add-self-inside.result }) = record { memory = record { books = h.memory.books; orderly = h.memory.orderly; parts = h.memory.parts; marked = h.memory.marked; received = h.memory.received; numbers = h.memory.numbers; given = h.memory.given; staged = h.memory.staged; queued = h.memory.queued }; kept = λ still w now. let k = h.kept still w now in record { ledger = k.ledger; files = k.files; same = k.same }; bodies = λ still t. let x = h.bodies still t in record { parts = x.parts; staged = x.staged; given = x.given } } in
+    (subst (λ d. IsSound g.D.Disk.tells g.D.Disk.content g.D.Disk.moment g.D.Disk.images d (record m { books = b; fulls = c.saturating_add-self-inside.result })) (sym new_disk) counted, c.self.invariant.1, kept_in s.kept s.given.items s.books b c.in-Err-Full.ensures.same.state c.self.invariant.2)
 
 pub returns-in-Err-Full : goal.returns-in-Err-Full
 returns-in-Err-Full g c =
@@ -255,7 +257,7 @@ invariant_of-self-in-Err-Disk g c =
     let new = c.append_batch.new.disk in
     let b = c.append_batch.new.self in
     let h = sound_same g.D.Disk.tells g.D.Disk.content g.D.Disk.moment g.D.Disk.images s.disk m b c.in-Err-Disk.ensures.same c.append_batch.ensures.books c.self.invariant.0 in
-    (broken_sound g.D.Disk.tells g.D.Disk.content g.D.Disk.moment g.D.Disk.images new (record m { books = b }) c.faults.result h.memory, c.self.invariant.1)
+    (broken_sound g.D.Disk.tells g.D.Disk.content g.D.Disk.moment g.D.Disk.images new (record m { books = b }) c.faults.result h.memory, c.self.invariant.1, kept_in s.kept s.given.items s.books b c.in-Err-Disk.ensures.same.state c.self.invariant.2)
 
 pub returns : goal.returns
 returns g c =

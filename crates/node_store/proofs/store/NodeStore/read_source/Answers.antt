@@ -52,7 +52,7 @@ invariant_of-self g c =
     let room = length c.args.out.now in
     let same = read_again g.D.Disk.tells g.D.Disk.content g.D.Disk.files s.disk new g.met.D.Disk.reads g.met.D.Disk.told c.read_some.ensures.read in
     let stop = c.read_some.ensures.stop in
-    (same_sound g.D.Disk.tells g.D.Disk.content g.D.Disk.fault_count g.D.Disk.moment g.D.Disk.images s.disk new m c.self.invariant.0 whole same stop, c.self.invariant.1)
+    (same_sound g.D.Disk.tells g.D.Disk.content g.D.Disk.fault_count g.D.Disk.moment g.D.Disk.images s.disk new m c.self.invariant.0 whole same stop, c.self.invariant.1, c.self.invariant.2)
 
 pub returns-clause-kept : goal.returns-clause-kept
 returns-clause-kept g c =

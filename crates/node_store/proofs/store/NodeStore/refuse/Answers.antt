@@ -27,6 +27,7 @@ use Rattle.node_store.proofs.OpenCall.{parts_held}
 use Rattle.node_store.proofs.OpenTold.{unknown_folded}
 use Rattle.node_store.proofs.PartRecord.{broken_sound}
 use Rattle.node_store.proofs.RefuseCall.{IsRefusing, refused_step, reason_fits, refuse_failed, refuse_kept, refuse_sound}
+use Rattle.node_store.proofs.StillKept.{kept_in, kept_same}
 use Rattle.node_store.proofs.store.NodeStore.refuse.Goals as goal
 
 pub returns-in_default : goal.returns-in_default
@@ -103,7 +104,7 @@ invariant_of-self g c =
     let books : IsBooks b = subst IsBooks (sym same) (let mid_books = c.append_record.ensures.books in record { folds = mid_books.folds; room = mid_books.room; since = mid_books.since }) in
     let held = subst (λ (ps : List Part). AllByRecursion (λ (x : Part). is_held x.from x.key b.folding.holds ≡ true) ps) (sym parts) c.close_file.ensures.held in
     let sound = refuse_sound g.D.Disk.tells g.D.Disk.content g.D.Disk.files g.D.Disk.fault_count g.D.Disk.moment g.D.Disk.images s.disk new m r payload p b payloads places opened seats folded c.in-Ok-append_record.ensures.cause.calm durable books held in
-    (subst (λ (ps : List Part). IsSound g.D.Disk.tells g.D.Disk.content g.D.Disk.moment g.D.Disk.images new (record m { books = b; parts = ps })) parts sound, c.spell.ensures.room)
+    (subst (λ (ps : List Part). IsSound g.D.Disk.tells g.D.Disk.content g.D.Disk.moment g.D.Disk.images new (record m { books = b; parts = ps })) parts sound, c.spell.ensures.room, kept_same s.kept s.given.items s.books.folding.state.inbox b.folding.state.inbox (ap (λ (x : State). x.inbox) folded) c.self.invariant.2)
 
 pub invariant_of-self-in-Err : goal.invariant_of-self-in-Err
 invariant_of-self-in-Err g c =
@@ -111,7 +112,7 @@ invariant_of-self-in-Err g c =
     let m : Memory = record { books = s.books; given = s.given.items; parts = s.parts.items; staged = s.staged.items; drawn = s.drawn; last_staged = s.last_staged; seat = s.seat; last_given = s.last_given; fulls = s.fulls; broken = s.broken } in
     let is = c.self.invariant.0.memory in
     let sound = broken_sound g.D.Disk.tells g.D.Disk.content g.D.Disk.moment g.D.Disk.images c.append_record.new.disk (record m { broken = Some c.faults.result }) c.faults.result refl (memory_broken m c.faults.result is) in
-    (subst (λ (b : Books). IsSound g.D.Disk.tells g.D.Disk.content g.D.Disk.moment g.D.Disk.images c.append_record.new.disk (record m { books = b; broken = Some c.faults.result })) (sym c.in-Err.ensures.same) sound, c.spell.ensures.room)
+    (subst (λ (b : Books). IsSound g.D.Disk.tells g.D.Disk.content g.D.Disk.moment g.D.Disk.images c.append_record.new.disk (record m { books = b; broken = Some c.faults.result })) (sym c.in-Err.ensures.same) sound, c.spell.ensures.room, kept_in s.kept s.given.items s.books c.append_record.new.self (ap (λ (x : Books). x.folding.state) c.in-Err.ensures.same) c.self.invariant.2)
 
 pub returns-in-Ok-append_record : goal.returns-in-Ok-append_record
 returns-in-Ok-append_record g c =

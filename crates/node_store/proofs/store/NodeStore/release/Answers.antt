@@ -4,13 +4,14 @@ use Rattle.node_model.specs.StoreStates.{shelf_of}
 use Rattle.node_store.specs.Stored.{Holding, Memory, stand_of}
 use Rattle.node_store.proofs.Calls.{still_call}
 use Rattle.node_store.proofs.Places.{places_told, same_stored, sound_same}
+use Rattle.node_store.proofs.StillKept.{kept_in}
 use Rattle.node_store.proofs.store.NodeStore.release.Goals as goal
 
 pub invariant_of-self : goal.invariant_of-self
 invariant_of-self g c =
     let s = c.self.inside in
     let m : Memory = record { books = s.books; given = s.given.items; parts = s.parts.items; staged = s.staged.items; drawn = s.drawn; last_staged = s.last_staged; seat = s.seat; last_given = s.last_given; fulls = s.fulls; broken = s.broken } in
-    (sound_same g.D.Disk.tells g.D.Disk.content g.D.Disk.moment g.D.Disk.images s.disk m c.release.new.self c.release.ensures.same c.release.ensures.books c.self.invariant.0, c.self.invariant.1)
+    (sound_same g.D.Disk.tells g.D.Disk.content g.D.Disk.moment g.D.Disk.images s.disk m c.release.new.self c.release.ensures.same c.release.ensures.books c.self.invariant.0, c.self.invariant.1, kept_in s.kept s.given.items s.books c.release.new.self c.release.ensures.same.state c.self.invariant.2)
 
 pub returns : goal.returns
 returns g c =

@@ -6,6 +6,7 @@ use Rattle.node_model.specs.Stores.{StoreKept, Reserve, Well, Refuses}
 use Rattle.node_store.specs.Stored.{Holding, Memory, stand_of, state_of}
 use Rattle.node_store.proofs.Calls.{still_call}
 use Rattle.node_store.proofs.Places.{places_told, same_stored, sound_same}
+use Rattle.node_store.proofs.StillKept.{kept_in}
 use Rattle.node_store.proofs.store.NodeStore.reserve.Goals as goal
 
 pub invariant_of-self : goal.invariant_of-self
@@ -13,21 +14,21 @@ invariant_of-self g c =
     let s = c.self.inside in
     let m : Memory = record { books = s.books; given = s.given.items; parts = s.parts.items; staged = s.staged.items; drawn = s.drawn; last_staged = s.last_staged; seat = s.seat; last_given = s.last_given; fulls = s.fulls; broken = s.broken } in
     let h = sound_same g.D.Disk.tells g.D.Disk.content g.D.Disk.moment g.D.Disk.images s.disk m c.reserve.new.self c.reserve.ensures.same c.reserve.ensures.books c.self.invariant.0 in
-    (h, c.self.invariant.1)
+    (h, c.self.invariant.1, kept_in s.kept s.given.items s.books c.reserve.new.self c.reserve.ensures.same.state c.self.invariant.2)
 
 pub invariant_of-self-in-Err-NoMemory : goal.invariant_of-self-in-Err-NoMemory
 invariant_of-self-in-Err-NoMemory g c =
     let s = c.self.inside in
     let m : Memory = record { books = s.books; given = s.given.items; parts = s.parts.items; staged = s.staged.items; drawn = s.drawn; last_staged = s.last_staged; seat = s.seat; last_given = s.last_given; fulls = s.fulls; broken = s.broken } in
     let h = sound_same g.D.Disk.tells g.D.Disk.content g.D.Disk.moment g.D.Disk.images s.disk m c.reserve.new.self c.reserve.ensures.same c.reserve.ensures.books c.self.invariant.0 in
-    (h, c.self.invariant.1)
+    (h, c.self.invariant.1, kept_in s.kept s.given.items s.books c.reserve.new.self c.reserve.ensures.same.state c.self.invariant.2)
 
 pub invariant_of-self-in-Err-Full : goal.invariant_of-self-in-Err-Full
 invariant_of-self-in-Err-Full g c =
     let s = c.self.inside in
     let m : Memory = record { books = s.books; given = s.given.items; parts = s.parts.items; staged = s.staged.items; drawn = s.drawn; last_staged = s.last_staged; seat = s.seat; last_given = s.last_given; fulls = s.fulls; broken = s.broken } in
     let h = sound_same g.D.Disk.tells g.D.Disk.content g.D.Disk.moment g.D.Disk.images s.disk m c.reserve.new.self c.reserve.ensures.same c.reserve.ensures.books c.self.invariant.0 in
-    (record { memory = record { books = h.memory.books; orderly = h.memory.orderly; parts = h.memory.parts; marked = h.memory.marked; received = h.memory.received; numbers = h.memory.numbers; given = h.memory.given; staged = h.memory.staged; queued = h.memory.queued }; kept = λ whole w now. let k = h.kept whole w now in record { ledger = k.ledger; files = k.files; same = k.same }; bodies = λ whole t. let b = h.bodies whole t in record { parts = b.parts; staged = b.staged } }, c.self.invariant.1)
+    (record { memory = record { books = h.memory.books; orderly = h.memory.orderly; parts = h.memory.parts; marked = h.memory.marked; received = h.memory.received; numbers = h.memory.numbers; given = h.memory.given; staged = h.memory.staged; queued = h.memory.queued }; kept = λ whole w now. let k = h.kept whole w now in record { ledger = k.ledger; files = k.files; same = k.same }; bodies = λ whole t. let b = h.bodies whole t in record { parts = b.parts; staged = b.staged; given = b.given } }, c.self.invariant.1, kept_in s.kept s.given.items s.books c.reserve.new.self c.reserve.ensures.same.state c.self.invariant.2)
 
 pub returns-in-Ok : goal.returns-in-Ok
 returns-in-Ok g c =

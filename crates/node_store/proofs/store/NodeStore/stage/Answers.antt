@@ -58,6 +58,7 @@ invariant_of-self-in-Ok g c =
       subst (λ (l : List Put). IsSound g.D.Disk.tells g.D.Disk.content g.D.Disk.moment g.D.Disk.images new (record m { staged = l; last_staged = number })) staged
           (stage_sound g.D.Disk.tells g.D.Disk.content g.D.Disk.fault_count g.D.Disk.moment g.D.Disk.images s.disk new m number p bytes (length bytes) refl written c.in-Ok.ensures.cause.calm),
       c.self.invariant.1,
+      c.self.invariant.2,
     )
 
 pub returns-in-Ok : goal.returns-in-Ok

@@ -60,7 +60,7 @@ invariant_of-self-then-stat-gt-MAX_SIZE g c =
       only = only_content g.D.Disk.tells g.D.Disk.content g.D.Disk.files (out_name number) s.disk new g.met.D.Disk.reads g.met.D.Disk.told read;
       run = copy_leaves g.D.Disk.moment g.D.Disk.images c.copy.result (out_name number) MAX_SIZE s.disk new (subst (λ (k : List ℕ). Steps g.D.Disk.moment g.D.Disk.images (CopiesInPart c.copy.result k MAX_SIZE) s.disk new) name c.copy.ensures.stop);
     } in
-    (subst (λ (l : List Put). IsSound g.D.Disk.tells g.D.Disk.content g.D.Disk.moment g.D.Disk.images new (record m { staged = l })) (sym c.make_room.ensures.same) (none_sound g.D.Disk.tells g.D.Disk.content g.D.Disk.fault_count g.D.Disk.moment g.D.Disk.images s.disk new m number p), c.self.invariant.1)
+    (subst (λ (l : List Put). IsSound g.D.Disk.tells g.D.Disk.content g.D.Disk.moment g.D.Disk.images new (record m { staged = l })) (sym c.make_room.ensures.same) (none_sound g.D.Disk.tells g.D.Disk.content g.D.Disk.fault_count g.D.Disk.moment g.D.Disk.images s.disk new m number p), c.self.invariant.1, c.self.invariant.2)
 
 pub returns-then-stat-gt-MAX_SIZE : goal.returns-then-stat-gt-MAX_SIZE
 returns-then-stat-gt-MAX_SIZE g c =
@@ -116,6 +116,7 @@ invariant_of-self-in-Ok-Copied g c =
       subst (λ (l : List Put). IsSound g.D.Disk.tells g.D.Disk.content g.D.Disk.moment g.D.Disk.images new (record m { staged = l; last_staged = number })) staged
           (stage_sound g.D.Disk.tells g.D.Disk.content g.D.Disk.fault_count g.D.Disk.moment g.D.Disk.images s.disk new m number p bytes stat.size copy.size copy.written calm),
       c.self.invariant.1,
+      c.self.invariant.2,
     )
 
 pub returns-else-stat-gt-MAX_SIZE : goal.returns-else-stat-gt-MAX_SIZE
@@ -168,7 +169,7 @@ invariant_of-self-in-Ok-Over g c =
       only = only_content g.D.Disk.tells g.D.Disk.content g.D.Disk.files (out_name number) s.disk new g.met.D.Disk.reads g.met.D.Disk.told read;
       run = copy_leaves g.D.Disk.moment g.D.Disk.images c.copy.result (out_name number) MAX_SIZE s.disk new (subst (λ (k : List ℕ). Steps g.D.Disk.moment g.D.Disk.images (CopiesInPart c.copy.result k MAX_SIZE) s.disk new) name c.copy.ensures.stop);
     } in
-    (subst (λ (l : List Put). IsSound g.D.Disk.tells g.D.Disk.content g.D.Disk.moment g.D.Disk.images new (record m { staged = l })) (sym c.make_room.ensures.same) (none_sound g.D.Disk.tells g.D.Disk.content g.D.Disk.fault_count g.D.Disk.moment g.D.Disk.images s.disk new m number p), c.self.invariant.1)
+    (subst (λ (l : List Put). IsSound g.D.Disk.tells g.D.Disk.content g.D.Disk.moment g.D.Disk.images new (record m { staged = l })) (sym c.make_room.ensures.same) (none_sound g.D.Disk.tells g.D.Disk.content g.D.Disk.fault_count g.D.Disk.moment g.D.Disk.images s.disk new m number p), c.self.invariant.1, c.self.invariant.2)
 
 pub returns-in-Ok-Over : goal.returns-in-Ok-Over
 returns-in-Ok-Over g c =
