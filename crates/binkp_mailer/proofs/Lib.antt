@@ -1,3 +1,4 @@
+pub mod Completing
 pub mod NewStore
 pub mod ReservedStore
 pub mod TopCalls

@@ -1,3 +1,4 @@
+pub mod Completeness
 pub mod Programs
 pub mod Reports
 pub mod Statuses

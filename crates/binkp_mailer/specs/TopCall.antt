@@ -14,6 +14,7 @@ use Rattle.session_run.specs.Laws.{WholeRun}
 use Rattle.session_run.specs.Reports.{ReportText}
 use Rattle.hub_core.specs.Hubs.{HubState, Fitted, knows_over, hub_stand}
 use Rattle.hub_core.specs.Opening.{no_seats, with_seat}
+use Rattle.binkp_mailer.specs.Completeness.{IsDoneWhere}
 use Rattle.binkp_mailer.specs.Reports.{Prints}
 use Rattle.binkp_mailer.specs.Statuses as S
 use Rattle.binkp_mailer.specs.Statuses.{Status, status_after}
@@ -101,13 +102,15 @@ abbrev pub OutCause : Status → SinkState → SinkState → Type 0
 OutCause S.OutFault out out' = out'.faults ≡ next_count out.faults
 OutCause status out out' = out'.faults ≡ out.faults
 
--- the whole call, and then what was printed of it: the session's report where one was held, and the status that it had
+-- The whole call, and then what was printed of it: the session's report where one was held, and the status that it had.
+-- It is Done where that session finished, and nowhere else.
 pub record TopCall (words : List (List ℕ)) (moment : ℕ) (line : LineState) (store : StoreStand) (out : SinkState) (status : Status) (line' : LineState) (store' : StoreStand) (out' : SinkState) : Type 0 where
   pub told : Option ReportText
   pub had : Status
   pub call : IsCall words moment line store told had line' store'
   pub cause : StatusCause had line line' store.state.counts store'.state.counts
   pub prints : Prints told had status out out'
+  pub done : IsDoneWhere told status out out'
 
 -- no sender and key has two receipts
 abbrev pub HasOnceTold : Option Stored → Type 0

@@ -27,7 +27,7 @@ use Rattle.session_core.specs.Stages.{Setting, Stage}
 use Rattle.session_core.specs.Sessions.{Said, Gives, frame_number}
 use Rattle.session_run.specs.Acknowledged.{MayStand, Written, CutAt}
 use Rattle.session_run.specs.Settled.{BatchEnded, OffersNone}
-use Rattle.session_run.specs.Machine.{World, Phase, Starting, Taking, Writing, Reading, Over, Draining, Closed, Step, greets, takes_frame, makes_turn, writes, passes_write, reads, gives_up, leaves, drains, closes, Reach, here, next, opening, after_took, after_gave, after_write, after_read, after_drain}
+use Rattle.session_run.specs.Machine.{World, Phase, Starting, Taking, Writing, Reading, Over, Draining, Closed, Step, greets, takes_frame, makes_turn, writes, passes_write, reads, gives_up, leaves, drains, closes, Reach, here, next, Throughout, opening, after_took, after_gave, after_write, after_read, after_drain}
 use Rattle.session_run.proofs.HeldKeys.{key_held, HoldsKnown, chain_key}
 use Rattle.session_run.proofs.Acks.{acknowledged, acknowledged_on}
 use Rattle.session_run.proofs.FrameWritings.{AllQuiet, EndsBatch, IsOwed, Framed, own_end_at}
@@ -297,7 +297,7 @@ step_acked alone desk w v a (drains s) =
 step_acked alone desk w v a (closes s) =
     subst (Acked alone desk) (sym s.is) (record { small = a.small; wrote = goes_on alone desk w.events w.output w.phase (Closed s.end) _ a.wrote tt; leads = a.leads; holds = tt })
 
-pub run_acked : (alone : Bool) (desk : DeskState) (w v : World) → Acked alone desk w → Reach alone w v → Acked alone desk v
+run_acked : (alone : Bool) (desk : DeskState) (w v : World) → Acked alone desk w → Reach alone w v → Acked alone desk v
 run_acked alone desk w v a here = a
 run_acked alone desk w v a (next {u} r s) = step_acked alone desk u v (run_acked alone desk w u a r) s
 
@@ -314,6 +314,10 @@ pub acked_open : (alone : Bool) (s : Setting) (line : LineState) (desk : DeskSta
 acked_open alone s line desk small h =
     record { small = small; wrote = record { cut = []; cut_at = refl; frames = []; spelled = refl; stand = tt; unended = λ e. tt }; leads = refl; holds = h }
 
--- what was written in the end
-pub acked_written : (alone : Bool) (desk : DeskState) (w : World) (a : Acked alone desk w) → Written alone desk w.events w.output a.wrote.cut
-acked_written alone desk w a = record { frames = a.wrote.frames; spelled = a.wrote.spelled; stand = a.wrote.stand }
+-- what was written by then
+acked_written : (alone : Bool) (desk : DeskState) (w : World) (a : Acked alone desk w) → Written alone desk w
+acked_written alone desk w a = record { cut = a.wrote.cut; cut_at = a.wrote.cut_at; frames = a.wrote.frames; spelled = a.wrote.spelled; stand = a.wrote.stand }
+
+pub all_written : (alone : Bool) (desk : DeskState) (w v : World) (r : Reach alone w v) → Acked alone desk w → Throughout alone (Written alone desk) w v r
+all_written alone desk w v here a = acked_written alone desk w a
+all_written alone desk w v (next {u} r s) a = (all_written alone desk w u r a, acked_written alone desk v (step_acked alone desk u v (run_acked alone desk w u a r) s))

@@ -12,14 +12,16 @@ use Rattle.node_model.proofs.Alone.{call_shared, chain_shared, drifted_shared, r
 use Rattle.node_model.specs.Calls.{Call, Answer, Drifts, DeskState, Turned, turned, Knock_call, Leave_call}
 use Rattle.session_core.specs.Stages.{Setting}
 use Rattle.binkp_link.specs.Lines.{LineState}
-use Rattle.session_run.specs.Machine.{World, Phase, Starting, Taking, Writing, Reading, Over, Draining, Closed, Step, greets, takes_frame, makes_turn, writes, passes_write, reads, gives_up, leaves, drains, closes, Reach, here, next}
-use Rattle.std.proofs.Common.{ℕ, ◌≡◌}
+use Rattle.session_run.specs.Machine.{World, Phase, Starting, Taking, Writing, Reading, Over, Draining, Closed, Step, greets, takes_frame, makes_turn, writes, passes_write, reads, gives_up, leaves, drains, closes, Reach, here, next, Throughout, opening}
+use Rattle.std.proofs.Common.{◌≡◌}
 use Rattle.session_run.specs.Laws.{Facts, IsSession}
 use Rattle.session_run.specs.Acknowledged.{Acknowledged, MayStand, Written}
 use Rattle.session_run.specs.Reports.{ReportText}
 use Rattle.session_run.specs.Settled.{Asked, MaySettle}
+use Rattle.node_model.specs.Lists.{Each}
 use Rattle.ftn_addr.specs.Address.{Address}
 use Rattle.session_run.proofs.Acknowledging.{each_weaker}
+use Rattle.session_run.proofs.Marked.{all_marked}
 
 step_shared : (w v : World) → Step true w v → Step false w v
 step_shared w v (greets s) = greets (record { phase = s.phase; new = s.new; role = s.role; side = s.side; answer = s.answer; desk = s.desk; rows_before = s.rows_before; rows_after = s.rows_after; call = call_shared w.desk (turned (Knock_call s.role) s.answer s.rows_before s.rows_after) s.desk s.call; reply = s.reply; follows = s.follows; output = s.output; took = s.took; said = s.said; is = s.is })
@@ -76,9 +78,14 @@ unfolding asked_shared
 stands_shared desk es (Data bytes) m = m
 stands_shared desk es (Command number args) m = (λ six. let x = m.0 six in (x.0, x.1, acknowledged_shared desk es x.0 x.2), λ five. let x = m.1 five in record { nothing = asked_shared desk es _ _ x.nothing; last = x.last })
 
-written_shared : (desk : DeskState) (es : List Turned) (output cut : List ℕ) → Written true desk es output cut → Written false desk es output cut
-written_shared desk es output cut w =
-    record { frames = w.frames; spelled = w.spelled; stand = each_weaker (MayStand true desk es) (MayStand false desk es) w.frames (stands_shared desk es) w.stand }
+written_shared : (desk : DeskState) (v : World) → Written true desk v → Written false desk v
+written_shared desk v w =
+    record { cut = w.cut; cut_at = w.cut_at; frames = w.frames; spelled = w.spelled; stand = each_weaker (MayStand true desk v.events) (MayStand false desk v.events) w.frames (stands_shared desk v.events) w.stand }
+
+throughout_shared : (P Q : World → Type 0) → ((x : World) → P x → Q x) → (w v : World) (r : Reach true w v) → Throughout true P w v r → Throughout false Q w v (reach_shared w v r)
+unfolding reach_shared
+throughout_shared P Q f w v here p = f w p
+throughout_shared P Q f w v (next {u} r s) p = (throughout_shared P Q f w u r p.0, f v p.1)
 
 pub session_shared : (s : Setting) (line : LineState) (desk : Stand) (report : ReportText) (line' : LineState) (desk' : Stand) → IsSession true s line desk report line' desk' → IsSession false s line desk report line' desk'
 session_shared s line desk report line' desk' x = record {
@@ -89,9 +96,10 @@ session_shared s line desk report line' desk' x = record {
     line_is = x.whole.line_is;
     desk_is = drifted_shared x.whole.last.desk desk'.state x.whole.desk_is;
     facts = facts_shared line desk.state x.whole.last x.whole.facts;
-    cut = x.whole.cut;
-    written = written_shared desk.state x.whole.last.events x.whole.last.output x.whole.cut x.whole.written;
-    settled = each_weaker _ _ x.whole.last.events (settled_shared desk.state x.whole.last.events s.home x.whole.last.frames) x.whole.settled;
+    written = throughout_shared (Written true desk.state) (Written false desk.state) (written_shared desk.state) (opening s line desk.state) x.whole.last x.whole.run x.whole.written;
+    settled = throughout_shared (λ (w : World). Each (MaySettle true desk.state w.events s.home w.frames) w.events) (λ (w : World). Each (MaySettle false desk.state w.events s.home w.frames) w.events) (λ (w : World). each_weaker _ _ w.events (settled_shared desk.state w.events s.home w.frames)) (opening s line desk.state) x.whole.last x.whole.run x.whole.settled;
+    brought = x.whole.brought;
+    marked = all_marked false desk.state x.whole.last.events;
   };
   ran = ran_shared_too desk x.whole.last.events desk' x.ran;
 }

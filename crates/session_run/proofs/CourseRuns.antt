@@ -3,12 +3,9 @@ use Rattle.std.proofs.Common.{◌≡◌, ◌<◌, ◌≤◌, ◌-◌, ◌^◌, m
 use Rattle.node_model.specs.Calls.{Turned}
 use Rattle.node_model.specs.Images.{Stand, RanAt}
 use Rattle.binkp_link.specs.Lines.{LineState, shut}
-use Rattle.ftn_addr.specs.Address.{Address}
 use Rattle.ftn_addr.specs.declared.limits.TheConstants.{MAX_FRAME_DATA}
-use Rattle.node_model.specs.Lists.{Each}
 use Rattle.session_core.specs.Stages.{Setting, Told, desk_part}
 use Rattle.session_run.specs.Reports.{Reports_told, report_text}
-use Rattle.session_run.specs.Settled.{MaySettle}
 use Rattle.session_run.specs.declared.run.Run.{Run}
 use Rattle.session_run.specs.declared.turns.Course.{Course}
 use Rattle.session_run.specs.declared.turns.Going.{Going}
@@ -22,10 +19,12 @@ use Rattle.session_run.specs.Courses.{IsFree, IsLeft, MayTurn, Nearer, TurnWent,
 use Rattle.session_run.specs.Laws.{IsSession}
 use Rattle.session_run.specs.Machine.{World, Starting, opening}
 use Rattle.session_run.specs.Runs.{InLimit, IsNew, Went, drain_room, spot}
-use Rattle.session_run.proofs.Acknowledging.{Acked, run_acked, acked_open, acked_written}
-use Rattle.session_run.proofs.Settling.{Settling, run_settling, settling_open}
+use Rattle.session_run.proofs.Acknowledging.{all_written, acked_open}
+use Rattle.session_run.proofs.Settling.{all_settled, settling_open}
+use Rattle.session_run.proofs.Endings.{run_brought}
 use Rattle.session_run.proofs.HeldKeys.{HoldsKnown}
 use Rattle.session_run.proofs.Laws.{facts_on, facts_open}
+use Rattle.session_run.proofs.Marked.{all_marked}
 use Rattle.session_run.proofs.Openings.{at_opening}
 use Rattle.session_run.proofs.Runs.{went_lent, went_then, went_nowhere}
 
@@ -52,8 +51,6 @@ came_whole alone s r old mid new line course course' line' line'' report lent c 
     let w : World = opening s line old.state in
     let g = went_then c.went (went_lent lent t.4) in
     let x = g.goes.goes w (at_opening alone s c.start line old.state c.is_new) in
-    let acked : Acked alone old.state x.0 = run_acked alone old.state w x.0 (acked_open alone s line old.state small none) x.1 in
-    let settling : Settling alone old.state x.0 = run_settling alone old.state w x.0 (settling_open alone s line old.state) x.1 in
     let run = t.1 in
     let tells = t.3 in
     record {
@@ -69,9 +66,10 @@ came_whole alone s r old mid new line course course' line' line'' report lent c 
         line_is = ap shut x.2.line_is ∙ t.2;
         desk_is = x.2.desk_is;
         facts = facts_on alone line old.state w x.0 (facts_open alone s line old.state) x.1;
-        cut = acked.wrote.cut;
-        written = acked_written alone old.state x.0 acked;
-        settled = subst (λ (a : Address). Each (MaySettle alone old.state x.0.events a x.0.frames) x.0.events) (ap (λ (y : Setting). y.home) x.2.setting_is) settling.each;
+        written = all_written alone old.state w x.0 x.1 (acked_open alone s line old.state small none);
+        settled = all_settled alone old.state s w x.0 x.1 refl (settling_open alone s line old.state);
+        brought = run_brought alone s line old.state x.0 x.1;
+        marked = all_marked alone old.state x.0.events;
       };
       ran = subst (λ (es : List Turned). RanAt alone old es new) (sym x.3) g.ran;
     }

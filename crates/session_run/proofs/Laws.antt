@@ -64,14 +64,14 @@ cond_on : (b : Bool) (p q : Phase) → Is_on p → Is_on q → Is_on (if b then 
 cond_on true p q x y = x
 cond_on false p q x y = y
 
-read_on : (answer : ReadAnswer) (limit bytes calm : ℕ) → Is_on (after_read answer limit bytes calm)
+pub read_on : (answer : ReadAnswer) (limit bytes calm : ℕ) → Is_on (after_read answer limit bytes calm)
 read_on (R.Came n) limit bytes calm = cond_on (nat_le limit bytes) (Over E.Endless) Taking tt tt
 read_on R.End limit bytes calm = tt
 read_on R.NotYet limit bytes calm = tt
 read_on R.Quiet limit bytes calm = cond_on (nat_le 60 calm) (Over E.Quiet) Taking tt tt
 read_on R.Failed limit bytes calm = tt
 
-write_on : (answer : WriteAnswer) (limit bytes calm : ℕ) (waits : Bool) → Is_on (after_write answer limit bytes calm (Reading waits))
+pub write_on : (answer : WriteAnswer) (limit bytes calm : ℕ) (waits : Bool) → Is_on (after_write answer limit bytes calm (Reading waits))
 write_on (W.Wrote n) limit bytes calm waits = cond_on (nat_le limit bytes) (Over E.Endless) (Reading waits) tt tt
 write_on W.Quiet limit bytes calm waits = cond_on (nat_le 60 calm) (Over E.Quiet) (Reading waits) tt tt
 write_on W.Failed limit bytes calm waits = tt

@@ -7,6 +7,7 @@ pub mod Causes
 pub mod Chains
 pub mod Closings
 pub mod CourseRuns
+pub mod Endings
 pub mod FrameWritings
 pub mod HeldKeys
 pub mod Laws
@@ -18,6 +19,7 @@ pub mod Marked
 pub mod OwnCauses
 pub mod RanPast
 pub mod Room
+pub mod RowEnds
 pub mod RowRuns
 pub mod RowWritings
 pub mod Runs

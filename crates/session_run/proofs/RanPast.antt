@@ -53,7 +53,7 @@ ran_past alone old es new r k d after until i =
 
 -- The life of a session's node.
 
-lives_on : (a b c : Knows) → KnownLives a b → KnownLives b c → KnownLives a c
+pub lives_on : (a b c : Knows) → KnownLives a b → KnownLives b c → KnownLives a c
 lives_on (Tells a) (Tells b) (Tells c) first second = (first.0 ++ second.0, lives_join a first.0 b second.0 c first.1 second.1)
 lives_on (Tells a) (Tells b) (Counts_alone c) first second = absurd second
 lives_on (Tells a) (Counts_alone b) c first second = absurd first
@@ -63,7 +63,7 @@ self_lives : (knows : Knows) → KnownLives knows knows
 self_lives (Tells n) = ([], refl)
 self_lives (Counts_alone c) = tt
 
-drift_lives : (alone : Bool) (seat : ℕ) (old new : Knows) → Drifts alone seat old new → KnownLives old new
+pub drift_lives : (alone : Bool) (seat : ℕ) (old new : Knows) → Drifts alone seat old new → KnownLives old new
 drift_lives true seat old new same = subst (KnownLives old) (sym same) (self_lives old)
 drift_lives false seat (Tells old) (Tells new) (n, steps) = others_live n seat old new steps
 drift_lives false seat (Tells old) (Counts_alone c) none = absurd none

@@ -12,10 +12,11 @@ use Rattle.node_model.proofs.Rans.{joined}
 use Rattle.binkp_link.specs.Lines.{LineState}
 use Rattle.session_core.specs.Stages.{Setting}
 use Rattle.session_core.specs.Sessions.{frame_number}
-use Rattle.session_run.specs.Machine.{World, Step, greets, takes_frame, makes_turn, writes, passes_write, reads, gives_up, leaves, drains, closes, Reach, here, next, opening}
+use Rattle.session_run.specs.Machine.{World, Step, greets, takes_frame, makes_turn, writes, passes_write, reads, gives_up, leaves, drains, closes, Reach, here, next, Throughout, opening}
 use Rattle.session_run.specs.Settled.{Asked, Heard, MaySettle, SettledBy}
 use Rattle.session_run.proofs.AskedCalls.{asked_by, asked_on}
 use Rattle.session_run.proofs.Causes.{read_as, said_by}
+use Rattle.session_run.proofs.Settings.{reach_setting}
 use Rattle.session_run.proofs.SentFiles.{sending_at, SameFile, Few, GotHere, TurnSends, Same_one, Offered_one, OfferedHere, no_got, row_sends, knock_unsent, turn_settles}
 
 -- the file under way was offered in this session
@@ -132,9 +133,17 @@ step_settling alone desk w v f (gives_up s) = subst (Settling alone desk) (sym s
 step_settling alone desk w v f (drains s) = subst (Settling alone desk) (sym s.is) (record { leads = f.leads; each = f.each; offered = f.offered })
 step_settling alone desk w v f (closes s) = subst (Settling alone desk) (sym s.is) (record { leads = f.leads; each = f.each; offered = f.offered })
 
-pub run_settling : (alone : Bool) (desk : DeskState) (w v : World) → Settling alone desk w → Reach alone w v → Settling alone desk v
+run_settling : (alone : Bool) (desk : DeskState) (w v : World) → Settling alone desk w → Reach alone w v → Settling alone desk v
 run_settling alone desk w v f here = f
 run_settling alone desk w v f (next {u} r s) = step_settling alone desk u v (run_settling alone desk w u f r) s
 
 pub settling_open : (alone : Bool) (s : Setting) (line : LineState) (desk : DeskState) → Settling alone desk (opening s line desk)
 settling_open alone s line desk = record { leads = refl; each = tt; offered = tt }
+
+-- at each moment
+pub all_settled : (alone : Bool) (desk : DeskState) (setting : Setting) (w v : World) (r : Reach alone w v) → w.setting ≡ setting → Settling alone desk w → Throughout alone (λ (x : World). Each (MaySettle alone desk x.events setting.home x.frames) x.events) w v r
+all_settled alone desk setting w v here is f = subst (λ (s : Setting). Each (MaySettle alone desk w.events s.home w.frames) w.events) is f.each
+all_settled alone desk setting w v (next {u} r s) is f =
+    let g = step_settling alone desk u v (run_settling alone desk w u f r) s in
+    let same : v.setting ≡ setting = reach_setting alone w v (next r s) ∙ is in
+    (all_settled alone desk setting w u r is f, subst (λ (x : Setting). Each (MaySettle alone desk v.events x.home v.frames) v.events) same g.each)

@@ -11,7 +11,7 @@ use Rattle.node_model.specs.Durable.{is_known}
 use Rattle.node_model.specs.Lists.{Each}
 use Rattle.node_model.specs.Node.{Session, session_at}
 use Rattle.node_model.specs.Calls.{Knows, Tells, Counts_alone, DeskState, Turned, CallsBeside, Turns}
-use Rattle.session_run.specs.Machine.{Phase, Over, Draining, Closed}
+use Rattle.session_run.specs.Machine.{World, Phase, Over, Draining, Closed}
 use Rattle.session_run.specs.Settled.{BatchEnded}
 
 -- the seat's session has a file of its peer received or refused, where the desk tells its node
@@ -40,15 +40,18 @@ MayStand alone desk es (Command number args) =
     (number ≡ 6 → (key : Key) × (args ≡ argument_of (Got key)) × Acknowledged alone desk es key)
     × (number ≡ 5 → BatchEnded alone desk es)
 
--- the output is a front of these frames, and each of them may stand
-pub record Written (alone : Bool) (desk : DeskState) (es : List Turned) (output cut : List ℕ) : Type 0 where
-  pub frames : List FrameText
-  pub spelled : output ++ cut ≡ flat_map frame_bytes frames
-  pub stand : Each (MayStand alone desk es) frames
-
 -- only what a session wrote last may be cut off, for want of memory
 abbrev pub CutAt : Phase → List ℕ → Type 0
 CutAt (Over end) cut = Unit {0}
 CutAt (Draining mute end) cut = Unit {0}
 CutAt (Closed end) cut = Unit {0}
 CutAt phase cut = cut ≡ []
+
+-- At a moment of a session: the output so far is a front of these frames, and each of them may stand behind the calls so
+-- far.
+pub record Written (alone : Bool) (desk : DeskState) (w : World) : Type 0 where
+  pub cut : List ℕ
+  pub cut_at : CutAt w.phase cut
+  pub frames : List FrameText
+  pub spelled : w.output ++ cut ≡ flat_map frame_bytes frames
+  pub stand : Each (MayStand alone desk w.events) frames

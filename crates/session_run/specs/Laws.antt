@@ -15,11 +15,12 @@ use Rattle.session_core.specs.Ends as E
 use Rattle.session_core.specs.Takings as T
 use Rattle.binkp_link.specs.Lines.{LineState, Moves, shut}
 use Rattle.session_core.specs.Stages.{Answers, Setting, Stage, Awaits_login, Talks}
-use Rattle.session_core.specs.Sessions.{Reply, Row, frame_number, is_none}
+use Rattle.session_core.specs.Sessions.{Reply, Row, frame_number, is_none, fault_end}
 use Rattle.session_run.specs.Acknowledged.{Written}
 use Rattle.session_run.specs.Reports.{ReportText, Reports}
+use Rattle.session_run.specs.Resumption.{LeavesMarked}
 use Rattle.session_run.specs.Settled.{MaySettle}
-use Rattle.session_run.specs.Machine.{World, Phase, Over, Draining, Closed, Reach, opening, is_mute, after_leave}
+use Rattle.session_run.specs.Machine.{World, Phase, Over, Draining, Closed, Reach, Throughout, opening, is_mute, after_leave}
 
 abbrev pub joined : List (List ℕ) → List ℕ
 joined [] = []
@@ -101,6 +102,43 @@ AnswerCauseAt (Over end) es = AnswerCause end es
 AnswerCauseAt (Draining mute end) es = LeftAt end es
 AnswerCauseAt (Closed end) es = LeftAt end es
 AnswerCauseAt _ es = Unit {0}
+
+-- What the desk's last answer brings about: a fault ends the session by its own end, and Busy by TurnedAway, unless memory
+-- ran out over the words of it.
+abbrev pub AnswerBrings : Answer → End → Type 0
+AnswerBrings (Refused fault) end = (end ≡ fault_end fault) ⊎ (end ≡ E.NoMemory)
+AnswerBrings Busy end = (end ≡ E.TurnedAway) ⊎ (end ≡ E.NoMemory)
+AnswerBrings answer end = Unit {0}
+
+-- what the peer's last words bring about: M_ERR ends the session by PeerError with its text, M_BSY by PeerBusy
+abbrev pub WordBrings : CommandText → End → Type 0
+WordBrings (Error text) end = end ≡ E.PeerError text
+WordBrings (Bsy text) end = end ≡ E.PeerBusy
+WordBrings said end = Unit {0}
+
+-- the last of these frames says that
+pub record LastSaid (home : Address) (frames : List FrameText) (said : CommandText) : Type 0 where
+  pub earlier : List FrameText
+  pub number : ℕ
+  pub args : List ℕ
+  pub is : frames ≡ earlier ++ Command number args ∷ []
+  pub says : command_of home number args ≡ Ok said
+
+-- the end is what the last of these answers and the last of these frames bring about
+pub record IsBrought (end : End) (es : List Turned) (home : Address) (frames : List FrameText) : Type 0 where
+  pub answer : (answer : Answer) → LastAnswered es answer → AnswerBrings answer end
+  pub word : (said : CommandText) → LastSaid home frames said → WordBrings said end
+
+-- the same before the desk was left
+abbrev pub WasBrought : End → List Turned → Address → List FrameText → Type 0
+WasBrought end es home frames = (left : LeftAt end es) × IsBrought left.first left.earlier home frames
+
+-- while a session goes on, none of them brings an end about, so that it holds of whatever end comes
+abbrev pub IsBroughtAt : Phase → List Turned → Address → List FrameText → Type 0
+IsBroughtAt (Over end) es home frames = IsBrought end es home frames
+IsBroughtAt (Draining mute end) es home frames = WasBrought end es home frames
+IsBroughtAt (Closed end) es home frames = WasBrought end es home frames
+IsBroughtAt phase es home frames = (end : End) → IsBrought end es home frames
 
 -- The frame with that number, the last that was taken of these bytes, was refused so: by its row at the stage that it
 -- met, with the calls that it made.
@@ -195,11 +233,15 @@ pub record WholeRun (alone : Bool) (setting : Setting) (line : LineState) (desk 
   pub line_is : shut last.line ≡ line'
   pub desk_is : Drifted alone last.desk desk'
   pub facts : Facts alone line desk last
-  -- each M_GOT among the frames that were written names a file that the node has, and M_EOB stands behind all offers
-  pub cut : List ℕ
-  pub written : Written alone desk last.events last.output cut
-  -- each entry that was settled was offered, and the peer has acknowledged its file
-  pub settled : Each (MaySettle alone desk last.events setting.home last.frames) last.events
+  -- at each moment each M_GOT that was written by then names a file that the node has by then, and M_EOB stands behind all
+  -- offers
+  pub written : Throughout alone (Written alone desk) (opening setting line desk) last run
+  -- at each moment each entry that was settled by then was offered, and the peer has acknowledged its file
+  pub settled : Throughout alone (λ (w : World). Each (MaySettle alone desk w.events setting.home w.frames) w.events) (opening setting line desk) last run
+  -- its end is what the desk's last answer before it was left and the peer's last frame bring about
+  pub brought : IsBroughtAt last.phase last.events setting.home last.frames
+  -- what was held as the desk was left is marked, with all the bytes that came of it
+  pub marked : LeavesMarked alone desk last.events
 
 -- The same with what a stop may leave of it: its calls of the desk, with the moments at which they ended. At each moment
 -- since the opening each image is one of the call of that moment, and at its end the state after it.

@@ -3,5 +3,6 @@ pub mod Courses
 pub mod Laws
 pub mod Machine
 pub mod Reports
+pub mod Resumption
 pub mod Runs
 pub mod Settled

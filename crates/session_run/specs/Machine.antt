@@ -232,6 +232,11 @@ pub data Reach (alone : Bool) (w : World) : World → Type 0 where
   here : Reach alone w w
   next : {u v : World} → Reach alone w u → Step alone u v → Reach alone w v
 
+-- this holds at each moment of a run, from its first to its last
+abbrev pub Throughout : (alone : Bool) (P : World → Type 0) (w v : World) → Reach alone w v → Type 0
+Throughout alone P w v here = P v
+Throughout alone P w v (next {u} r s) = Throughout alone P w u r × P v
+
 -- nothing has happened yet
 abbrev pub opening : Setting → LineState → DeskState → World
 opening setting line desk =

@@ -1,0 +1,62 @@
+-- What a call that is Done says of its session, and the other way round.
+use Rattle.std.proofs.Common.{◌≡◌, ◌⊎◌, ◌∙◌, Option, refl, sym, ap, inl, inr}
+use Rattle.ftn_addr.specs.Counts.{next_count}
+use Rattle.binkp_link.specs.Lines.{SinkState}
+use Rattle.session_core.specs.Ends.{End}
+use Rattle.session_core.specs.Ends as E
+use Rattle.session_run.specs.Reports.{ReportText, report_text}
+use Rattle.binkp_mailer.specs.declared.report.Outcome.{Outcome}
+use Rattle.binkp_mailer.specs.declared.report.Outcome.TheVariants as O
+use Rattle.binkp_mailer.specs.Completeness.{HasFinished, IsDoneWhere}
+use Rattle.binkp_mailer.specs.Reports.{Prints, lines_put, no_room, all_put, put_failed, had_of, told_of}
+use Rattle.binkp_mailer.specs.Statuses as S
+use Rattle.binkp_mailer.specs.Statuses.{Status, status_after}
+
+after_done : (end : End) → status_after end ≡ S.Done → end ≡ E.Finished
+after_done E.Finished is = refl
+after_done (E.PeerError text) is = absurd (let clash : (S.PeerError text) ≡ S.Done = is in cc)
+after_done E.PeerBusy is = absurd (let clash : S.PeerBusy ≡ S.Done = is in cc)
+after_done (E.BadPassword wanted given) is = absurd (let clash : S.BadPassword ≡ S.Done = is in cc)
+after_done (E.Broke cause n) is = absurd (let clash : (S.Broke cause n) ≡ S.Done = is in cc)
+after_done E.Dropped is = absurd (let clash : S.Dropped ≡ S.Done = is in cc)
+after_done E.LineFault is = absurd (let clash : S.LineFault ≡ S.Done = is in cc)
+after_done (E.DiskFault count) is = absurd (let clash : (S.DiskFault count) ≡ S.Done = is in cc)
+after_done E.LedgerFull is = absurd (let clash : S.LedgerFull ≡ S.Done = is in cc)
+after_done E.Quiet is = absurd (let clash : S.Quiet ≡ S.Done = is in cc)
+after_done E.Endless is = absurd (let clash : S.Endless ≡ S.Done = is in cc)
+after_done E.TurnedAway is = absurd (let clash : S.TurnedAway ≡ S.Done = is in cc)
+after_done E.NoMemory is = absurd (let clash : S.NoMemory ≡ S.Done = is in cc)
+
+finished_had : (outcome : Outcome) → HasFinished (told_of outcome) → had_of outcome ≡ S.Done
+finished_had O.Usage h = absurd h
+finished_had O.NoMemory h = absurd h
+finished_had (O.Held report) h = ap status_after h
+
+had_finished : (outcome : Outcome) → had_of outcome ≡ S.Done → HasFinished (told_of outcome)
+had_finished O.Usage is = absurd (let clash : S.Usage ≡ S.Done = is in cc)
+had_finished O.NoMemory is = absurd (let clash : S.NoMemory ≡ S.Done = is in cc)
+had_finished (O.Held report) is = after_done (report_text report).end is
+
+-- Done is answered only where it was had.
+printed_only : (told : Option ReportText) (had status : Status) (out out' : SinkState) → Prints told had status out out' → status ≡ S.Done → had ≡ S.Done
+printed_only told had status out out' (lines_put (all_put is puts)) done = sym is ∙ done
+printed_only told had status out out' (lines_put (put_failed is puts)) done = absurd (let clash : S.OutFault ≡ S.Done = sym is ∙ done in cc)
+printed_only told had status out out' (no_room (all_put is puts)) done = absurd (let clash : S.NoMemory ≡ S.Done = sym is ∙ done in cc)
+printed_only told had status out out' (no_room (put_failed is puts)) done = absurd (let clash : S.OutFault ≡ S.Done = sym is ∙ done in cc)
+
+-- what was had is answered, but for want of memory and a put that fails
+printed_always : (told : Option ReportText) (had status : Status) (out out' : SinkState) → Prints told had status out out' → (status ≡ had) ⊎ ((status ≡ S.NoMemory) ⊎ ((status ≡ S.OutFault) × (out'.faults ≡ next_count out.faults)))
+printed_always told had status out out' (lines_put (all_put is puts)) = inl is
+printed_always told had status out out' (lines_put (put_failed is puts)) = inr (inr (is, puts.faults))
+printed_always told had status out out' (no_room (all_put is puts)) = inr (inl is)
+printed_always told had status out out' (no_room (put_failed is puts)) = inr (inr (is, puts.faults))
+
+pub printed_done : (outcome : Outcome) (status : Status) (out out' : SinkState) → Prints (told_of outcome) (had_of outcome) status out out' → IsDoneWhere (told_of outcome) status out out'
+printed_done outcome status out out' p = record {
+  only = λ done. had_finished outcome (printed_only (told_of outcome) (had_of outcome) status out out' p done);
+  always = λ finished. go (finished_had outcome finished) (printed_always (told_of outcome) (had_of outcome) status out out' p);
+}
+  where
+    go : had_of outcome ≡ S.Done → (status ≡ had_of outcome) ⊎ ((status ≡ S.NoMemory) ⊎ ((status ≡ S.OutFault) × (out'.faults ≡ next_count out.faults))) → (status ≡ S.Done) ⊎ ((status ≡ S.NoMemory) ⊎ ((status ≡ S.OutFault) × (out'.faults ≡ next_count out.faults)))
+    go done (inl is) = inl (is ∙ done)
+    go done (inr other) = inr other
