@@ -1,5 +1,5 @@
 //! One end of a line, with the session that a node holds over it.
-ghost use Rattle.std.specs.Prelude.{◌≡◌, ◌≤◌, IfOk};
+ghost use Rattle.std.specs.Prelude.{◌≡◌, ◌^◌, ◌<◌, ◌≤◌, IfOk};
 ghost use Rattle.ftn_addr.specs.Address.{address as address_of};
 ghost use Rattle.ftn_addr.specs.Limits.{IsAddress};
 ghost use Rattle.session_rows.specs.Halves.{MayStep};
@@ -65,8 +65,16 @@ impl Model for Half {
 impl Half {
     /// A session of that node at that side, before its first turn.
     pub fn new(alloc: Global, node: Node, side: Side) -> Result<Half, NoMemory> {
+        Half::within(alloc, node, side, SESSION_LIMIT)
+    }
+
+    /// The same, which ends once it has taken and written so many bytes.
+    pub fn within(alloc: Global, node: Node, side: Side, limit: u64) -> Result<Half, NoMemory>
+        requires some { 0 < limit }
+        requires fits { limit ≤ 2 ^ 62 }
+    {
         let Node { who, store } = node;
-        let setting = setting(who.home.copy(alloc)?);
+        let setting = setting_within(who.home.copy(alloc)?, limit);
         let mut hub = Hub::new(alloc, store, who.conf(alloc)?);
         let seat = hub.seat()?;
         let desk = HubDesk { hub, seat };
@@ -150,10 +158,18 @@ pub fn setting(home: Addr) -> Setting
     requires { IsAddress (address_of home) }
     ensures { result.limit ≡ 17_592_186_044_416 }
 {
+    setting_within(home, SESSION_LIMIT)
+}
+
+// The same with another limit.
+fn setting_within(home: Addr, limit: u64) -> Setting
+    requires { IsAddress (address_of home) }
+    ensures { result.limit ≡ limit }
+{
     Setting {
         home,
         moment: MOMENT,
-        limit: SESSION_LIMIT,
+        limit,
         block: BLOCK,
     }
 }

@@ -40,6 +40,22 @@ impl Peer {
         Ok(heard)
     }
 
+    /// Says these bytes to a session, which then makes so many turns, and reads nothing.
+    pub fn tell(
+        &mut self,
+        alloc: Global,
+        half: &mut Half,
+        bytes: &[u8],
+        turns: u32,
+    ) -> Result<(), NoMemory> {
+        self.put(bytes)?;
+        half.hear(&mut self.pipe)?;
+        for _ in 0..turns {
+            half.turn(alloc);
+        }
+        Ok(())
+    }
+
     fn put(&mut self, bytes: &[u8]) -> Result<(), NoMemory> {
         if bytes.is_empty() {
             return Ok(());

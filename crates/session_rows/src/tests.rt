@@ -10,11 +10,13 @@ use std::mem;
 mod asked;
 mod crossed;
 mod cut_off;
+mod limits;
 mod many;
 mod mixed;
 mod odd_words;
 mod ordinary;
 mod refused_words;
+mod resumed;
 
 // The numbers of the two nodes.
 const NEAR: u16 = 1;

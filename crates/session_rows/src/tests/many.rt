@@ -1,7 +1,10 @@
 //! Many files in one session.
-use super::{Counts, FAR, NEAR, Outcome, call, has_each, queue, queue_each, refusing, what_came};
-use crate::{Node, Offered};
+use super::{
+    Counts, FAR, NEAR, Outcome, begin, call, end, has_each, queue, queue_each, refusing, what_came,
+};
+use crate::{Half, Node, Offered, Peer, Words, address};
 use ftn_addr::NoMemory;
+use session_core::Side;
 use std::alloc::Global;
 use std::test::Fail;
 
@@ -15,6 +18,38 @@ const LONG: Offered = Offered {
     index: 6,
     size: 10_000,
 };
+
+// Three of those that the caller gets, and three of those that the called node gets: each keeps the front of these too from
+// earlier sessions.
+const AT_NEAR: [Offered; 3] = [
+    Offered {
+        index: 306,
+        size: 10_000,
+    },
+    Offered {
+        index: 361,
+        size: 32_767,
+    },
+    Offered {
+        index: 461,
+        size: 100_000,
+    },
+];
+
+const AT_FAR: [Offered; 3] = [
+    Offered {
+        index: 12,
+        size: 10_000,
+    },
+    Offered {
+        index: 30,
+        size: 10_000,
+    },
+    Offered {
+        index: 161,
+        size: 100_000,
+    },
+];
 
 // As many files of these sizes in turn, numbered from there on.
 fn many(alloc: Global, first: u16) -> Result<Vec<Offered>, NoMemory> {
@@ -40,6 +75,78 @@ fn without_digit(alloc: Global, files: &[Offered], digit: u16) -> Result<Vec<Off
         }
     }
     Ok(rest)
+}
+
+// Offers these files as the node of that number, says the first 4,096 bytes of each, and ends the line.
+fn offer_fronts(
+    alloc: Global,
+    peer: &mut Peer,
+    half: &mut Half,
+    from: u16,
+    files: &[Offered],
+) -> Result<(), NoMemory> {
+    let login = Words::new(alloc).login(from)?;
+    peer.say(alloc, half, login.as_slice(), 2)?;
+    for file in files {
+        let words = Words::new(alloc).file(*file, 0)?.block(*file, 0)?;
+        peer.say(alloc, half, words.as_slice(), 3)?;
+    }
+    half.cut_if(true);
+    for _ in 0..4 {
+        half.turn(alloc);
+    }
+    Ok(())
+}
+
+// A node keeps the fronts of these files of the node of that number.
+fn keep_fronts(
+    alloc: Global,
+    node: &mut Node,
+    from: u16,
+    files: &[Offered],
+) -> Result<(), NoMemory> {
+    let mut half = begin(alloc, node, Side::Answers)?;
+    let mut peer = Peer::new(alloc);
+    let offered = offer_fronts(alloc, &mut peer, &mut half, from, files);
+    end(half, node);
+    offered
+}
+
+// How much a node keeps of these files of that node.
+fn kept_of(
+    alloc: Global,
+    node: &Node,
+    from: u16,
+    files: &[Offered; 3],
+) -> Result<[u64; 3], NoMemory> {
+    let from = address(alloc, from)?;
+    let [first, second, third] = *files;
+    let first = node.kept(alloc, &from, first)?;
+    let second = node.kept(alloc, &from, second)?;
+    let third = node.kept(alloc, &from, third)?;
+    Ok([first, second, third])
+}
+
+fn keep_three(
+    alloc: Global,
+    node: &mut Node,
+    from: u16,
+    files: &[Offered; 3],
+) -> Result<[u64; 3], NoMemory> {
+    keep_fronts(alloc, node, from, files)?;
+    kept_of(alloc, node, from, files)
+}
+
+fn kept_three(
+    alloc: Global,
+    number: u16,
+    from: u16,
+    files: &[Offered; 3],
+) -> Result<[u64; 3], Fail> {
+    let mut node = Node::new(alloc, number)?;
+    let kept = keep_three(alloc, &mut node, from, files);
+    drop(node);
+    Ok(kept?)
 }
 
 // Calls once, and cuts the line: the called node keeps the front of the long file. Whether both sides ended.
@@ -80,7 +187,7 @@ fn called_again(
     Ok(Some(what_came(&ends, near, far, received)))
 }
 
-// What comes of both calls.
+// What comes of both calls, where each node keeps the fronts of three more files from sessions before.
 fn exchange(
     alloc: Global,
     near: &mut Node,
@@ -88,6 +195,8 @@ fn exchange(
     own: &[Offered],
     others: &[Offered],
 ) -> Result<Option<Outcome>, Fail> {
+    keep_fronts(alloc, near, FAR, &AT_NEAR)?;
+    keep_fronts(alloc, far, NEAR, &AT_FAR)?;
     if !break_off(alloc, near, far)? {
         return Ok(None);
     }
@@ -103,6 +212,18 @@ fn exchanged(alloc: Global, own: &[Offered], others: &[Offered]) -> Result<Optio
 #[test]
 fn one_of_many_files_is_kept_in_part(rt: HostRuntime) -> Result<(), Fail> {
     assert_eq!(rt; kept(rt.alloc())?, 8192);
+    Ok(())
+}
+
+#[test]
+fn three_of_many_files_are_kept_in_part_at_the_caller(rt: HostRuntime) -> Result<(), Fail> {
+    assert_eq!(rt; kept_three(rt.alloc(), NEAR, FAR, &AT_NEAR)?, [4096; 3]);
+    Ok(())
+}
+
+#[test]
+fn three_of_many_files_are_kept_in_part_at_the_called_node(rt: HostRuntime) -> Result<(), Fail> {
+    assert_eq!(rt; kept_three(rt.alloc(), FAR, NEAR, &AT_FAR)?, [4096; 3]);
     Ok(())
 }
 
