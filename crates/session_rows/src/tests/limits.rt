@@ -121,6 +121,7 @@ fn the_byte_that_reaches_the_limit_ends_the_session(rt: HostRuntime) -> Result<(
 }
 
 // Logs in, and says one after the other of these files with its data. It reads nothing of what comes back.
+#[tactic(auto)]
 fn offer_each(
     alloc: Global,
     peer: &mut Peer,

@@ -112,6 +112,7 @@ fn has_marked_3(node: &Node) -> bool {
 }
 
 // What holds of a file of which half a frame came: it isn't marked, and a later session takes it from its start unasked.
+#[tactic(auto)]
 fn half_a_frame(alloc: Global, node: &mut Node) -> Result<[bool; 4], NoMemory> {
     let half = Words::new(alloc).raw(OFFER)?.raw(b"\x00\x05hel")?;
     let dropped = drops(alloc, node, &half)?;
