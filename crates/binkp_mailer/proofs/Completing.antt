@@ -1,5 +1,5 @@
 -- What a call that is Done says of its session, and the other way round.
-use Rattle.std.proofs.Common.{◌≡◌, ◌⊎◌, ◌∙◌, Option, refl, sym, ap, inl, inr}
+use Rattle.std.proofs.Common.{◌≡◌, ◌⊎◌, ◌∙◌, ℕ, Option, refl, sym, ap, inl, inr}
 use Rattle.ftn_addr.specs.Counts.{next_count}
 use Rattle.binkp_link.specs.Lines.{SinkState}
 use Rattle.session_core.specs.Ends.{End}
@@ -10,7 +10,9 @@ use Rattle.binkp_mailer.specs.declared.report.Outcome.TheVariants as O
 use Rattle.binkp_mailer.specs.Completeness.{HasFinished, IsDoneWhere}
 use Rattle.binkp_mailer.specs.Reports.{Prints, lines_put, no_room, all_put, put_failed, had_of, told_of}
 use Rattle.binkp_mailer.specs.Statuses as S
-use Rattle.binkp_mailer.specs.Statuses.{Status, status_after}
+use Rattle.node_store.specs.declared.opening.fault.StoreOpenFault.{StoreOpenFault}
+use Rattle.node_store.specs.declared.opening.fault.StoreOpenFault.TheVariants as F
+use Rattle.binkp_mailer.specs.Statuses.{Status, status_after, status_unopened}
 
 after_done : (end : End) → status_after end ≡ S.Done → end ≡ E.Finished
 after_done E.Finished is = refl
@@ -30,11 +32,19 @@ after_done E.NoMemory is = absurd (let clash : S.NoMemory ≡ S.Done = is in cc)
 finished_had : (outcome : Outcome) → HasFinished (told_of outcome) → had_of outcome ≡ S.Done
 finished_had O.Usage h = absurd h
 finished_had O.NoMemory h = absurd h
+finished_had (O.Unopened fault faults) h = absurd h
 finished_had (O.Held report) h = ap status_after h
+
+unopened_not_done : (fault : StoreOpenFault) (faults : ℕ) → status_unopened fault faults ≡ S.Done → ⊥
+unopened_not_done F.Disk faults is = let clash : S.DiskFault faults ≡ S.Done = is in cc
+unopened_not_done (F.LedgerBad place) faults is = let clash : S.LedgerBad place ≡ S.Done = is in cc
+unopened_not_done (F.FileBad name) faults is = let clash : S.FileBad name ≡ S.Done = is in cc
+unopened_not_done F.NoMemory faults is = let clash : S.NoMemory ≡ S.Done = is in cc
 
 had_finished : (outcome : Outcome) → had_of outcome ≡ S.Done → HasFinished (told_of outcome)
 had_finished O.Usage is = absurd (let clash : S.Usage ≡ S.Done = is in cc)
 had_finished O.NoMemory is = absurd (let clash : S.NoMemory ≡ S.Done = is in cc)
+had_finished (O.Unopened fault faults) is = absurd (unopened_not_done fault faults is)
 had_finished (O.Held report) is = after_done (report_text report).end is
 
 -- Done is answered only where it was had.

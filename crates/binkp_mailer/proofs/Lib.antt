@@ -1,4 +1,6 @@
 pub mod Completing
+pub mod DiskCalls
+pub mod DiskCauses
 pub mod NewStore
 pub mod ReservedStore
 pub mod TopCalls

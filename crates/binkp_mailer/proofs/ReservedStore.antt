@@ -1,5 +1,5 @@
 -- A store whose places are reserved fits a new hub still.
-use Rattle.std.proofs.Common.{◌≡◌, ◌+◌, ◌≤◌, ℕ, None, refl, sym, ap, ◌∙◌, subst, arith}
+use Rattle.std.proofs.Common.{◌≡◌, ◌+◌, ◌≤◌, ℕ, None, sym, ap, ◌∙◌, subst, arith}
 use Rattle.node_model.specs.declared.words.TheConstants.{MOST_RECORDS}
 use Rattle.node_model.specs.Node.{Node, plain_settings}
 use Rattle.node_model.specs.Sound.{Sound}

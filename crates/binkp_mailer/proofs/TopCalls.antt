@@ -1,12 +1,12 @@
 -- What a held session tells of the call's status, and of receipts.
 use Rattle.std.proofs.Common.{◌≡◌, ◌⊎◌, ◌∙◌, ℕ, ◌+◌, ◌-◌, ◌≤◌, ◌<◌, arith, Bool, true, List, [], ◌∷◌, ◌++◌, length, Option, Some, None, option_map, refl, sym, ap, subst, inl, inr}
 use Rattle.ftn_addr.specs.Address.{Address}
-use Rattle.node_model.specs.Calls.{Counts, counts_of, DeskState, Turns, Turned, Knows, Tells, Counts_alone}
+use Rattle.node_model.specs.Calls.{Counts, counts_of, DeskState, Turns, Turned, Knows, Tells}
 use Rattle.node_model.specs.Durable.{Durable}
-use Rattle.node_model.specs.Images.{Stand, OpensTo, RanAt}
-use Rattle.node_model.specs.Lives.{Happening, Lives, LivesPast, KnownPast, KnownLives}
+use Rattle.node_model.specs.Images.{Stand, OpensTo}
+use Rattle.node_model.specs.Lives.{KnownPast, KnownLives}
 use Rattle.node_model.specs.Node.{Node, plain_settings}
-use Rattle.node_model.specs.Receipts.{HasOnce, KnownStays, SettledStays}
+use Rattle.node_model.specs.Receipts.{HasOnce, SettledStays}
 use Rattle.node_model.specs.Sound.{Sound}
 use Rattle.node_model.specs.Stores.{Shelf, Stored, StoreState, StoreStand, IfTold, OpensShelf}
 use Rattle.node_model.proofs.KeptReceipts.{kept_receipts}
@@ -23,13 +23,13 @@ use Rattle.session_run.proofs.Settings.{reach_setting}
 use Rattle.session_run.specs.Machine.{Phase, opening}
 use Rattle.session_core.specs.Stages.{Side, Setting, Stage}
 use Rattle.session_run.specs.Reports.{ReportText}
-use Rattle.session_run.specs.Laws.{WholeRun, IsSession, Facts, OwnCause, OwnCauseAt, EndCount, EndCountAt, LineCause, LineCauseAt, DeskCause, DeskCauseAt}
-use Rattle.hub_core.specs.Hubs.{HubState, Fitted, HubFits, knows_over, node_with, hub_stand, seen, state_of}
-use Rattle.hub_core.specs.Opening.{no_seats, with_seat, IsWhole}
+use Rattle.session_run.specs.Laws.{IsSession, Facts, OwnCause, OwnCauseAt, EndCount, EndCountAt, LineCause, LineCauseAt, DeskCause, DeskCauseAt}
+use Rattle.hub_core.specs.Hubs.{HubState, Fitted, knows_over, node_with, hub_stand, state_of}
+use Rattle.hub_core.specs.Opening.{no_seats}
 use Rattle.hub_core.proofs.Seating.{fitted_more}
 use Rattle.binkp_mailer.specs.Statuses as S
 use Rattle.binkp_mailer.specs.Statuses.{Status, status_after}
-use Rattle.binkp_mailer.specs.TopCall.{Calls_in_turn, none_yet, one_more, MayServe, ReachesLimit, HeldSession, HasOnceTold, OnceAfter, StaysTold, StatusCause, Answers_line, Turned_away, Held_one, StopsOf, IsCall, EachStop, IfTells, new_hub, first_seat, lent}
+use Rattle.binkp_mailer.specs.TopCall.{Calls_in_turn, none_yet, one_more, ReachesLimit, HeldSession, HasOnceTold, OnceAfter, StaysTold, StatusCause, Answers_line, Turned_away, Held_one, StopsOf, IsCall, EachStop, IfTells, new_hub, first_seat, lent}
 use Rattle.binkp_mailer.specs.Words.{AreWords}
 
 -- Endless comes only where the limit was reached

@@ -1,4 +1,5 @@
 pub mod Completeness
+pub mod DiskCall
 pub mod Programs
 pub mod Reports
 pub mod Statuses

@@ -8,6 +8,8 @@ use Rattle.session_core.specs.declared.ending.Cause.{Cause}
 use Rattle.session_core.specs.declared.ending.Cause.TheVariants as C
 use Rattle.session_core.specs.Ends.{End}
 use Rattle.session_core.specs.Ends as E
+use Rattle.node_store.specs.declared.opening.fault.StoreOpenFault.{StoreOpenFault}
+use Rattle.node_store.specs.declared.opening.fault.StoreOpenFault.TheVariants as F
 use Rattle.binkp_mailer.specs.declared.status.Status.{Status as StatusCode}
 use Rattle.binkp_mailer.specs.declared.status.Status.TheVariants as V
 
@@ -16,6 +18,7 @@ pub data Status : Type 0 where
   Done : Status
   Usage : Status
   DiskFault : (count : ℕ) → Status
+  LedgerBad : (place : ℕ) → Status
   LedgerFull : Status
   LineFault : Status
   Dropped : Status
@@ -27,12 +30,14 @@ pub data Status : Type 0 where
   Endless : Status
   OutFault : Status
   NoMemory : Status
+  FileBad : (name : List ℕ) → Status
   TurnedAway : Status
 
 abbrev pub status_text : StatusCode → Status
 status_text V.Done = Done
 status_text V.Usage = Usage
 status_text (V.DiskFault count) = DiskFault count
+status_text (V.LedgerBad place) = LedgerBad place
 status_text V.LedgerFull = LedgerFull
 status_text V.LineFault = LineFault
 status_text V.Dropped = Dropped
@@ -44,6 +49,7 @@ status_text (V.Broke cause frame) = Broke cause frame
 status_text V.Endless = Endless
 status_text V.OutFault = OutFault
 status_text V.NoMemory = NoMemory
+status_text (V.FileBad name) = FileBad name
 status_text V.TurnedAway = TurnedAway
 
 -- the exit status
@@ -51,6 +57,7 @@ abbrev pub number_of_status : Status → ℕ
 number_of_status Done = 0
 number_of_status Usage = 1
 number_of_status (DiskFault count) = 3
+number_of_status (LedgerBad place) = 4
 number_of_status LedgerFull = 5
 number_of_status LineFault = 6
 number_of_status Dropped = 7
@@ -62,6 +69,7 @@ number_of_status (Broke cause frame) = 12
 number_of_status Endless = 13
 number_of_status OutFault = 16
 number_of_status NoMemory = 17
+number_of_status (FileBad name) = 18
 number_of_status TurnedAway = 21
 
 -- the status of a command whose session ended so
@@ -80,10 +88,18 @@ status_after E.Endless = Endless
 status_after E.TurnedAway = TurnedAway
 status_after E.NoMemory = NoMemory
 
+-- the status of a command whose store wasn't opened, where the disk's count of faults is that
+abbrev pub status_unopened : StoreOpenFault → (faults : ℕ) → Status
+status_unopened F.Disk faults = DiskFault faults
+status_unopened (F.LedgerBad place) faults = LedgerBad place
+status_unopened (F.FileBad name) faults = FileBad name
+status_unopened F.NoMemory faults = NoMemory
+
 abbrev pub status_word : Status → List ℕ
 status_word Done = codes "Done"
 status_word Usage = codes "Usage"
 status_word (DiskFault count) = codes "DiskFault"
+status_word (LedgerBad place) = codes "LedgerBad"
 status_word LedgerFull = codes "LedgerFull"
 status_word LineFault = codes "LineFault"
 status_word Dropped = codes "Dropped"
@@ -95,6 +111,7 @@ status_word (Broke cause frame) = codes "Broke"
 status_word Endless = codes "Endless"
 status_word OutFault = codes "OutFault"
 status_word NoMemory = codes "NoMemory"
+status_word (FileBad name) = codes "FileBad"
 status_word TurnedAway = codes "TurnedAway"
 
 abbrev pub fault_word : ArgFault → List ℕ
@@ -114,9 +131,12 @@ cause_word C.NotCalled = codes "NotCalled"
 cause_word C.Late = codes "Late"
 cause_word C.TooMuch = codes "TooMuch"
 
--- what follows the word, each behind a space: the count; the text, escaped; the cause and the frame's number
+-- what follows the word, each behind a space: the count; the place; the name or the text, escaped; the cause and the frame's
+-- number
 abbrev pub status_rest : Status → List ℕ
 status_rest (DiskFault count) = 32 ∷ decimal count
+status_rest (LedgerBad place) = 32 ∷ decimal place
+status_rest (FileBad name) = 32 ∷ escaped name
 status_rest (PeerError text) = 32 ∷ escaped text
 status_rest (Broke cause frame) = 32 ∷ cause_word cause ++ 32 ∷ decimal frame
 status_rest status = []

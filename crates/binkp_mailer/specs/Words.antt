@@ -24,3 +24,7 @@ pub record AsksCall (words : List (List ℕ)) (peer home : Address) : Type 0 whe
 pub data AreWords (words : List (List ℕ)) (side : Side) (home : Address) : Type 0 where
   to_answer : side ≡ Answers → AsksAnswer words home → AreWords words side home
   to_call : (peer : Address) → side ≡ Calls peer → AsksCall words peer home → AreWords words side home
+
+-- some words ask for this
+abbrev pub IsAsked : Side → Address → Type 0
+IsAsked side home = (words : List (List ℕ)) × AreWords words side home

@@ -1,13 +1,16 @@
 //! The whole of the program, but for what only the system has.
-ghost use Rattle.std.specs.Prelude.{◌≡◌, ◌↔◌, false, IfOk, IfErr, IsSome};
-ghost use Rattle.binkp_mailer.specs.Programs.{CallsOverNew, EndsByStatus, HadNoWords, IsProgramCall};
-ghost use Rattle.binkp_mailer.specs.Statuses.{Usage, status_text};
+ghost use Rattle.std.specs.Prelude.{◌≡◌, ◌↔◌, false, true, IsSome};
+ghost use Rattle.disk_model.specs.Changes.{Every};
+ghost use Rattle.disk_model.specs.Moments.{Now};
+ghost use Rattle.node_store.specs.Opening.{IsReady};
+ghost use Rattle.binkp_mailer.specs.Programs.{EndsByStatus, HadNoWords, IsProgramCall};
+ghost use Rattle.binkp_mailer.specs.Statuses.{Usage, number_of_status, status_text};
 ghost use Rattle.binkp_mailer.specs.Words.{texts};
 
 use crate::{Outcome, Status, print, run_line};
 use binkp_link::{Line, Sink};
-use ftn_addr::{Bytes, NoMemory};
-use list_store::ListStore;
+use disk_model::Yard;
+use ftn_addr::Bytes;
 use std::alloc::Global;
 
 /// How the program ends: with this exit status, and, where the words are no command, with this line on standard
@@ -24,10 +27,11 @@ pub fn explanation(status: &Status) -> Option<&'static str>
 {
     match status {
         Status::Usage => Some(
-            "binkp: the words are `answer HOME` or `call PEER HOME`, as in `call 2:5047/13@fidonet 2:5020/1042@fidonet`",
+            "binkp: the words are `DIR answer HOME` or `DIR call PEER HOME`, as in `. call 2:5047/13@fidonet 2:5020/1042@fidonet`",
         ),
         Status::Done
         | Status::DiskFault(_)
+        | Status::LedgerBad(_)
         | Status::LedgerFull
         | Status::LineFault
         | Status::Dropped
@@ -39,55 +43,45 @@ pub fn explanation(status: &Status) -> Option<&'static str>
         | Status::Endless
         | Status::OutFault
         | Status::TurnedAway
-        | Status::NoMemory => None,
+        | Status::NoMemory
+        | Status::FileBad(_) => None,
     }
 }
 
-/// Makes the call that the words ask for over a store in memory that is new and that ends with the program, and prints what
-/// came of it.
-///
-/// The words are those behind the program's name, or there was no memory for them: then nothing is read or written on the
-/// line.
-pub fn run_program<L: Line, O: Sink>(
-    alloc: Global,
-    words: Result<Vec<Bytes>, NoMemory>,
-    line: &mut L,
-    now: u64,
-    out: &mut O,
-) -> Ended
-    requires calm { (L.state line.old).calm ≡ 0 }
-    requires open { (L.state line.old).closed ≡ false }
-    ensures call { IfOk words (λ given. IsProgramCall (texts given.items) now (L.state line.old) (O.state out.old) result.exit (L.state line.new) (O.state out.new)) }
-    ensures no_words { IfErr words (λ _. L.state line.new ≡ L.state line.old) }
-    ensures no_memory { IfErr words (λ _. HadNoWords (O.state out.old) result.exit (O.state out.new)) }
+// How a call with that status ends.
+fn end_of(status: &Status) -> Ended
     ensures told { EndsByStatus result }
+    ensures exit { result.exit ≡ number_of_status (status_text status.now) }
 {
-    let status = match words {
-        Ok(words) => call(alloc, words.as_slice(), line, now, out),
-        Err(NoMemory) => print(alloc, Outcome::NoMemory, out),
-    };
     Ended {
         exit: status.number(),
-        told: explanation(&status),
+        told: explanation(status),
     }
 }
 
-// One call over a new store.
-#[tactic(auto, using(crate::proofs::NewStore::new_fits))]
-fn call<L: Line, O: Sink>(
+/// Makes the call that the words behind DIR ask for over the disk, prints what came of it, and gives the disk back.
+pub fn run_program<D: Yard, L: Line, O: Sink>(
     alloc: Global,
     words: &[Bytes],
+    disk: D,
     line: &mut L,
     now: u64,
     out: &mut O,
-) -> Status
+) -> (Ended, D)
+    requires ready { D.tells ≡ true → Every (Now D.moment D.images disk) (IsReady (D.content disk)) }
     requires calm { (L.state line.old).calm ≡ 0 }
     requires open { (L.state line.old).closed ≡ false }
-    ensures call { CallsOverNew (texts words.now) now (L.state line.old) (O.state out.old) (status_text result) (L.state line.new) (O.state out.new) }
+    ensures call { IsProgramCall D.tells D.content D.fault_count D.moment D.images (texts words.now) now (L.state line.old) disk (O.state out.old) result.0.exit (L.state line.new) result.1 (O.state out.new) }
+    ensures told { EndsByStatus result.0 }
 {
-    let (status, _store) = run_line(alloc, words, ListStore::new(alloc), line, now, [0; 16], out);
-    status
+    let (status, disk) = run_line(alloc, words, disk, line, now, [0; 16], out);
+    (end_of(&status), disk)
 }
 
-#[cfg(test)]
-mod tests;
+/// Says that there was no memory for the words: nothing is read or written on a line or a disk.
+pub fn refuse_for_memory<O: Sink>(alloc: Global, out: &mut O) -> Ended
+    ensures no_memory { HadNoWords (O.state out.old) result.exit (O.state out.new) }
+    ensures told { EndsByStatus result }
+{
+    end_of(&print(alloc, Outcome::NoMemory, out))
+}

@@ -7,9 +7,10 @@ ghost use Rattle.session_run.specs.Reports.{report_text};
 ghost use Rattle.binkp_mailer.specs.Reports.{Prints, Puts_lines, end_word, had_of, lines_told, peer_word, session_line, told_of};
 ghost use Rattle.binkp_mailer.specs.Statuses.{Status as AnyStatus, status_line, status_text};
 
-use crate::status::{Status, push_status, status_of};
+use crate::status::{Status, push_status, status_of, status_unopened};
 use binkp_link::Sink;
 use ftn_addr::{Addr, Bytes, NoMemory, write_addr};
+use node_store::StoreOpenFault;
 use session_core::End;
 use session_run::Report;
 use std::alloc::Global;
@@ -78,6 +79,8 @@ pub enum Outcome {
     Usage,
     /// There was no memory before a session began.
     NoMemory,
+    /// The store wasn't opened, and that is its disk's count of faults.
+    Unopened(StoreOpenFault, u64),
     /// A session was held.
     Held(Report),
 }
@@ -90,6 +93,7 @@ fn session_lines(alloc: Global, outcome: &Outcome) -> Result<Bytes, NoMemory>
     match outcome {
         Outcome::Usage => {}
         Outcome::NoMemory => {}
+        Outcome::Unopened(_, _) => {}
         Outcome::Held(report) => push_session(alloc, report, &mut lines)?,
     }
     Ok(lines)
@@ -102,6 +106,7 @@ fn had(outcome: Outcome) -> Status
     match outcome {
         Outcome::Usage => Status::Usage,
         Outcome::NoMemory => Status::NoMemory,
+        Outcome::Unopened(fault, faults) => status_unopened(fault, faults),
         Outcome::Held(report) => status_of(report.end),
     }
 }

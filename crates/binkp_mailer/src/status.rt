@@ -1,10 +1,12 @@
 //! How the program ends.
 ghost use Rattle.std.specs.Prelude.{◌≡◌, ◌++◌, OnOk};
 ghost use Rattle.session_core.specs.Ends.{end_text};
-ghost use Rattle.binkp_mailer.specs.Statuses.{cause_word, fault_word, is_told, number_of_status, status_after, status_line, status_rest, status_text, status_word};
+ghost use Rattle.binkp_mailer.specs.Statuses.{cause_word, fault_word, is_told, number_of_status, status_after, status_line, status_rest, status_text, status_unopened, status_word};
 
 use binkp_args::{ArgFault, escape};
+use disk_model::Name;
 use ftn_addr::{Bytes, NoMemory};
+use node_store::StoreOpenFault;
 use session_core::{Cause, End};
 use std::alloc::Global;
 
@@ -15,8 +17,10 @@ pub enum Status {
     Done,
     /// The words are no command.
     Usage,
-    /// The disk failed, and the store is broken with that count of faults.
+    /// The disk failed, and the store is broken with that count of faults, or wasn't opened.
     DiskFault(u64),
+    /// The ledger can't be read from that place on, in bytes.
+    LedgerBad(u64),
     /// The ledger has no room.
     LedgerFull,
     LineFault,
@@ -37,6 +41,8 @@ pub enum Status {
     /// What was to be printed couldn't be put.
     OutFault,
     NoMemory,
+    /// The own file of that name doesn't fit the ledger.
+    FileBad(Name),
     /// As many sessions were open as the settings allow.
     TurnedAway,
 }
@@ -50,6 +56,7 @@ impl Status {
             Status::Done => 0,
             Status::Usage => 1,
             Status::DiskFault(_) => 3,
+            Status::LedgerBad(_) => 4,
             Status::LedgerFull => 5,
             Status::LineFault => 6,
             Status::Dropped => 7,
@@ -61,6 +68,7 @@ impl Status {
             Status::Endless => 13,
             Status::OutFault => 16,
             Status::NoMemory => 17,
+            Status::FileBad(_) => 18,
             Status::TurnedAway => 21,
         }
     }
@@ -80,6 +88,7 @@ impl Status {
             Status::Done => b"Done",
             Status::Usage => b"Usage",
             Status::DiskFault(_) => b"DiskFault",
+            Status::LedgerBad(_) => b"LedgerBad",
             Status::LedgerFull => b"LedgerFull",
             Status::LineFault => b"LineFault",
             Status::Dropped => b"Dropped",
@@ -91,6 +100,7 @@ impl Status {
             Status::Endless => b"Endless",
             Status::OutFault => b"OutFault",
             Status::NoMemory => b"NoMemory",
+            Status::FileBad(_) => b"FileBad",
             Status::TurnedAway => b"TurnedAway",
         }
     }
@@ -114,6 +124,18 @@ pub fn status_of(end: End) -> Status
         End::Endless => Status::Endless,
         End::TurnedAway => Status::TurnedAway,
         End::NoMemory => Status::NoMemory,
+    }
+}
+
+/// The status of a command whose store wasn't opened, where the disk's count of faults is that.
+pub fn status_unopened(fault: StoreOpenFault, faults: u64) -> Status
+    ensures { status_text result ≡ status_unopened fault faults }
+{
+    match fault {
+        StoreOpenFault::Disk => Status::DiskFault(faults),
+        StoreOpenFault::LedgerBad(place) => Status::LedgerBad(place),
+        StoreOpenFault::FileBad(name) => Status::FileBad(name),
+        StoreOpenFault::NoMemory => Status::NoMemory,
     }
 }
 
@@ -153,6 +175,14 @@ fn push_rest(alloc: Global, status: &Status, line: &mut Bytes) -> Result<(), NoM
         Status::DiskFault(count) => {
             line.push_slice(b" ")?;
             line.push_number(alloc, *count)
+        }
+        Status::LedgerBad(place) => {
+            line.push_slice(b" ")?;
+            line.push_number(alloc, *place)
+        }
+        Status::FileBad(name) => {
+            line.push_slice(b" ")?;
+            escape(alloc, name.as_slice(), line)
         }
         Status::PeerError(text) => {
             line.push_slice(b" ")?;
@@ -203,11 +233,13 @@ mod tests {
     #[test]
     fn each_status_has_its_line(rt: HostRuntime) -> Result<(), Fail> {
         let alloc = rt.alloc();
+        let name = Name::new(b"in.00000001").expect(&rt, "a name");
         let text = Bytes::from_slice(alloc, b"no mail, \\go")?;
-        let cases: [(Status, u8, &[u8]); 15] = [
+        let cases: [(Status, u8, &[u8]); 17] = [
             (Status::Done, 0, b""),
             (Status::Usage, 1, b"status 1 Usage\n"),
             (Status::DiskFault(9), 3, b"status 3 DiskFault 9\n"),
+            (Status::LedgerBad(16), 4, b"status 4 LedgerBad 16\n"),
             (Status::LedgerFull, 5, b"status 5 LedgerFull\n"),
             (Status::LineFault, 6, b"status 6 LineFault\n"),
             (Status::Dropped, 7, b"status 7 Dropped\n"),
@@ -227,6 +259,11 @@ mod tests {
             (Status::Endless, 13, b"status 13 Endless\n"),
             (Status::OutFault, 16, b""),
             (Status::NoMemory, 17, b"status 17 NoMemory\n"),
+            (
+                Status::FileBad(name),
+                18,
+                b"status 18 FileBad in.00000001\n",
+            ),
             (Status::TurnedAway, 21, b"status 21 TurnedAway\n"),
         ];
         for (status, number, wanted) in &cases {

@@ -1,5 +1,4 @@
-use Rattle.std.proofs.Common.{rules, refl, sym, ap, arith, ◌∙◌, ◌≡◌, ℕ, List, IfOk, Ok, Err, Result, ◌<◌, ◌≤◌, length, true, false, [], ◌∷◌, codes, get_or, nat_eq, not, Bool}
-use Rattle.std.specs.Cmp.Lexicographic.{pointwise}
+use Rattle.std.proofs.Common.{sym, ap, ◌∙◌, ◌≡◌, ℕ, List, IfOk, Ok, Err, Result, [], ◌∷◌, codes}
 use Rattle.ftn_addr.specs.Address.{address}
 use Rattle.ftn_addr.specs.Content.{Content}
 use Rattle.ftn_addr.specs.declared.addr.Addr.{Addr}

@@ -1,0 +1,149 @@
+-- What a call over a disk says of the disk's images.
+use Rattle.std.proofs.Common.{◌≡◌, ◌⊎◌, ◌∙◌, ℕ, ◌≤◌, ◌<◌, arith, Bool, true, false, List, [], Option, Some, None, option_map, refl, sym, ap, subst, inl, inr, ⊎_elim}
+use Rattle.std.specs.Prelude.{if◌then◌else◌}
+use Rattle.std.proofs.lemmas.Bool.{cases_lt}
+use Rattle.disk_model.specs.Changes.{Every}
+use Rattle.disk_model.specs.Moments.{Now, Leaves}
+use Rattle.disk_model.specs.World.{World}
+use Rattle.node_model.specs.Durable.{Durable}
+use Rattle.node_model.specs.Items.{MarkOf}
+use Rattle.node_model.specs.Lists.{Member}
+use Rattle.node_model.specs.Node.{Settings}
+use Rattle.node_model.specs.Receipts.{HasOnce, SettledStays}
+use Rattle.node_model.specs.StoreStates.{Shelf, Stored, shelf_of, IfTold}
+use Rattle.node_model.specs.Stores.{IsShelf, OpensShelf}
+use Rattle.node_model.proofs.ReceiptsStay.{stays_same}
+use Rattle.hub_core.specs.Hubs.{state_of as durable_of, Fitted, IsSettled}
+use Rattle.hub_core.specs.Opening.{no_seats, IsWhole}
+use Rattle.hub_core.proofs.Closing.{no_sitting, not_some}
+use Rattle.binkp_link.specs.Lines.{LineState}
+use Rattle.node_store.specs.Finding.{IsNewMemory}
+use Rattle.node_store.specs.Opening.{Recovers}
+use Rattle.node_store.specs.Sounds.{KeepsSound}
+use Rattle.node_store.specs.Stored.{Holding, Memory, state_of, stand_of, stored_in}
+use Rattle.node_store.specs.Worlds.{OpensAs, Opens}
+use Rattle.node_store.proofs.Openings.{one_shelf, opens_to}
+use Rattle.session_run.specs.Reports.{ReportText}
+use Rattle.binkp_mailer.specs.DiskCall.{StillHas, OpensTo, KeepsReceipts, HasOpened, Serves, Over_disk, Not_asked, Not_opened, Over_store}
+use Rattle.binkp_mailer.specs.Statuses.{Status}
+use Rattle.binkp_mailer.specs.TopCall.{Answers_line, Turned_away, Held_one, StopsOf, IsCall, EachStop}
+
+-- A store that was just opened fits a hub without seats.
+
+nothing_open : (m : Memory) (tells : Bool) (w : World) (faults : ℕ) → IsNewMemory m → (state_of tells w faults m).stock.parts ≡ []
+nothing_open m tells w faults new = ap (λ (x : Memory). (state_of tells w faults x).stock.parts) new.3
+
+no_member : {A : Type 0} (ps : List (MarkOf ℕ)) (p : MarkOf ℕ) → ps ≡ [] → Member p ps → A
+no_member ps p none there = absurd (subst (Member p) none there)
+
+pub told_is : {A : Type 0} (tells : Bool) (a : A) → tells ≡ true → (if tells then Some a else None) ≡ Some a
+told_is true a telling = refl
+told_is false a telling = absurd (let clash : false ≡ true = telling in cc)
+
+module _ {D : Type 0} (tells : Bool) (content : D → World) (faults : D → ℕ) (moment : D → ℕ) (images : D → ℕ → World → Type 0) where
+  new_fitted : (s : Holding D) (settings : Settings) → KeepsSound settings (stand_of tells content faults moment images s).state → IsNewMemory s.memory → Fitted (stand_of tells content faults moment images s).state (no_seats settings)
+  new_fitted s settings k new = record {
+    keeps = k.keeps;
+    tells = k.tells;
+    fits = record {
+      stock = k.stock;
+      sittings = λ n x at. not_some _ x (no_sitting settings n) at;
+      parts = λ p there. no_member _ p (nothing_open s.memory tells (content s.disk) (faults s.disk) new) there;
+      sound = k.sound;
+    };
+  }
+
+  new_settled : (s : Holding D) → (tells ≡ true → Every (Now moment images s.disk) (λ w. OpensAs w (shelf_of (stored_in (content s.disk) s.memory)))) → IsSettled (stand_of tells content faults moment images s)
+  new_settled s opens = λ d image.
+      let stored = stored_in (content s.disk) s.memory in
+      subst (λ (c : Option Stored). OpensShelf (IsShelf c) d) (sym (told_is tells stored image.0))
+      (opens_to (IsShelf (Some stored)) image.1 (shelf_of stored) (opens image.0 image.1 image.2) refl d image.3)
+
+  pub new_whole : (s : Holding D) (settings : Settings) → KeepsSound settings (stand_of tells content faults moment images s).state → IsNewMemory s.memory
+      → (tells ≡ true → Every (Now moment images s.disk) (λ w. OpensAs w (shelf_of (stored_in (content s.disk) s.memory)))) → IsWhole (stand_of tells content faults moment images s) (no_seats settings)
+  new_whole s settings k new opens = record { fitted = λ unbroken. new_fitted s settings k new; settled = λ unbroken. new_settled s opens }
+
+-- What is received stays so.
+
+still_same : (d e : Durable) → e ≡ d → StillHas d e
+still_same d e is = record { stays = stays_same d e is; once = λ before. subst HasOnce (sym is) before }
+
+same_state : (Q : Durable → Type 0) (e o : Option Shelf) → option_map durable_of e ≡ option_map durable_of o → OpensShelf (λ s. Q s.state) o → OpensShelf (λ s. Q s.state) e
+same_state Q e None is holds = absurd holds
+same_state Q None (Some o) is holds = absurd (let clash : None ≡ Some o.state = is in cc)
+same_state Q (Some e) (Some o) is holds = let same : e.state ≡ o.state = cc in subst Q (sym same) holds
+
+both_hold : (d : Durable) (e : Option Shelf) → OpensShelf (λ s. SettledStays d s.state) e → OpensShelf (λ s. HasOnce s.state) e → OpensShelf (λ s. StillHas d s.state) e
+both_hold d None stays once = absurd stays
+both_hold d (Some s) stays once = record { stays = stays; once = λ before. once }
+
+either : (a b : ℕ) → (a ≤ b) ⊎ (b < a)
+either a b = ⊎_elim (λ (past : b < a). inr past) (λ (le : a ≤ b). inl le) (cases_lt b a)
+
+-- a world that opens to that state, and what recovers from it
+opens_still : (d : Durable) (w : World) (shelf : Shelf) → OpensAs w shelf → shelf.state ≡ d → (e : Option Shelf) → Opens w e → OpensShelf (λ s. StillHas d s.state) e
+opens_still d w shelf opens is e op = opens_to (λ s. StillHas d s.state) w shelf opens (still_same d shelf.state is) e op
+
+recovers_still : (d : Durable) (v w : World) → OpensTo d v → Recovers v w → (e : Option Shelf) → Opens w e → OpensShelf (λ s. StillHas d s.state) e
+recovers_still d v w before recovers e op =
+    let after = recovers before.0 before.1 in
+    opens_still d w after.0 after.1 (after.2.state ∙ before.2) e op
+
+module _ {D : Type 0} (tells : Bool) (content : D → World) (faults : D → ℕ) (moment : D → ℕ) (images : D → ℕ → World → Type 0) where
+  -- at each moment of an opening
+  leaves_still : (d : Durable) (disk disk' : D) → Leaves moment images Recovers disk disk' → Every (Now moment images disk) (OpensTo d)
+      → (k : ℕ) (w : World) (e : Option Shelf) → moment disk ≤ k → k ≤ moment disk' → images disk' k w → Opens w e → OpensShelf (λ s. StillHas d s.state) e
+  leaves_still d disk disk' leaves all k w e from to image op =
+      let was = leaves.each k w from to image in
+      recovers_still d was.0 w (all was.0 was.1) was.2 e op
+
+  -- a moment before a call over a store began, seen after it
+  earlier : (words : List (List ℕ)) (now : ℕ) (line : LineState) (opened left : Holding D) (told : Option ReportText) (had : Status) (line' : LineState)
+      → IsCall words now line (stand_of tells content faults moment images opened) told had line' (stand_of tells content faults moment images left)
+      → (k : ℕ) (e : Option Shelf) → k ≤ moment opened.disk → (stand_of tells content faults moment images left).images k e
+      → (o : Option Shelf) × (stand_of tells content faults moment images opened).images k o × (option_map durable_of e ≡ option_map durable_of o)
+  earlier words now line opened left told had line' call k e until image = go call.answers call.stops
+    where
+      go : (a : Answers_line words now line (stand_of tells content faults moment images opened).state told had line' (stand_of tells content faults moment images left).state)
+          → StopsOf words now line (stand_of tells content faults moment images opened) told had line' (stand_of tells content faults moment images left) a
+          → (o : Option Shelf) × (stand_of tells content faults moment images opened).images k o × (option_map durable_of e ≡ option_map durable_of o)
+      go (Turned_away none why line_is store_is) same = (e, same.images k e image, refl)
+      go (Held_one side home are held) stops = stops.ran.before k (option_map durable_of e) until (e, image, refl)
+
+  -- what the store tells that was opened
+  opened_state : (d : Durable) (disk : D) (opened : Holding D) → tells ≡ true → HasOpened tells content faults moment images disk opened → OpensTo d (content disk) → (stored_in (content opened.disk) opened.memory).stock.state ≡ d
+  opened_state d disk opened telling h before =
+      let is = h.told telling in
+      is.tidied.state ∙ ap (λ (s : Shelf). s.state) (one_shelf (content disk) before.0 is.shelf before.1 is.opens) ∙ before.2
+
+  later : (d : Durable) (words : List (List ℕ)) (now : ℕ) (line : LineState) (opened left : Holding D) (told : Option ReportText) (had : Status) (line' : LineState)
+      → tells ≡ true → (stored_in (content opened.disk) opened.memory).stock.state ≡ d
+      → Serves words now line (stand_of tells content faults moment images opened) told had line' (stand_of tells content faults moment images left)
+      → (k : ℕ) (e : Option Shelf) → moment opened.disk < k → k ≤ moment left.disk → (stand_of tells content faults moment images left).images k e → OpensShelf (λ s. StillHas d s.state) e
+  later d words now line opened left told had line' telling is serves k e after until image =
+      let store = stand_of tells content faults moment images opened in
+      let store' = stand_of tells content faults moment images left in
+      let kept = stored_in (content opened.disk) opened.memory in
+      let stays : EachStop store store' (SettledStays kept.stock.state) = subst (λ (c : Option Stored). IfTold c (λ a. EachStop store store' (SettledStays a.stock.state))) (told_is tells kept telling) serves.stop_stays in
+      let once : EachStop store store' HasOnce = subst (λ (c : Option Stored). IfTold c (λ a. EachStop store store' HasOnce)) (told_is tells kept telling) serves.stop_once in
+      both_hold d e (subst (λ (x : Durable). OpensShelf (λ s. SettledStays x s.state) e) is (stays k e after until image)) (once k e after until image)
+
+  pub keeps_receipts : (words : List (List ℕ)) (now : ℕ) (line : LineState) (disk : D) (told : Option ReportText) (had : Status) (line' : LineState) (disk' : D)
+      → tells ≡ true → Over_disk tells content faults moment images words now line disk told had line' disk' → KeepsReceipts content moment images disk disk'
+  keeps_receipts words now line disk told had line' disk' telling (Not_asked none why line_is disk_is) = λ d reads all k w e from to image op.
+      let here : images disk k w = subst (λ (x : D). images x k w) disk_is image in
+      let until : k ≤ moment disk = subst (λ (x : D). k ≤ moment x) disk_is to in
+      let now_is : images disk (moment disk) w = subst (λ (m : ℕ). images disk m w) (omega (arith, from, until)) here in
+      let opens = all w now_is in
+      opens_still d w opens.0 opens.1 opens.2 e op
+  keeps_receipts words now line disk told had line' disk' telling (Not_opened side home are fault none had_is line_is refused) = λ d reads all k w e from to image op.
+      leaves_still d disk disk' (refused.stop telling) all k w e from to image op
+  keeps_receipts words now line disk told had line' disk' telling (Over_store opened left h serves disk_is) = λ d reads all k w e from to image op.
+      let here : images left.disk k w = subst (λ (x : D). images x k w) disk_is image in
+      let until : k ≤ moment left.disk = subst (λ (x : D). k ≤ moment x) disk_is to in
+      ⊎_elim
+      (λ (before : k ≤ moment opened.disk).
+      let was = earlier words now line opened left told had line' serves.call k e before (telling, w, here, op) in
+      same_state (StillHas d) e was.0 was.2 (leaves_still d disk opened.disk (h.stop telling) all k was.1.1 was.0 from before was.1.2 was.1.3))
+      (λ (after : moment opened.disk < k). later d words now line opened left told had line' telling (opened_state d disk opened telling h reads) serves k e after until (telling, w, here, op))
+      (either k (moment opened.disk))

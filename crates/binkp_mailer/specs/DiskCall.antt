@@ -1,0 +1,94 @@
+-- What the program's call does over a disk (own).
+use Rattle.std.specs.Prelude.{◌≡◌, ◌⊎◌, ℕ, ◌≤◌, Bool, true, List, Option, None}
+use Rattle.disk_model.specs.Changes.{Every}
+use Rattle.disk_model.specs.Moments.{Now, Leaves}
+use Rattle.disk_model.specs.World.{World}
+use Rattle.ftn_addr.specs.Address.{Address}
+use Rattle.ftn_addr.specs.Counts.{Increased, CountGrew}
+use Rattle.node_model.specs.Durable.{Durable}
+use Rattle.node_model.specs.Receipts.{HasOnce, SettledStays}
+use Rattle.node_model.specs.Stores.{Shelf, StoreStand, OpensShelf}
+use Rattle.binkp_link.specs.Lines.{LineState, SinkState}
+use Rattle.node_store.specs.Finding.{IsNewMemory, IsOpened}
+use Rattle.node_store.specs.Opening.{IsRefused, IsBadLedger, HasBadFile, Recovers}
+use Rattle.node_store.specs.Stored.{Holding, stand_of}
+use Rattle.node_store.specs.Worlds.{OpensAs, Opens}
+use Rattle.node_store.specs.declared.opening.fault.StoreOpenFault.{StoreOpenFault}
+use Rattle.node_store.specs.declared.opening.fault.StoreOpenFault.TheVariants as F
+use Rattle.session_core.specs.Stages.{Side}
+use Rattle.session_run.specs.Reports.{ReportText}
+use Rattle.binkp_mailer.specs.Completeness.{IsDoneWhere}
+use Rattle.binkp_mailer.specs.Reports.{Prints}
+use Rattle.binkp_mailer.specs.Statuses as S
+use Rattle.binkp_mailer.specs.Statuses.{Status, status_unopened}
+use Rattle.binkp_mailer.specs.TopCall.{IsCall, StatusCause, OnceAfter, StaysTold, IfTells}
+use Rattle.binkp_mailer.specs.Words.{AreWords}
+
+-- A call over a store that is there, with the cause of its status. What was received stays so, each sender and key once, at
+-- each stop too.
+pub record Serves (words : List (List ℕ)) (now : ℕ) (line : LineState) (store : StoreStand) (told : Option ReportText) (had : Status) (line' : LineState) (store' : StoreStand) : Type 0 where
+  pub call : IsCall words now line store told had line' store'
+  pub cause : StatusCause had line line' store.state.counts store'.state.counts
+  pub once : OnceAfter store.state.content store'.state.content
+  pub stays : StaysTold store.state.content store'.state.content
+  pub stop_once : IfTells store store' (λ old. HasOnce)
+  pub stop_stays : IfTells store store' SettledStays
+
+-- this has each receipt and each refusal of that, and two receipts of a sender and key only where that has
+pub record StillHas (old new : Durable) : Type 0 where
+  pub stays : SettledStays old new
+  pub once : HasOnce old → HasOnce new
+
+-- an opening of this world finds that durable state
+abbrev pub OpensTo : Durable → World → Type 0
+OpensTo d w = (shelf : Shelf) × OpensAs w shelf × (shelf.state ≡ d)
+
+module _ {D : Type 0} (content : D → World) (moment : D → ℕ) (images : D → ℕ → World → Type 0) where
+  -- where what is read and each image now opens to one durable state, each image at each moment since opens to one that has
+  -- all its receipts and refusals, and two receipts of a sender and key only where that has
+  abbrev pub KeepsReceipts : D → D → Type 0
+  KeepsReceipts disk disk' =
+      (d : Durable) → OpensTo d (content disk) → Every (Now moment images disk) (OpensTo d)
+      → (k : ℕ) (w : World) (e : Option Shelf) → moment disk ≤ k → k ≤ moment disk' → images disk' k w → Opens w e
+      → OpensShelf (λ s. StillHas d s.state) e
+
+module _ {D : Type 0} (tells : Bool) (content : D → World) (faults : D → ℕ) where
+  -- What a status tells of the disk. The number of a DiskFault is a count to which its faults rose; LedgerBad and FileBad come
+  -- only where the world that it reads is refused so.
+  abbrev pub DiskCause : Status → D → D → Type 0
+  DiskCause (S.DiskFault count) disk disk' = Increased (faults disk) count × CountGrew count (faults disk')
+  DiskCause (S.LedgerBad place) disk disk' = tells ≡ true → IsBadLedger place (content disk)
+  DiskCause (S.FileBad name) disk disk' = tells ≡ true → HasBadFile name (content disk)
+  DiskCause status disk disk' = Unit {0}
+
+module _ {D : Type 0} (tells : Bool) (content : D → World) (faults : D → ℕ) (moment : D → ℕ) (images : D → ℕ → World → Type 0) where
+  -- A store was opened: nothing is open in it, the disk read what it tells, and at each moment a stop left what opens as before.
+  pub record HasOpened (disk : D) (opened : Holding D) : Type 0 where
+    pub memory : IsNewMemory opened.memory
+    pub told : tells ≡ true → IsOpened (content disk) (content opened.disk) opened.memory
+    pub stop : tells ≡ true → Leaves moment images Recovers disk opened.disk
+    pub calm : faults opened.disk ≡ faults disk
+
+  -- None was opened: the disk failed, or there was no memory, or the world that it reads is refused. At each moment a stop left
+  -- what opens as before, and so does the end.
+  pub record HasRefused (fault : StoreOpenFault) (disk disk' : D) : Type 0 where
+    pub why : (fault ≡ F.Disk) ⊎ ((fault ≡ F.NoMemory) ⊎ (tells ≡ true → IsRefused fault (content disk)))
+    pub failed : fault ≡ F.Disk → Increased (faults disk) (faults disk')
+    pub stop : tells ≡ true → Leaves moment images Recovers disk disk'
+    pub read : tells ≡ true → Recovers (content disk) (content disk')
+
+  -- Nothing was done, for the words or for want of memory; or no store was opened; or a call was made over the store of the
+  -- disk.
+  pub data Over_disk (words : List (List ℕ)) (now : ℕ) (line : LineState) (disk : D) (told : Option ReportText) (had : Status) (line' : LineState) (disk' : D) : Type 0 where
+    Not_asked : told ≡ None → (had ≡ S.Usage) ⊎ (had ≡ S.NoMemory) → line' ≡ line → disk' ≡ disk → Over_disk words now line disk told had line' disk'
+    Not_opened : (side : Side) (home : Address) → AreWords words side home → (fault : StoreOpenFault) → told ≡ None → had ≡ status_unopened fault (faults disk') → line' ≡ line → HasRefused fault disk disk' → Over_disk words now line disk told had line' disk'
+    Over_store : (opened left : Holding D) → HasOpened disk opened → Serves words now line (stand_of tells content faults moment images opened) told had line' (stand_of tells content faults moment images left) → disk' ≡ left.disk → Over_disk words now line disk told had line' disk'
+
+  -- The whole call, and then what was printed of it: the session's report where one was held, and the status that it had.
+  -- It is Done where that session finished, and nowhere else.
+  pub record DiskCall (words : List (List ℕ)) (now : ℕ) (line : LineState) (disk : D) (out : SinkState) (status : Status) (line' : LineState) (disk' : D) (out' : SinkState) : Type 0 where
+    pub told : Option ReportText
+    pub had : Status
+    pub call : Over_disk words now line disk told had line' disk'
+    pub prints : Prints told had status out out'
+    pub done : IsDoneWhere told status out out'

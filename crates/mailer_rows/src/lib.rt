@@ -1,0 +1,16 @@
+//! Rows over the program's call on a disk in memory: what is left where a session is stopped at each of its disk's calls, where
+//! each of them fails, and how many syncs a file costs.
+//!
+//! Nothing names this crate. Its tests stand here, above all that they run through, so that no crate of the program waits for
+//! the disk in memory.
+#![tactic(auto)]
+
+mod boxes;
+mod queues;
+#[cfg(test)]
+mod tests;
+
+pub use boxes::{
+    answer, answer_slowly, failing_at, files_of, own_file, picks_at, reopened, stopped,
+};
+pub use queues::{key, node, with_queued};
