@@ -8,8 +8,11 @@ use Rattle.node_model.specs.Lists.{Each}
 use Rattle.node_model.specs.Node.{Settings, plain_settings}
 use Rattle.node_model.specs.Stocks.{NewEntry, StagedOf, staged_in}
 use Rattle.node_model.specs.StoreStates.{StoreState}
-use Rattle.node_model.specs.Stores.{with_staged, Stage, StoreMade, StoreDoes, Staged_as, staged_answer}
+use Rattle.node_model.specs.Stores.{with_staged, Stage, Stage_copy, StoreMade, StoreDoes, Staged_as, Copied_as, staged_answer, copy_answer}
 use Rattle.node_model.specs.StoreWords.{FitsQueue, IsNewBatch}
+use Rattle.node_model.specs.declared.store.OutStat.{OutStat}
+use Rattle.node_model.specs.declared.store.Staged.{Staged}
+use Rattle.node_model.specs.declared.store.Staged.TheVariants.{Copied}
 use Rattle.node_model.specs.declared.store.StoreFault.{StoreFault}
 use Rattle.node_store.specs.Finding.{IsNewMemory}
 use Rattle.node_store.specs.Sounds.{KeepsSound}
@@ -70,3 +73,14 @@ pub new_batch : (s t : Holding MemDisk) (bytes : List ℕ) (result : Result ℕ 
 new_batch s t bytes result number f new sound made is at size fits =
     let does = was_staged (told_state s) (told_state t) bytes result number made is in
     staged_batch plain_settings (told_state s) (told_state t) bytes number f (sound plain_settings) (nothing_staged true (shown s.disk.held) s.disk.faults s.memory new) does.0 does.2 at size fits
+
+-- the same of the copy of an outside file
+was_copied : (s t : StoreState) (path : List ℕ) (result : Result Staged StoreFault) (number : ℕ) (stat : OutStat) → StoreMade s (Stage_copy path) (copy_answer result) t → result ≡ Ok (Copied number stat) → StoreDoes s (Stage_copy path) (Copied_as (Copied number stat)) t
+was_copied s t path result number stat made is = subst (λ (r : Result Staged StoreFault). StoreMade s (Stage_copy path) (copy_answer r) t) is made
+
+pub new_copy : (s t : Holding MemDisk) (path : List ℕ) (result : Result Staged StoreFault) (number : ℕ) (stat : OutStat) (f : NewEntry) → IsNewMemory s.memory → ((settings : Settings) → KeepsSound settings (told_state s))
+    → StoreMade (told_state s) (Stage_copy path) (copy_answer result) (told_state t) → result ≡ Ok (Copied number stat) → f.number ≡ number → f.key.size ≡ stat.size → FitsQueue f → IsNewBatch None None (f ∷ []) (told_state t)
+new_copy s t path result number stat f new sound made is at size fits =
+    let does = was_copied (told_state s) (told_state t) path result number stat made is in
+    let bytes = does.2.0 in
+    staged_batch plain_settings (told_state s) (told_state t) bytes number f (sound plain_settings) (nothing_staged true (shown s.disk.held) s.disk.faults s.memory new) does.0 does.2.2 at (size ∙ does.2.1.size) fits

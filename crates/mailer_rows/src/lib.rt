@@ -6,6 +6,7 @@
 #![tactic(auto)]
 
 mod boxes;
+mod gifts;
 mod queues;
 #[cfg(test)]
 mod tests;
@@ -13,4 +14,5 @@ mod tests;
 pub use boxes::{
     answer, answer_slowly, failing_at, files_of, own_file, picks_at, reopened, stopped,
 };
+pub use gifts::{act_once, give_once, names_in, with_outside, with_source};
 pub use queues::{key, node, with_queued};

@@ -10,8 +10,10 @@ use mem_disk::MemDisk;
 use std::alloc::Global;
 use std::test::Fail;
 
+mod acted;
 mod costs;
 mod failing;
+mod given;
 mod program;
 mod refused;
 mod resumed;
