@@ -1,5 +1,5 @@
 -- A file is offered at a hub's desk: what the call is told by, whatever it answers.
-use Rattle.std.proofs.Common.{◌≡◌, ℕ, ◌-◌, ◌<◌, true, false, [], ◌∷◌, Option, Some, length, refl, sym, ◌∙◌, ap, subst, inl, inr}
+use Rattle.std.proofs.Common.{◌≡◌, ℕ, ◌-◌, true, false, [], ◌∷◌, Option, Some, refl, sym, ◌∙◌, ap, subst, inl, inr}
 use Rattle.std.specs.Prelude.{Ok}
 use Rattle.ftn_addr.specs.Key.{Key}
 use Rattle.node_model.specs.declared.desk.FileIn.{FileIn}

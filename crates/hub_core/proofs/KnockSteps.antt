@@ -1,5 +1,5 @@
 -- A caller comes, or is turned away: a step of the hub's node.
-use Rattle.std.proofs.Common.{◌≡◌, ◌≢◌, ◌⊎◌, ℕ, ◌+◌, ◌<◌, Bool, true, false, cond, ◌&&◌, nat_le, count_by, List, Option, Some, None, map, option_map, refl, sym, ◌∙◌, ap, subst, inl, inr, arith}
+use Rattle.std.proofs.Common.{◌≡◌, ◌≢◌, ◌⊎◌, ℕ, ◌+◌, Bool, true, false, cond, ◌&&◌, nat_le, count_by, List, Option, Some, None, map, option_map, refl, sym, ◌∙◌, ap, inl, inr, arith}
 use borrow.Author.Tests.{leb-false, leb-true}
 use Rattle.ftn_addr.specs.Counts.{next_count}
 use Rattle.node_model.specs.declared.words.Role.{Role}

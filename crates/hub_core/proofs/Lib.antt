@@ -3,6 +3,7 @@ pub mod Behind
 pub mod Breaking
 pub mod Candidates
 pub mod Chairs
+pub mod Claiming
 pub mod Closing
 pub mod Data
 pub mod DataNeeds
@@ -16,6 +17,9 @@ pub mod FileSteps
 pub mod Filing
 pub mod Finding
 pub mod GotSteps
+pub mod HoldSteps
+pub mod Holding
+pub mod Indexing
 pub mod JudgeSteps
 pub mod Keeping
 pub mod KnockSteps

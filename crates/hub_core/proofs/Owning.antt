@@ -1,5 +1,5 @@
 -- A call changes its own seat alone.
-use Rattle.std.proofs.Common.{◌≡◌, ◌≢◌, ℕ, ◌<◌, Option, length, refl, sym, ◌∙◌}
+use Rattle.std.proofs.Common.{◌≡◌, ℕ, ◌<◌, Option, length, refl, sym, ◌∙◌}
 use Rattle.node_model.specs.Stores.{StoreStand}
 use Rattle.hub_core.specs.Hubs.{Sitting, Chair, HubState, chair_in, put_chair, with_sitting}
 use Rattle.hub_core.specs.HubCalls.{OwnCall}

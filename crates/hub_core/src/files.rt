@@ -6,16 +6,18 @@ ghost use Rattle.ftn_addr.specs.Limits.{IsAddress, IsKey};
 ghost use Rattle.node_model.specs.declared.words.Known.TheVariants as K;
 ghost use Rattle.node_model.specs.Rows.{reason};
 ghost use Rattle.node_model.specs.Stocks.{known_in};
+ghost use Rattle.hub_core.specs.Holders.{HoldsOf};
 ghost use Rattle.hub_core.specs.Hubs.{hub_state, settings_of, sitting_of, with_sitting};
 ghost use Rattle.hub_core.specs.HubCalls.{HasTurn, Does};
 ghost use Rattle.node_model.specs.Calls.{File_call};
 ghost use Rattle.node_model.specs.Desks.{file_answer};
 ghost use Rattle.hub_core.specs.Steps.{Leaves, StaysSettled, RefusedBy, OneOf, OneMade, MayAnswer, MayBeMade, Answered, CallsStore, FindsNone, answered_state, OpensFull, TakesUp, NotesMissed, mark_len, is_file, places_from};
 
+use crate::hold_index::HoldIndex;
 use crate::parts::{end_held, open_part, places_of, receive_marked, refusal, refuse_file};
 use crate::places::{HubConf, Open, Seats, Taken};
 use crate::{DeskFault, FileIn};
-use ftn_addr::FileKey;
+use ftn_addr::{FileKey, NoMemory};
 use node_model::{Store, StoreFault};
 use std::alloc::Global;
 
@@ -134,6 +136,7 @@ pub fn answer<S: Store>(
 pub fn offer_file<S: Store>(
     store: &mut S,
     seats: &Seats,
+    holds: &mut HoldIndex,
     seat: u32,
     alloc: Global,
     session: &mut Open,
@@ -142,16 +145,25 @@ pub fn offer_file<S: Store>(
 ) -> Result<FileIn, DeskFault>
     requires turn { HasTurn (S.stand store.old) (with_sitting seat (Some (sitting_of session.old)) (hub_state seats.now)) seat }
     requires limits { IsKey (key_of key.now) }
-    ensures { Does (S.stand store.old) (with_sitting seat (Some (sitting_of session.old)) (hub_state seats.now)) seat (File_call (key_of key.now) offset) (file_answer result) (S.stand store.new) (with_sitting seat (Some (sitting_of session.new)) (hub_state seats.now)) }
+    requires finds { HoldsOf holds.old (with_sitting seat (Some (sitting_of session.old)) (hub_state seats.now)).chairs }
+    ensures does { Does (S.stand store.old) (with_sitting seat (Some (sitting_of session.old)) (hub_state seats.now)) seat (File_call (key_of key.now) offset) (file_answer result) (S.stand store.new) (with_sitting seat (Some (sitting_of session.new)) (hub_state seats.now)) }
+    ensures finds { HoldsOf holds.new (with_sitting seat (Some (sitting_of session.new)) (hub_state seats.now)).chairs }
 {
     let ended = end_held(store, session);
+    holds.release(session);
     session.hold = None;
     if let Err(fault) = ended {
         return Err(refusal(store, fault));
     }
-    let word = seats.judge(store, seat, session, key, offset);
+    let word = seats.judge(store, holds, seat, session, key, offset);
+    if let Err(NoMemory) = holds.take_up(word, &session.first, key, seat) {
+        return Err(DeskFault::NoMemory);
+    }
     match answer(store, &seats.conf, alloc, session, key, offset, word) {
         Ok(()) => Ok(word),
-        Err(fault) => Err(refusal(store, fault)),
+        Err(fault) => {
+            holds.give_up(word, &session.first, key);
+            Err(refusal(store, fault))
+        }
     }
 }

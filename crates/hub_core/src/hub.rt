@@ -1,9 +1,14 @@
 //! A hub: the seats of a node over its store.
 ghost use Rattle.std.specs.Prelude.{◌≡◌, ◌<◌, ◌≤◌, length, map, Some, None, option_map, false, true};
+ghost use Rattle.hub_core.specs.Hubs.{hub_state};
+ghost use Rattle.hub_core.specs.Holders.{HoldsOf};
+ghost use Rattle.hub_core.specs.Indices.{ClaimsOf};
 
 mod opening;
 
+use crate::claim_index::ClaimIndex;
 use crate::files::offer_file;
+use crate::hold_index::HoldIndex;
 use crate::parts::{end_session, refusal, refuse_number, take_turn};
 use crate::places::{Open, Seats};
 use crate::taking::take_data;
@@ -17,6 +22,12 @@ use std::alloc::Global;
 pub struct Hub<S: Store> {
     pub(crate) store: S,
     pub(crate) seats: Seats,
+    /// The seat that has claimed an entry, by its number.
+    pub(crate) claims: ClaimIndex,
+    /// The seat whose session holds a file of a sender.
+    pub(crate) holds: HoldIndex,
+    ghost claimed: { ClaimsOf claims (hub_state seats).chairs },
+    ghost held: { HoldsOf holds (hub_state seats).chairs },
 }
 
 /// The desk of one seat of a hub, which it has while that seat's session makes its calls.
@@ -29,7 +40,7 @@ pub struct HubDesk<S: Store> {
 }
 
 impl<S: Store> Hub<S> {
-    ghost use Rattle.hub_core.specs.Hubs.{hub_state, seat_part};
+    ghost use Rattle.hub_core.specs.Hubs.{seat_part};
     ghost use Rattle.hub_core.specs.HubCalls.{HasTurn, Does};
     ghost use Rattle.node_model.specs.Desks.{DataExact, Fits, begin_answer, data_answer, file_answer, knock_answer, settled_answer};
     ghost use Rattle.node_model.specs.Calls.{Data_call, File_call, Knock_call, Open_call, Leave_call};
@@ -97,6 +108,7 @@ impl<S: Store> Hub<S> {
         let result = offer_file(
             &mut self.store,
             &self.seats,
+            &mut self.holds,
             seat,
             alloc,
             &mut session,
@@ -116,7 +128,14 @@ impl<S: Store> Hub<S> {
         let Some(mut session) = self.seats.take_session(seat) else {
             unreachable!()
         };
-        let result = take_data(&mut self.store, &self.seats, seat, &mut session, bytes);
+        let result = take_data(
+            &mut self.store,
+            &self.seats,
+            &mut self.holds,
+            seat,
+            &mut session,
+            bytes,
+        );
         self.seats.put_session(seat, Some(session));
         result
     }
@@ -129,7 +148,11 @@ impl<S: Store> Hub<S> {
             return Ok(());
         };
         match end_session(&mut self.store, &session) {
-            Ok(()) => Ok(()),
+            Ok(()) => {
+                self.claims.remove(session.claimed());
+                self.holds.release(&session);
+                Ok(())
+            }
             Err(fault) => {
                 self.seats.put_session(seat, Some(session));
                 Err(refusal(&self.store, fault))
@@ -139,7 +162,7 @@ impl<S: Store> Hub<S> {
 }
 
 impl<S: Store> Desk for HubDesk<S> {
-    ghost use Rattle.hub_core.specs.Hubs.{IsReady, hub_state, hub_stand, seat_part};
+    ghost use Rattle.hub_core.specs.Hubs.{IsReady, hub_stand, seat_part};
     ghost use Rattle.hub_core.specs.HubCalls.{OwnCall};
     ghost use Rattle.hub_core.specs.HubLaws.{seat_tied};
 

@@ -6,13 +6,15 @@ ghost use Rattle.ftn_addr.specs.Key.{key_of, same_key};
 ghost use Rattle.node_model.specs.Rows.{Applies, ends_with, is_answering, name_refused as is_name_refused, refuses as is_refused, reason as reason_of};
 ghost use Rattle.node_model.specs.Stocks.{known_in};
 ghost use Rattle.node_model.specs.Stores.{Stored};
-ghost use Rattle.hub_core.specs.Hubs.{Sitting, chair_of, sitting_of, hub_state, settings_of, node_with, session_over};
-ghost use Rattle.hub_core.specs.Steps.{HeldBy, chair_holds, place_answers, Judged, is_new, was_missed, mark_len, sitting_holds, sits_on, word_of};
+ghost use Rattle.hub_core.specs.Holders.{HoldsOf, holder, takes};
+ghost use Rattle.hub_core.specs.Hubs.{Sitting, sitting_of, hub_state, settings_of, node_with, session_over, with_sitting};
+ghost use Rattle.hub_core.specs.Steps.{HeldBy, place_answers, Judged, is_new, was_missed, mark_len, word_of};
 
 use crate::FileIn;
+use crate::hold_index::HoldIndex;
 use crate::parts::marked_len;
-use crate::places::{HubConf, Open, Place, Seats, Taken};
-use ftn_addr::{Addr, Bytes, FileKey, is_same_address, is_same_key, is_same_word};
+use crate::places::{HubConf, Open, Place, Seats};
+use ftn_addr::{Addr, Bytes, FileKey, is_same_key, is_same_word};
 use node_model::{Known, Role, Store};
 
 // Whether a name ends so, ASCII case ignored.
@@ -65,20 +67,6 @@ impl Place {
             None => false,
         }
     }
-
-    // Whether its session holds that file of that sender.
-    fn is_holding(&self, from: &Addr, key: &FileKey) -> bool
-        ensures { result ≡ chair_holds (address from.now) (key_of key.now) (chair_of self.now) }
-    {
-        match &self.session {
-            Some(session) => match &session.hold {
-                Some(taken) => is_same_address(from, &session.first)
-                    && is_same_key(key, &taken.key),
-                None => false,
-            },
-            None => false,
-        }
-    }
 }
 
 // How many answering sessions are open.
@@ -92,19 +80,6 @@ pub fn answering(places: &[Place]) -> usize
         }
     }
     count
-}
-
-// Whether another seat's session holds that file of that sender.
-fn is_held_elsewhere(places: &[Place], seat: u32, from: &Addr, key: &FileKey) -> bool
-    ensures held { result ≡ true → HeldBy (map chair_of places.now) seat (address from.now) (key_of key.now) }
-    ensures free { result ≡ false → HeldBy (map chair_of places.now) seat (address from.now) (key_of key.now) → ⊥ }
-{
-    for (other, place) in places.iter().enumerate() {
-        if other != seat as usize && place.is_holding(from, key) {
-            return true;
-        }
-    }
-    false
 }
 
 fn has_missed(missed: &[FileKey], key: &FileKey) -> bool
@@ -134,16 +109,33 @@ impl Open {
 }
 
 impl Seats {
-    /// What is answered to a file that the session of a seat is offered from that place, while it holds nothing.
+    // Whether another seat's session holds that file of the sender of a session that is out of its seat.
+    fn is_held_elsewhere(&self, holds: &HoldIndex, seat: u32, session: &Open, key: &FileKey) -> bool
+        requires unheld { (sitting_of session.now).hold ≡ None }
+        requires finds { HoldsOf holds.now (with_sitting seat (Some (sitting_of session.now)) (hub_state self.now)).chairs }
+        ensures held { result ≡ true → HeldBy (hub_state self.now).chairs seat (sitting_of session.now).first (key_of key.now) }
+        ensures free { result ≡ false → HeldBy (hub_state self.now).chairs seat (sitting_of session.now).first (key_of key.now) → ⊥ }
+        ensures none { result ≡ false → holder holds.now (sitting_of session.now).first (key_of key.now) ≡ None }
+    {
+        let _seat = seat;
+        holds.has(&session.first, key)
+    }
+
+    /// What is answered to a file that the session of a seat, which is out of it, is offered from that place, while it
+    /// holds nothing.
     pub fn judge<S: Store>(
         &self,
         store: &S,
+        holds: &HoldIndex,
         seat: u32,
         session: &Open,
         key: &FileKey,
         offset: u64,
     ) -> FileIn
-        ensures { Judged seat (sitting_of session.now) (key_of key.now) offset result (S.stand store.now).state (hub_state self.now) }
+        requires unheld { (sitting_of session.now).hold ≡ None }
+        requires finds { HoldsOf holds.now (with_sitting seat (Some (sitting_of session.now)) (hub_state self.now)).chairs }
+        ensures judged { Judged seat (sitting_of session.now) (key_of key.now) offset result (S.stand store.now).state (hub_state self.now) }
+        ensures none { takes result ≡ true → holder holds.now (sitting_of session.now).first (key_of key.now) ≡ None }
     {
         if !is_unknown(store, &session.first, key) {
             return FileIn::Have;
@@ -151,7 +143,7 @@ impl Seats {
         if self.conf.is_refused(key) {
             return FileIn::Refuse;
         }
-        if is_held_elsewhere(&self.places, seat, &session.first, key) {
+        if self.is_held_elsewhere(holds, seat, session, key) {
             return FileIn::Elsewhere;
         }
         let have = marked_len(store, &session.first, key);

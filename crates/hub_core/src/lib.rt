@@ -20,7 +20,9 @@
 //! Left out: taking files in, acting on their sources, giving received files, and lending the store.
 #![tactic(auto)]
 
+mod claim_index;
 mod files;
+mod hold_index;
 mod hub;
 mod judging;
 mod offering;

@@ -1,14 +1,16 @@
 //! What a hub does with the entry that a session claims: it is offered, read, settled or skipped.
-ghost use Rattle.std.specs.Prelude.{◌≡◌, ◌≢◌, ◌<◌, ◌-◌, ◌∷◌, [], min, take, map, length, IfOk, IfErr, OnErr, OnOk, IsSome, Some, None, option_map};
+ghost use Rattle.std.specs.Prelude.{◌≡◌, ◌≢◌, ◌<◌, ◌-◌, ◌∷◌, [], ℕ, List, cond, min, take, length, IfOk, IfErr, IfSome, OnErr, OnOk, IsSome, Some, None, option_map};
 ghost use Rattle.ftn_addr.specs.Key.{key_of};
 ghost use Rattle.ftn_addr.specs.Limits.{IsKey};
 ghost use Rattle.node_model.specs.StoreWords.{HasEntry, KeyOf, size_of_entry};
 ghost use Rattle.node_model.specs.Stores.{IsLive, settled};
-ghost use Rattle.hub_core.specs.Hubs.{chair_of, hub_state, sitting_of};
+ghost use Rattle.hub_core.specs.Hubs.{Chair, hub_state, sitting_of};
+ghost use Rattle.hub_core.specs.Indices.{Claims, ClaimsOf, claimer, is_just};
 ghost use Rattle.hub_core.specs.Steps.{Leaves, StaysSettled, BrokeBy, RefusedBy, OneOf, given_back, loses_none};
 ghost use Rattle.hub_core.specs.Sending.{NextOf, Offers as IsOffer, OffersFull, ReadRefused, ReadsBytes, claimed_sitting, unclaimed_sitting, claimed_at, claim_number, number_of, skipped_sitting, read_once_more};
 
-use crate::places::{Claimed, Open, Place, Seats};
+use crate::claim_index::ClaimIndex;
+use crate::places::{Claimed, Open, Seats};
 use crate::seats::one_more;
 use crate::sending::next_for;
 use crate::{DeskFault, Offer};
@@ -18,15 +20,17 @@ use std::alloc::Global;
 
 impl Open {
     // The first entry for its peer that no session has claimed and this one hasn't skipped.
-    fn next<S: Store>(&self, store: &S, places: &[Place]) -> Option<LivePlace>
-        ensures { NextOf (map chair_of places.now) (sitting_of self.now) (S.stand store.now).state result }
+    fn next<S: Store>(&self, store: &S, claims: &ClaimIndex) -> Option<LivePlace>
+        ensures next { (chairs : List Chair) → ClaimsOf claims.now chairs → NextOf chairs (sitting_of self.now) (S.stand store.now).state result }
+        ensures queued { IfSome result (λ at. HasEntry at.1 (S.stand store.now).state.stock.state.queue) }
+        ensures free { IfSome result (λ at. claimer claims.now at.1 ≡ None) }
     {
         let offers = &self.offers;
-        next_for(store, places, &offers.skipped, &self.first, &self.others)
+        next_for(store, claims, &offers.skipped, &self.first, &self.others)
     }
 
-    // The number of the entry that it has claimed.
-    fn claimed(&self) -> Option<u32>
+    /// The number of the entry that it has claimed.
+    pub fn claimed(&self) -> Option<u32>
         ensures { result ≡ option_map number_of (sitting_of self.now).claim }
     {
         match &self.offers.claim {
@@ -51,11 +55,13 @@ impl Open {
         }
     }
 
-    // Claims an entry, with room for the note of a skip, and copies its key.
+    // Claims an entry for a seat, with room for the note of a skip, and copies its key.
     fn claim<S: Store>(
         &mut self,
         store: &S,
         alloc: Global,
+        claims: &mut ClaimIndex,
+        seat: u32,
         number: u32,
     ) -> Result<FileKey, NoMemory>
         requires { HasEntry number (S.stand store.now).state.stock.state.queue }
@@ -63,38 +69,45 @@ impl Open {
         ensures limits { IfOk result (λ key. IsKey (key_of key)) }
         ensures claimed { IfOk result (λ key. sitting_of self.new ≡ claimed_sitting number (key_of key) (sitting_of self.old)) }
         ensures kept { OnErr result (sitting_of self.new ≡ sitting_of self.old) }
+        ensures noted { OnOk result ((n : ℕ) → claimer claims.new n ≡ cond (is_just n (Some number)) (Some seat) (claimer claims.old n)) }
+        ensures unnoted { OnErr result ((n : ℕ) → claimer claims.new n ≡ claimer claims.old n) }
     {
         let key = store.key_of(number);
         let offered = key.copy(alloc)?;
         let noted = key.copy(alloc)?;
         self.offers.skipped.reserve(1)?;
+        claims.note(number, seat)?;
         self.offers.claim = Some(Claimed { number, key: noted });
         Ok(offered)
     }
 }
 
-/// Claims the next entry for a session that has claimed none, under a place of its own. A refusal leaves no place reserved.
+/// Claims the next entry for the session of a seat, which has claimed none, under a place of its own. A refusal leaves
+/// no place reserved.
 pub fn claim_next<S: Store>(
     store: &mut S,
     alloc: Global,
-    places: &[Place],
+    claims: &mut ClaimIndex,
+    seat: u32,
     session: &mut Open,
 ) -> Result<Offer, StoreFault>
     requires { (S.stand store.old).state.counts.broken ≡ None }
-    ensures ok { IfOk result (λ offer. IsOffer (map chair_of places.now) (sitting_of session.old) offer (S.stand store.old).state (S.stand store.new).state (sitting_of session.new)) }
-    ensures err { IfErr result (λ fault. RefusedBy (OneOf ((S.stand store.old).state.content ∷ [])) loses_none (OffersFull (map chair_of places.now) (sitting_of session.old) (S.stand store.old).state) fault (S.stand store.old).state (S.stand store.new).state) }
+    ensures ok { (chairs : List Chair) → ClaimsOf claims.old chairs → IfOk result (λ offer. IsOffer chairs (sitting_of session.old) offer (S.stand store.old).state (S.stand store.new).state (sitting_of session.new)) }
+    ensures err { (chairs : List Chair) → ClaimsOf claims.old chairs → IfErr result (λ fault. RefusedBy (OneOf ((S.stand store.old).state.content ∷ [])) loses_none (OffersFull chairs (sitting_of session.old) (S.stand store.old).state) fault (S.stand store.old).state (S.stand store.new).state) }
     ensures kept { OnErr result (sitting_of session.new ≡ sitting_of session.old) }
+    ensures claims { IfOk result (λ offer. Claims seat offer claims.old claims.new) }
+    ensures unnoted { OnErr result ((n : ℕ) → claimer claims.new n ≡ claimer claims.old n) }
     ensures leaves { Leaves (OneOf ((S.stand store.old).state.content ∷ [])) (S.stand store.old) (S.stand store.new) }
     ensures settled { StaysSettled (S.stand store.old) (S.stand store.new) }
 {
-    let Some(next) = session.next(store, places) else {
+    let Some(next) = session.next(store, claims) else {
         return Ok(Offer::Nothing);
     };
     match store.reserve(1) {
         Ok(()) => {}
         Err(fault) => return Err(fault),
     }
-    match session.claim(store, alloc, next.1) {
+    match session.claim(store, alloc, claims, seat, next.1) {
         Ok(key) => Ok(Offer::File(next.1, key)),
         Err(NoMemory) => {
             store.release(1);
@@ -127,7 +140,11 @@ impl Seats {
 }
 
 /// Settles the entry that a session has claimed, whose place the record uses. It takes no memory.
-pub fn settle_claim<S: Store>(store: &mut S, session: &mut Open) -> Result<(), StoreFault>
+pub fn settle_claim<S: Store>(
+    store: &mut S,
+    claims: &mut ClaimIndex,
+    session: &mut Open,
+) -> Result<(), StoreFault>
     requires whole { (S.stand store.old).state.counts.broken ≡ None }
     requires claimed { IsSome (sitting_of session.old).claim }
     requires live { IsLive (claim_number (sitting_of session.old).claim) (S.stand store.old).state }
@@ -137,6 +154,8 @@ pub fn settle_claim<S: Store>(store: &mut S, session: &mut Open) -> Result<(), S
     ensures unclaimed { OnOk result (sitting_of session.new ≡ unclaimed_sitting (sitting_of session.old)) }
     ensures err { IfErr result (λ fault. BrokeBy (OneOf ((S.stand store.old).state.content ∷ (settled (claim_number (sitting_of session.old).claim) session.old.number (S.stand store.old).state).content ∷ [])) loses_none fault (S.stand store.old).state (S.stand store.new).state) }
     ensures kept { OnErr result (sitting_of session.new ≡ sitting_of session.old) }
+    ensures removed { OnOk result ((n : ℕ) → claimer claims.new n ≡ cond (is_just n (option_map number_of (sitting_of session.old).claim)) None (claimer claims.old n)) }
+    ensures unremoved { OnErr result ((n : ℕ) → claimer claims.new n ≡ claimer claims.old n) }
     ensures leaves { Leaves (OneOf ((S.stand store.old).state.content ∷ (settled (claim_number (sitting_of session.old).claim) session.old.number (S.stand store.old).state).content ∷ [])) (S.stand store.old) (S.stand store.new) }
     ensures settled { StaysSettled (S.stand store.old) (S.stand store.new) }
 {
@@ -145,6 +164,7 @@ pub fn settle_claim<S: Store>(store: &mut S, session: &mut Open) -> Result<(), S
     };
     match store.done(number, session.number) {
         Ok(()) => {
+            claims.remove(Some(number));
             session.offers.claim = None;
             Ok(())
         }

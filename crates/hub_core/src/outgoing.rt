@@ -26,7 +26,7 @@ impl<S: Store> Hub<S> {
         let Some(mut session) = self.seats.take_session(seat) else {
             unreachable!();
         };
-        let claimed = claim_next(&mut self.store, alloc, &self.seats.places, &mut session);
+        let claimed = claim_next(&mut self.store, alloc, &mut self.claims, seat, &mut session);
         self.seats.put_session(seat, Some(session));
         match claimed {
             Ok(offer) => Ok(offer),
@@ -65,7 +65,7 @@ impl<S: Store> Hub<S> {
         let Some(mut session) = self.seats.take_session(seat) else {
             unreachable!();
         };
-        let settled = settle_claim(&mut self.store, &mut session);
+        let settled = settle_claim(&mut self.store, &mut self.claims, &mut session);
         self.seats.put_session(seat, Some(session));
         match settled {
             Ok(()) => Ok(()),
@@ -84,6 +84,7 @@ impl<S: Store> Hub<S> {
         let Some(mut session) = self.seats.take_session(seat) else {
             unreachable!();
         };
+        self.claims.remove(session.claimed());
         session.skip();
         self.seats.put_session(seat, Some(session));
         match self.store.broken() {

@@ -2,10 +2,10 @@
 ghost use Rattle.std.specs.Prelude.{◌≡◌, ◌∷◌, [], true, false, map};
 ghost use Rattle.ftn_addr.specs.Address.{address};
 ghost use Rattle.node_model.specs.SendRows.{rank};
-ghost use Rattle.hub_core.specs.Hubs.{chair_of};
-ghost use Rattle.hub_core.specs.Sending.{ClaimedBy, Comes, EarlierOf, KeptBack, NextFree, chair_claims, is_skipped as was_skipped};
+ghost use Rattle.hub_core.specs.Indices.{KeptFrom};
+ghost use Rattle.hub_core.specs.Sending.{Comes, EarlierOf, NextFree, is_skipped as was_skipped};
 
-use crate::places::Place;
+use crate::claim_index::ClaimIndex;
 use ftn_addr::Addr;
 use node_model::{Flavour, LivePlace, Store};
 
@@ -42,34 +42,6 @@ fn earlier(a: Option<LivePlace>, b: Option<LivePlace>) -> Option<LivePlace>
     }
 }
 
-impl Place {
-    // Whether its session has claimed that entry.
-    fn is_claiming(&self, number: u32) -> bool
-        ensures { result ≡ chair_claims number (chair_of self.now) }
-    {
-        match &self.session {
-            Some(session) => match &session.offers.claim {
-                Some(claim) => claim.number == number,
-                None => false,
-            },
-            None => false,
-        }
-    }
-}
-
-// Whether a seat's session has claimed that entry.
-fn is_claimed(places: &[Place], number: u32) -> bool
-    ensures claimed { result ≡ true → ClaimedBy (map chair_of places.now) number }
-    ensures free { result ≡ false → ClaimedBy (map chair_of places.now) number → ⊥ }
-{
-    for (seat, place) in places.iter().enumerate() {
-        if place.is_claiming(number) {
-            return true;
-        }
-    }
-    false
-}
-
 fn is_skipped(skipped: &[u32], number: u32) -> bool
     ensures { result ≡ was_skipped skipped.now number }
 {
@@ -77,25 +49,25 @@ fn is_skipped(skipped: &[u32], number: u32) -> bool
 }
 
 // Whether an entry is claimed by a seat's session, or skipped.
-fn is_kept_back(places: &[Place], skipped: &[u32], number: u32) -> bool
-    ensures back { result ≡ true → KeptBack (map chair_of places.now) skipped.now number }
-    ensures free { result ≡ false → KeptBack (map chair_of places.now) skipped.now number → ⊥ }
+fn is_kept_back(claims: &ClaimIndex, skipped: &[u32], number: u32) -> bool
+    ensures back { result ≡ true → KeptFrom claims.now skipped.now number }
+    ensures free { result ≡ false → KeptFrom claims.now skipped.now number → ⊥ }
 {
-    is_claimed(places, number) || is_skipped(skipped, number)
+    claims.has(number) || is_skipped(skipped, number)
 }
 
 // The first live entry for an address that isn't kept back. It takes no memory.
 fn next_free<S: Store>(
     store: &S,
-    places: &[Place],
+    claims: &ClaimIndex,
     skipped: &[u32],
     dest: &Addr,
 ) -> Option<LivePlace>
-    ensures { NextFree (address dest.now ∷ []) (KeptBack (map chair_of places.now) skipped.now) (S.stand store.now).state.stock.state.queue result }
+    ensures { NextFree (address dest.now ∷ []) (KeptFrom claims.now skipped.now) (S.stand store.now).state.stock.state.queue result }
 {
     let mut at = store.next_live(dest, None);
     while let Some(place) = at {
-        if !is_kept_back(places, skipped, place.1) {
+        if !is_kept_back(claims, skipped, place.1) {
             return Some(place);
         }
         at = store.next_live(dest, Some(place));
@@ -107,16 +79,16 @@ fn next_free<S: Store>(
 /// It takes no memory.
 pub fn next_for<S: Store>(
     store: &S,
-    places: &[Place],
+    claims: &ClaimIndex,
     skipped: &[u32],
     first: &Addr,
     others: &[Addr],
 ) -> Option<LivePlace>
-    ensures { NextFree (address first.now ∷ map address others.now) (KeptBack (map chair_of places.now) skipped.now) (S.stand store.now).state.stock.state.queue result }
+    ensures { NextFree (address first.now ∷ map address others.now) (KeptFrom claims.now skipped.now) (S.stand store.now).state.stock.state.queue result }
 {
-    let mut least = next_free(store, places, skipped, first);
+    let mut least = next_free(store, claims, skipped, first);
     for peer in others {
-        least = earlier(least, next_free(store, places, skipped, peer));
+        least = earlier(least, next_free(store, claims, skipped, peer));
     }
     least
 }

@@ -7,6 +7,8 @@ ghost use Rattle.hub_core.specs.Opening.{IsWhole, no_seats, shown, with_seat};
 
 use super::Hub;
 use crate::HubConf;
+use crate::claim_index::ClaimIndex;
+use crate::hold_index::HoldIndex;
 use crate::places::{Place, Seats};
 use ftn_addr::{Addr, NoMemory};
 use node_model::Store;
@@ -44,6 +46,8 @@ impl<S: Store> Hub<S> {
                 places: Vec::new(alloc),
                 begun: 0,
             },
+            claims: ClaimIndex::new(alloc),
+            holds: HoldIndex::new(alloc),
         }
     }
 
@@ -75,7 +79,12 @@ impl<S: Store> Hub<S> {
         ensures store { result ≡ self.store }
         ensures whole { (seat : ℕ) → IsReady (S.stand self.store) (hub_state self.seats) seat → (settings : Settings) → IsWhole (S.stand result) (no_seats settings) }
     {
-        let Hub { store, seats: _ } = self;
+        let Hub {
+            store,
+            seats: _,
+            claims: _,
+            holds: _,
+        } = self;
         store
     }
 }

@@ -1,15 +1,15 @@
 use Rattle.std.proofs.Common.{List, ◌∷◌, ◌++◌, [], map, take, ◌∙◌, sym, subst, ap}
 use Rattle.std.proofs.lemmas.List.{map_more}
 use Rattle.ftn_addr.specs.Address.{Address, address}
-use Rattle.hub_core.specs.Hubs.{chair_of}
-use Rattle.hub_core.specs.Sending.{KeptBack, NextFree}
+use Rattle.hub_core.specs.Indices.{KeptFrom}
+use Rattle.hub_core.specs.Sending.{NextFree}
 use Rattle.hub_core.proofs.Walking.{join_free}
 use Rattle.hub_core.proofs.sending.next_for.Goals as goal
 
 pub loop-peer-preserved : goal.loop-peer-preserved
 loop-peer-preserved g c =
     let queue = (g.S.Store.stand c.args.store.now).state.stock.state.queue in
-    let back = KeptBack (map chair_of c.args.places.now) c.args.skipped.now in
+    let back = KeptFrom c.args.claims.now c.args.skipped.now in
     let others = c.args.others.now in
     let peer = c.peer-item.result in
     let first = address c.args.first.now in

@@ -1,12 +1,10 @@
-use Rattle.std.proofs.Common.{map}
 use Rattle.ftn_addr.specs.Address.{address}
-use Rattle.hub_core.specs.Hubs.{chair_of}
-use Rattle.hub_core.specs.Sending.{KeptBack}
 use Rattle.hub_core.proofs.Walking.{Walks, still_behind}
+use Rattle.hub_core.specs.Indices.{KeptFrom}
 use Rattle.hub_core.proofs.sending.next_free.Given as goal
 
 abbrev pub invariant-loop-at : goal.invariant-loop-at
-invariant-loop-at g l = Walks (address l.dest) (KeptBack (map chair_of l.places) l.skipped) (g.S.Store.stand l.store).state.stock.state.queue l.at
+invariant-loop-at g l = Walks (address l.dest) (KeptFrom l.claims l.skipped) (g.S.Store.stand l.store).state.stock.state.queue l.at
 
 abbrev pub decreases-loop-at : goal.decreases-loop-at
 decreases-loop-at g l = still_behind l.at (g.S.Store.stand l.store).state.stock.state.queue

@@ -1,4 +1,4 @@
-use Rattle.std.proofs.Common.{◌≡◌, ◌+◌, ◌-◌, ◌<◌, ℕ, Bool, Option, Some, true, false, length, option_map, refl, sym, ◌∙◌, ap, subst, arith}
+use Rattle.std.proofs.Common.{◌≡◌, cond, None, ◌+◌, ◌-◌, ◌<◌, ℕ, Bool, Option, Some, true, false, length, option_map, refl, sym, ◌∙◌, ap, subst, arith}
 use Rattle.node_model.specs.Calls.{Data_call, Refused, Fault}
 use Rattle.hub_core.specs.Hubs.{Sitting, Taking, hub_state, sitting_of, taking_of, with_sitting}
 use Rattle.node_model.specs.Desks.{fault_of}
@@ -9,6 +9,9 @@ use Rattle.hub_core.proofs.DataNeeds.{data_holds, fits_taking, more_exact, whole
 use Rattle.hub_core.proofs.FileNeeds.{turn_number}
 use Rattle.hub_core.proofs.LastDoes.{last_does, last_broken}
 use Rattle.hub_core.proofs.MoreDoes.{more_does, more_broken}
+use Rattle.hub_core.specs.Holders.{holder}
+use Rattle.hub_core.specs.Steps.{sits_on}
+use Rattle.hub_core.proofs.HoldSteps.{alike_here, released_here}
 use Rattle.hub_core.proofs.taking.take_data.Goals as goal
 
 pub overflow_sub-left : goal.overflow_sub-left
@@ -130,3 +133,49 @@ returns-in-Ok-put_last-clause-exact g c =
     let holds = ap (option_map taking_of) c.in-Some.is in
     let fits = (fits_taking x t (length c.args.bytes.now) holds c.requires.fits).fits in
     whole_exact x t (length c.args.bytes.now) holds (omega (arith, fits, c.if-came-left.false))
+
+pub returns-then-reached-clause-finds : goal.returns-then-reached-clause-finds
+returns-then-reached-clause-finds g c =
+    let k = hub_state c.args.seats.now in
+    let x = sitting_of c.args.session.now in
+    let t = taking_of c.in-Some.taken in
+    let holds = ap (option_map taking_of) c.in-Some.is in
+    let index = c.args.holds.now in
+    alike_here index index k c.args.seat x (record x { hold = Some (record t { have = t.have + length c.args.bytes.now; places = t.places - 1 }) }) c.requires.finds (λ a f. refl) (λ a f. ap (λ (o : Option Taking). sits_on a f x.first o) (sym holds))
+
+pub returns-else-reached-clause-finds : goal.returns-else-reached-clause-finds
+returns-else-reached-clause-finds g c =
+    let k = hub_state c.args.seats.now in
+    let x = sitting_of c.args.session.now in
+    let t = taking_of c.in-Some.taken in
+    let holds = ap (option_map taking_of) c.in-Some.is in
+    let index = c.args.holds.now in
+    alike_here index index k c.args.seat x (record x { hold = Some (record t { have = t.have + length c.args.bytes.now }) }) c.requires.finds (λ a f. refl) (λ a f. ap (λ (o : Option Taking). sits_on a f x.first o) (sym holds))
+
+pub returns-in-Err-clause-finds : goal.returns-in-Err-clause-finds
+returns-in-Err-clause-finds g c =
+    let k = hub_state c.args.seats.now in
+    let x = sitting_of c.args.session.now in
+    let t = taking_of c.in-Some.taken in
+    let holds = ap (option_map taking_of) c.in-Some.is in
+    let index = c.args.holds.now in
+    alike_here index index k c.args.seat x (record x { hold = Some t }) c.requires.finds (λ a f. refl) (λ a f. ap (λ (o : Option Taking). sits_on a f x.first o) (sym holds))
+
+pub returns-in-Err-put_last-clause-finds : goal.returns-in-Err-put_last-clause-finds
+returns-in-Err-put_last-clause-finds g c =
+    let k = hub_state c.args.seats.now in
+    let x = sitting_of c.args.session.now in
+    let t = taking_of c.in-Some.taken in
+    let holds = ap (option_map taking_of) c.in-Some.is in
+    let index = c.args.holds.now in
+    alike_here index index k c.args.seat x (record x { hold = Some t }) c.requires.finds (λ a f. refl) (λ a f. ap (λ (o : Option Taking). sits_on a f x.first o) (sym holds))
+
+pub returns-in-Ok-put_last-clause-finds : goal.returns-in-Ok-put_last-clause-finds
+returns-in-Ok-put_last-clause-finds g c =
+    let k = hub_state c.args.seats.now in
+    let x = sitting_of c.args.session.now in
+    let t = taking_of c.in-Some.taken in
+    let holds = ap (option_map taking_of) c.in-Some.is in
+    let index = c.args.holds.now in
+    released_here index c.release.new.self k c.args.seat x (unheld_sitting x) c.requires.finds
+    (λ a f. c.release.ensures a f ∙ ap (λ (o : Option Taking). cond (sits_on a f x.first o) None (holder index a f)) (sym holds)) refl

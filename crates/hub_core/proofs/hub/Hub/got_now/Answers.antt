@@ -9,6 +9,11 @@ use Rattle.hub_core.specs.Steps.{Leaves, OneOf, BrokeBy, loses_none, fault_in}
 use Rattle.hub_core.proofs.GotSteps.{got_does, got_refused, place_now, number_now}
 use Rattle.hub_core.proofs.ReadSteps.{part_claims, live_now}
 use Rattle.hub_core.proofs.Sittings.{given_still}
+use Rattle.hub_core.specs.Indices.{ClaimsOf}
+use Rattle.hub_core.proofs.Claiming.{settled_finds}
+use Rattle.hub_core.proofs.Sittings.{sit_twice}
+use Rattle.hub_core.specs.Holders.{HoldsOf}
+use Rattle.hub_core.proofs.HoldSteps.{alike_holds, settled_same}
 use Rattle.hub_core.proofs.hub.Hub.got_now.Goals as goal
 
 pub settle_claim-settled-requires-clause-live : goal.settle_claim-settled-requires-clause-live
@@ -69,3 +74,18 @@ returns-in-Err g c =
     subst (λ (f : Fault). Does v h c.args.seat (Got_call (number_in (Rattle.hub_core.specs.Hubs.seat_part h c.args.seat).claim)) (Refused f) w k) (sym c.refusal.ensures)
     (subst (λ (n : ℕ). Does v h c.args.seat (Got_call n) (Refused (fault_in c.in-Err.fault w.state.counts.faults)) w k) (sym (ap number_in c.requires.claimed.is))
     (got_refused v w h k c.args.seat x y claim c.in-Err.fault c.requires.turn sits claimed (c.put_session.ensures ∙ ap (with_sitting c.args.seat (Some y)) c.take_session.ensures.after) c.in-Err.ensures.kept broke leaves))
+
+pub invariant_of-self : goal.invariant_of-self
+invariant_of-self g c =
+    let h = hub_state c.args.self.now.seats in
+    let x = sitting_of c.in-Some.session in
+    let y = sitting_of c.settle_claim-settled.new.session in
+    let new = c.settle_claim-settled.new.claims in
+    let settled = c.settle_claim-settled.ensures in
+    let put = c.put_session.ensures ∙ (ap (with_sitting c.args.seat (Some y)) c.take_session.ensures.after ∙ sit_twice h c.args.seat (Some y) None) in
+    let same = settled_same c.settle_claim-settled.result x y settled.unclaimed settled.kept in
+    record {
+      claimed = subst (λ (k : HubState). ClaimsOf new k.chairs) (sym put)
+          (settled_finds c.settle_claim-settled.result c.args.self.now.claims new h c.args.seat x y c.args.self.now.claimed (sym c.in-Some.ensures.session) settled.unclaimed settled.removed settled.kept settled.unremoved);
+      held = subst (λ (k : HubState). HoldsOf c.args.self.now.holds k.chairs) (sym put) (alike_holds c.args.self.now.holds h c.args.seat x y c.args.self.now.held (sym c.in-Some.ensures.session) same.0 same.1);
+    }

@@ -1,13 +1,17 @@
-use Rattle.std.proofs.Common.{◌-◌, ℕ, length, min, take, sym, ◌∙◌, ap, subst}
+use Rattle.std.proofs.Common.{◌-◌, ℕ, length, min, take, refl, sym, ◌∙◌, ap, subst}
 use Rattle.node_model.specs.Calls.{Read_call, Refused, Read, Disk}
 use Rattle.node_model.specs.StoreWords.{size_of_entry}
 use Rattle.node_model.specs.Stores.{IsLive}
 use Rattle.hub_core.specs.Hubs.{HubState, hub_state}
 use Rattle.hub_core.specs.HubCalls.{Does}
+use Rattle.hub_core.specs.Indices.{ClaimsOf}
+use Rattle.hub_core.proofs.Claiming.{counted_finds}
 use Rattle.node_model.specs.declared.store.StoreFault.{StoreFault}
 use Rattle.node_model.specs.declared.store.StoreFault.TheVariants as D
 use Rattle.hub_core.specs.Sending.{ReadFailed, ReadRefused}
 use Rattle.hub_core.proofs.ReadSteps.{read_does, read_broken, read_failed, claimed_number, live_now, size_now}
+use Rattle.hub_core.specs.Holders.{HoldsOf}
+use Rattle.hub_core.proofs.HoldSteps.{counted_holds}
 use Rattle.hub_core.proofs.hub.Hub.read_now.Goals as goal
 
 pub read_entry-requires-clause-live : goal.read_entry-requires-clause-live
@@ -53,3 +57,8 @@ returns-in-Err-Disk-clause-does g c =
     let broke : ReadRefused D.Disk v.state w.state = subst (λ (f : StoreFault). ReadRefused f v.state w.state) c.in-Err-Disk.field-0-is c.in-Err-Disk.ensures.err in
     subst (λ (n : ℕ). Does v h c.args.seat call (Refused (Disk n)) w h) (sym c.faults-in-Err-Disk.ensures)
     (read_broken v w h c.args.seat c.args.at (length c.args.out.now) c.requires.turn broke c.read_entry.ensures.leaves)
+
+pub invariant_of-self-in-Err-Read : goal.invariant_of-self-in-Err-Read
+invariant_of-self-in-Err-Read g c =
+    let h = hub_state c.args.self.now.seats in
+    record { claimed = subst (λ (k : HubState). ClaimsOf c.args.self.now.claims k.chairs) (sym c.count_read.ensures) (counted_finds c.args.self.now.claims h c.args.seat _ c.args.self.now.claimed refl); held = subst (λ (k : HubState). HoldsOf c.args.self.now.holds k.chairs) (sym c.count_read.ensures) (counted_holds c.args.self.now.holds h c.args.seat _ c.args.self.now.held refl) }

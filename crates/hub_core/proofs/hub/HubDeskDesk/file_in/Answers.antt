@@ -1,11 +1,15 @@
-use Rattle.std.proofs.Common.{refl, sym, ap}
+use Rattle.std.proofs.Common.{refl, sym, ap, subst}
 use Rattle.ftn_addr.specs.Key.{key_of}
 use Rattle.node_model.specs.Calls.{File_call, Refused, Disk}
 use Rattle.node_model.specs.Stores.{StoreState}
 use Rattle.node_model.specs.Desks.{file_answer}
-use Rattle.hub_core.specs.Hubs.{hub_state}
+use Rattle.hub_core.specs.Indices.{ClaimsOf}
+use Rattle.hub_core.proofs.Claiming.{dropped_finds}
+use Rattle.hub_core.specs.Hubs.{HubState, hub_state}
 use Rattle.hub_core.proofs.Dropping.{dropped_does}
 use Rattle.hub_core.proofs.Turning.{kept_turn, turn_ready}
+use Rattle.hub_core.specs.Holders.{HoldsOf}
+use Rattle.hub_core.proofs.HoldSteps.{dropped_holds}
 use Rattle.hub_core.proofs.hub.HubDeskDesk.file_in.Goals as goal
 
 pub returns-in-Some-clause-made : goal.returns-in-Some-clause-made
@@ -46,3 +50,8 @@ file_now-requires-clause-turn g c =
 pub returns-clause-made : goal.returns-clause-made
 returns-clause-made g c =
     kept_turn (g.S.Store.stand c.args.self.now.hub.store) (g.S.Store.stand c.take_turn.new.store) (g.S.Store.stand c.file_now.new.self.store) (hub_state c.args.self.now.hub.seats) (hub_state c.file_now.new.self.seats) c.args.self.now.seat (File_call (key_of c.args.key.now) c.args.offset) (file_answer c.file_now.result) c.take_turn.ensures.made c.take_turn.ensures.leaves c.file_now.ensures
+
+pub invariant_of-self-in-Some : goal.invariant_of-self-in-Some
+invariant_of-self-in-Some g c =
+    let hub = c.args.self.now.hub in
+    record { claimed = subst (λ (k : HubState). ClaimsOf hub.claims k.chairs) (sym c.drop_hold.ensures) (dropped_finds hub.claims (hub_state hub.seats) c.args.self.now.seat hub.claimed); held = subst (λ (k : HubState). HoldsOf hub.holds k.chairs) (sym c.drop_hold.ensures) (dropped_holds hub.holds (hub_state hub.seats) c.args.self.now.seat hub.held) }
