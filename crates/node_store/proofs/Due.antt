@@ -107,8 +107,8 @@ due_more {A} view xs i x given after least new lt is h now =
 
 -- The round.
 
-module _ (c : Contents ℕ) (given : List ℕ) (same : c.given ≡ (λ n. is_among n given)) (inbox : List Receipt) (last : ℕ) where
-  may_is : (r : Receipt) → may_go (receipt_by c r) ≡ is_due given r
+module _ (c : Contents ℕ) (given : List ℕ) (same : c.given ≡ (λ n. is_among n given)) where
+  pub may_is : (r : Receipt) → may_go (receipt_by c r) ≡ is_due given r
   may_is r =
       ap (λ (b : Bool). not (c.given r.number) && (not b || r.answered)) (request_same r.key.name)
       ∙ ap (λ (f : ℕ → Bool). not (f r.number) && is_ready r) same
@@ -120,31 +120,32 @@ module _ (c : Contents ℕ) (given : List ℕ) (same : c.given ≡ (λ n. is_amo
       turned false true = refl
       turned false false = refl
 
+module _ (c : Contents ℕ) (given : List ℕ) (same : c.given ≡ (λ n. is_among n given)) (inbox : List Receipt) (last : ℕ) where
   -- the first behind the last one, else the first of all
   pub round_above : (number : ℕ) → NextDue given inbox (Some last) (Some number) → NextToGive last (map (receipt_by c) inbox) (Some number)
   round_above number h = record {
     receipt = receipt_by c h.receipt;
     there = seen_there (receipt_by c) h.receipt inbox h.there;
     is = h.is;
-    may = may_is h.receipt ∙ h.due;
+    may = may_is c given same h.receipt ∙ h.due;
     least = λ r there may. let s = seen_from (receipt_by c) r inbox there in subst (λ (x : ReceiptOf ℕ). InRound last number x.number) (sym s.2) (go s.0 s.1 (due s.0 r s.2 may) (nat_lt last s.0.number) refl);
   }
     where
       due : (r : Receipt) (x : ReceiptOf ℕ) → x ≡ receipt_by c r → may_go x ≡ true → is_due given r ≡ true
-      due r x is may = sym (may_is r) ∙ (ap (λ (y : ReceiptOf ℕ). may_go y) (sym is) ∙ may)
+      due r x is may = sym (may_is c given same r) ∙ (ap (λ (y : ReceiptOf ℕ). may_go y) (sym is) ∙ may)
 
       go : (r : Receipt) → Member r inbox → is_due given r ≡ true → (b : Bool) → nat_lt last r.number ≡ b → InRound last number r.number
       go r there due true is = let lt = (Decides-ltb last r.number).0 is in inl (h.above, inl (lt, h.least r there due lt))
       go r there due false is = inl (h.above, inr (at_most last r.number is))
 
   pub round_least : (next : Option ℕ) → NextDue given inbox (Some last) None → NextDue given inbox None next → NextToGive last (map (receipt_by c) inbox) next
-  round_least None none h = λ r there may. let s = seen_from (receipt_by c) r inbox there in h s.0 s.1 (sym (may_is s.0) ∙ (ap (λ (y : ReceiptOf ℕ). may_go y) (sym s.2) ∙ may)) tt
+  round_least None none h = λ r there may. let s = seen_from (receipt_by c) r inbox there in h s.0 s.1 (sym (may_is c given same s.0) ∙ (ap (λ (y : ReceiptOf ℕ). may_go y) (sym s.2) ∙ may)) tt
   round_least (Some number) none h = record {
     receipt = receipt_by c h.receipt;
     there = seen_there (receipt_by c) h.receipt inbox h.there;
     is = h.is;
-    may = may_is h.receipt ∙ h.due;
-    least = λ r there may. let s = seen_from (receipt_by c) r inbox there in subst (λ (x : ReceiptOf ℕ). InRound last number x.number) (sym s.2) (go s.0 s.1 (sym (may_is s.0) ∙ (ap (λ (y : ReceiptOf ℕ). may_go y) (sym s.2) ∙ may)));
+    may = may_is c given same h.receipt ∙ h.due;
+    least = λ r there may. let s = seen_from (receipt_by c) r inbox there in subst (λ (x : ReceiptOf ℕ). InRound last number x.number) (sym s.2) (go s.0 s.1 (sym (may_is c given same s.0) ∙ (ap (λ (y : ReceiptOf ℕ). may_go y) (sym s.2) ∙ may)));
   }
     where
       below : (r : Receipt) → Member r inbox → is_due given r ≡ true → r.number ≤ last

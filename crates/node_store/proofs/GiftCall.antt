@@ -49,7 +49,7 @@ memory_noted n m there is = record {
   queued = is.queued;
 }
 
-receipt_there : (r : Receipt) (rs : List Receipt) → Member r rs → has_receipt r.number rs ≡ true
+pub receipt_there : (r : Receipt) (rs : List Receipt) → Member r rs → has_receipt r.number rs ≡ true
 receipt_there r [] there = absurd there
 receipt_there r (x ∷ xs) (inl same) = or_true (x.number == r.number) (has_receipt r.number xs) (ap (λ (y : Receipt). y.number == r.number) (sym same) ∙ eqb_refl r.number)
 receipt_there r (x ∷ xs) (inr later) = or_later (x.number == r.number) (has_receipt r.number xs) (receipt_there r xs later)

@@ -26,6 +26,7 @@ pub mod Alike
 pub mod AppendCall
 pub mod AppendTold
 pub mod Appended
+pub mod AskCall
 pub mod BatchFollows
 pub mod BegunParts
 pub mod Calls
@@ -91,5 +92,9 @@ pub mod SettleCall
 pub mod StageCall
 pub mod StillKept
 pub mod Syncing
+pub mod TakeCall
+pub mod TakeSteps
+pub mod TakeWorld
 pub mod TellAlike
+pub mod WaitingFiles
 pub mod Walked

@@ -1,5 +1,5 @@
 -- Which received files are to be given, and which comes next in a round by receipts (own).
-use Rattle.std.specs.Prelude.{◌≡◌, ℕ, ◌≤◌, Bool, true, not, ◌&&◌, ◌||◌, nat_lt, List, Option, Some, None}
+use Rattle.std.specs.Prelude.{◌≡◌, ℕ, ◌-◌, ◌==◌, ◌≤◌, Bool, true, not, ◌&&◌, ◌||◌, nat_lt, List, Option, Some, None, if◌then◌else◌}
 use Rattle.file_index.specs.Sets.{IsAbove}
 use Rattle.ledger_rec.specs.Fold.{is_among, is_request}
 use Rattle.ledger_rec.specs.Items.{Receipt}
@@ -28,6 +28,10 @@ is_above (Some at) n = nat_lt at n
 abbrev pub is_below : Option ℕ → ℕ → Bool
 is_below None n = true
 is_below (Some least) n = nat_lt n least
+
+-- the number before that one, if any
+abbrev pub number_before : ℕ → Option ℕ
+number_before n = if n == 0 then None else Some (n - 1)
 
 -- the least receipt above that one whose file is due
 pub record FirstDue (given : List ℕ) (inbox : List Receipt) (after : Option ℕ) (number : ℕ) : Type 0 where

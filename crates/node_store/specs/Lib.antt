@@ -1,4 +1,5 @@
 pub mod Acting
+pub mod Asking
 pub mod Beginnings
 pub mod Books
 pub mod Contents
@@ -18,6 +19,7 @@ pub mod Recording
 pub mod Sounds
 pub mod Stored
 pub mod Strays
+pub mod Taking
 pub mod Tending
 pub mod Tied
 pub mod Worlds

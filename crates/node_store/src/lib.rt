@@ -14,16 +14,17 @@
 //! to it together; `lookups` finds files in the fold, and `offers` the next one for an address; `part` has open parts and staged
 //! files, `readying` makes the file of a part ready, and `planning` says what queueing files will write; `store` is the store.
 //! Its calls stand in `beginning`, `marking`, `committing` and `refusing` (a part is opened, marked, becomes a receipt or is
-//! refused), `staging` and
-//! `queueing` (files are staged, and then queued), `queued` (queued files), `acting` (their sources are acted on), `reading` and
-//! `giving` (received files are given), where `round` says which comes next. `opening` makes the store of a disk, and
-//! `store_calls` makes it a store.
-//! `laws` says what holds of every name, ledger and world.
+//! refused), `staging` and `queueing` (files are staged, and then queued), `queued` (queued files), `acting` (their sources are
+//! acted on), `reading` and `giving` (received files are given), where `round` says which comes next, and `waiting` how many are
+//! left; `asking` has those that only ask the disk, of outside files and of files that were taken, and `taking` those that move
+//! outside files into the own folder and remove them there. `opening` makes the store of a disk, and `store_calls` makes it a
+//! store. `laws` says what holds of every name, ledger and world.
 //!
-//! Left out: the marks in the outbound that an opening takes away.
+//! Left out: a number for the next take, the list of those that stand, and the marks in the outbound that an opening takes away.
 #![tactic(auto)]
 
 mod acting;
+mod asking;
 mod batches;
 mod beginning;
 mod books;
@@ -49,8 +50,10 @@ mod spelling;
 mod staging;
 mod store;
 mod store_calls;
+mod taking;
 #[cfg(test)]
 mod tests;
+mod waiting;
 
 pub use laws::{
     each_fold_is_numbered, each_name_has_one_number, each_record_is_a_change, giving_is_a_change,

@@ -23,6 +23,7 @@ mod tidying;
 
 use crate::books::Books;
 use crate::opening::finding::{Found, find};
+pub(crate) use crate::opening::numbers::count;
 use crate::opening::numbers::{counted, greatest, greatest_queued, kept, waiting};
 use crate::store::NodeStore;
 use disk_model::Disk;

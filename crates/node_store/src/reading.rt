@@ -14,8 +14,8 @@ use disk_model::{Disk, Name};
 use ftn_addr::Failed;
 use node_model::StoreFault;
 
-// Reads a file of that size from a place on, as many bytes as fit.
-fn read_some<D: Disk>(
+/// Reads a file of that size from a place on, as many bytes as fit.
+pub(crate) fn read_some<D: Disk>(
     disk: &mut D,
     name: &Name,
     size: u64,

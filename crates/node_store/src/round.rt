@@ -16,14 +16,14 @@ use disk_model::Disk;
 use file_index::NumberSet;
 use ledger_rec::{Folded, InboxItem, is_request};
 
-fn is_given(receipt: u32, given: &[u32]) -> bool
+pub(crate) fn is_given(receipt: u32, given: &[u32]) -> bool
     ensures { result ≡ is_among receipt given.now }
 {
     given.iter().any(|number| *number == receipt)
 }
 
-// Whether it is no request, or was answered.
-fn is_ready(item: &InboxItem) -> bool
+/// Whether it is no request, or was answered.
+pub(crate) fn is_ready(item: &InboxItem) -> bool
     ensures { result ≡ is_ready (receipt item.now) }
 {
     !is_request(item.key.name.as_slice()) || item.answered
