@@ -8,7 +8,5 @@ pub mod MemSinks
 pub mod Pipes
 pub mod Repeats
 pub mod Scripts
-pub mod StdLines
-pub mod StdSinks
 pub mod Streams
 pub mod Tallies

@@ -6,12 +6,11 @@
 //!
 //! In memory, for tests: [`MemLine`] plays scripts of [`ReadAct`] and [`WriteAct`]; [`MemPipe`] is one end of a line, and
 //! [`MemPipe::carry`] takes what it wrote to the other end; [`MemLines`] plays a script of [`NextAct`] and keeps the lines
-//! that are handed back; [`MemClock`] and [`MemDice`] give the items of a list; [`MemSink`] keeps what was put. Over the
-//! system: [`StdLine`] is the line over standard input and output, and [`StdSink`] the sink over standard error; they tell
-//! no bytes.
+//! that are handed back; [`MemClock`] and [`MemDice`] give the items of a list; [`MemSink`] keeps what was put. A
+//! [`Tally`] has the counts of a line. Over the system: the line and the sink of `real_edge`.
 //!
 //! ```
-//! let mut line = StdLine::new(rt.reader(), io::writer(&rt));
+//! let mut line = MemLine::new(alloc, reads, Vec::new(alloc));
 //! match line.read(&mut piece, true) {          // it waits
 //!     ReadAnswer::Came(n) => take(&piece[..n]),
 //!     ReadAnswer::End => done(),
@@ -35,13 +34,12 @@ mod mem_sink;
 mod mem_sources;
 mod read_script;
 mod sources;
-mod std_line;
-mod std_sink;
 mod stream;
 mod write_script;
 
 pub use acts::{ReadAct, WriteAct};
 pub use callers::NextAct;
+pub use counting::Tally;
 pub use line_source::{Dialled, LineCounts, Lines, NextLine};
 pub use link::{Line, ReadAnswer, Sink, WriteAnswer};
 pub use mem_line::MemLine;
@@ -50,5 +48,3 @@ pub use mem_pipe::MemPipe;
 pub use mem_sink::MemSink;
 pub use mem_sources::{MemClock, MemDice};
 pub use sources::{Clock, Dice};
-pub use std_line::StdLine;
-pub use std_sink::StdSink;

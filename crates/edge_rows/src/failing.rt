@@ -1,6 +1,5 @@
 //! Each call of the system fails in its turn, and each time that is told.
 use crate::values::{bytes, name};
-use crate::watched::{Seen, Watched};
 use disk_model::{Disk, Name, Yard};
 use ftn_addr::{Bytes, Failed};
 use real_edge::RealFolder;
@@ -8,6 +7,7 @@ use std::alloc::Global;
 use std::fs;
 use std::rt::Files;
 use std::test::Fail;
+use watched_files::{Seen, Watched};
 
 /// What the calls are made with.
 #[derive(Drop)]

@@ -1,6 +1,5 @@
 //! What each call of the outside folders asks of the system, in its order.
 use crate::values::{bytes, name};
-use crate::watched::{Seen, Watched};
 use disk_model::{Copied, Disk, Giving, Hit, Marking, Moved, OutStat, Yard};
 use ftn_addr::Failed;
 use real_edge::RealFolder;
@@ -9,6 +8,7 @@ use std::fs::{FileTimes, OpenFile, OpenOptions};
 use std::os::unix::fs::MetadataExt;
 use std::test::Fail;
 use std::time::{Duration, UNIX_EPOCH};
+use watched_files::{Seen, Watched};
 
 #[test]
 fn a_copy_is_made_in_pieces_and_synced_later(rt: HostRuntime) -> Result<(), Fail> {
@@ -42,6 +42,10 @@ fn a_copy_is_made_in_pieces_and_synced_later(rt: HostRuntime) -> Result<(), Fail
     assert_eq!(rt; fs::read(&rt, "c1/a")?.as_slice(), b"abcde".as_slice());
     yard.sync(&a)?;
     assert_eq!(rt; seen.take().as_str(), "sync c1/a,open c1,sync c1,");
+    // The handle stands behind the copy.
+    yard.write_at(&a, 5, b"f")?;
+    assert_eq!(rt; seen.take().as_str(), "fstat c1/a,write c1/a,");
+    assert_eq!(rt; fs::read(&rt, "c1/a")?.as_slice(), b"abcdef".as_slice());
     Ok(())
 }
 

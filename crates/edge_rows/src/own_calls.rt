@@ -1,11 +1,11 @@
 //! What each call of the own folder asks of the system, in its order.
 use crate::values::name;
-use crate::watched::{Seen, Watched};
 use disk_model::{Disk, Made};
 use ftn_addr::Failed;
 use real_edge::RealFolder;
 use std::fs;
 use std::test::Fail;
+use watched_files::{Seen, Watched};
 
 #[test]
 fn a_file_is_made_with_its_name_and_written_in_pieces(rt: HostRuntime) -> Result<(), Fail> {
@@ -18,7 +18,7 @@ fn a_file_is_made_with_its_name_and_written_in_pieces(rt: HostRuntime) -> Result
     disk.write_at(&a, 0, b"abcde")?;
     assert_eq!(rt;
         seen.take().as_str(),
-        "fstat w1/a,seek w1/a 0,write w1/a,write w1/a,write w1/a,"
+        "fstat w1/a,write w1/a,write w1/a,write w1/a,"
     );
     disk.sync(&a)?;
     assert_eq!(rt; seen.take().as_str(), "sync w1/a,");
@@ -54,7 +54,7 @@ fn a_renamed_and_a_removed_file_has_no_handle_left(rt: HostRuntime) -> Result<()
     disk.write_at(&b, 0, b"x")?;
     assert_eq!(rt;
         seen.take().as_str(),
-        "lstat w2/b,open w2/b,fstat w2/b,fstat w2/b,seek w2/b 0,write w2/b,"
+        "lstat w2/b,open w2/b,fstat w2/b,fstat w2/b,write w2/b,"
     );
     assert_eq!(rt; disk.write_at(&a, 0, b"x"), Err(Failed));
     assert_eq!(rt; seen.take().as_str(), "lstat w2/a,");
@@ -153,5 +153,92 @@ fn own_files_are_listed_in_their_order(rt: HostRuntime) -> Result<(), Fail> {
     ];
     assert_eq!(rt; names.as_slice(), wanted.as_slice());
     assert_eq!(rt; disk.faults(), 0);
+    Ok(())
+}
+
+// A read and a write that begin where the last one ended go on there, without a seek.
+#[test]
+fn a_run_of_writes_and_reads_goes_on_where_it_stands(rt: HostRuntime) -> Result<(), Fail> {
+    fs::create_dir(&rt, "w6")?;
+    let a = name(b"a")?;
+    let seen = Seen::new();
+    let mut disk = RealFolder::new(Watched { rt, seen: &seen }, "w6")?;
+    disk.create(&a)?;
+    disk.write_at(&a, 0, b"ab")?;
+    seen.take();
+    disk.write_at(&a, 2, b"cd")?;
+    assert_eq!(rt; seen.take().as_str(), "fstat w6/a,write w6/a,");
+    disk.sync(&a)?;
+    disk.write_at(&a, 4, b"ef")?;
+    assert_eq!(rt; seen.take().as_str(), "sync w6/a,fstat w6/a,write w6/a,");
+    let mut out = [0; 2];
+    disk.read_at(&a, 1, &mut out)?;
+    assert_eq!(rt; out, *b"bc");
+    assert_eq!(rt; seen.take().as_str(), "seek w6/a 1,read w6/a,");
+    disk.read_at(&a, 3, &mut out)?;
+    assert_eq!(rt; out, *b"de");
+    assert_eq!(rt; seen.take().as_str(), "read w6/a,");
+    // A write goes on behind a read, and one that begins elsewhere is sent there.
+    disk.write_at(&a, 5, b"FG")?;
+    assert_eq!(rt; seen.take().as_str(), "fstat w6/a,write w6/a,");
+    disk.write_at(&a, 5, b"f")?;
+    assert_eq!(rt; seen.take().as_str(), "fstat w6/a,seek w6/a 5,write w6/a,");
+    assert_eq!(rt; fs::read(&rt, "w6/a")?.as_slice(), b"abcdefG".as_slice());
+    Ok(())
+}
+
+// A cut leaves the handle where it stood.
+#[test]
+fn behind_a_cut_the_handle_stands_as_before(rt: HostRuntime) -> Result<(), Fail> {
+    fs::create_dir(&rt, "w7")?;
+    let a = name(b"a")?;
+    let seen = Seen::new();
+    let mut disk = RealFolder::new(Watched { rt, seen: &seen }, "w7")?;
+    disk.create(&a)?;
+    disk.write_at(&a, 0, b"ab")?;
+    disk.cut(&a, 1)?;
+    seen.take();
+    disk.write_at(&a, 1, b"B")?;
+    assert_eq!(rt; seen.take().as_str(), "fstat w7/a,seek w7/a 1,write w7/a,");
+    disk.cut(&a, 1)?;
+    seen.take();
+    // It stands at 2, past the end.
+    assert_eq!(rt; disk.write_at(&a, 2, b"c"), Err(Failed));
+    assert_eq!(rt; seen.take().as_str(), "fstat w7/a,");
+    assert_eq!(rt; fs::read(&rt, "w7/a")?.as_slice(), b"a".as_slice());
+    Ok(())
+}
+
+// Where a call failed the handle isn't kept, nor where it stood.
+#[test]
+fn behind_a_call_that_failed_a_file_is_opened_anew(rt: HostRuntime) -> Result<(), Fail> {
+    fs::create_dir(&rt, "w8")?;
+    let a = name(b"a")?;
+    let seen = Seen::new();
+    let mut disk = RealFolder::new(Watched { rt, seen: &seen }, "w8")?;
+    disk.create(&a)?;
+    disk.write_at(&a, 0, b"abcd")?;
+    seen.take();
+    // The second of the two writes fails.
+    seen.fail_at(3);
+    assert_eq!(rt; disk.write_at(&a, 4, b"efgh"), Err(Failed));
+    assert_eq!(rt; seen.take().as_str(), "fstat w8/a,write w8/a,write w8/a,");
+    seen.fail_at(0);
+    disk.write_at(&a, 4, b"EF")?;
+    assert_eq!(rt;
+        seen.take().as_str(),
+        "lstat w8/a,open w8/a,fstat w8/a,fstat w8/a,seek w8/a 4,write w8/a,"
+    );
+    seen.fail_at(1);
+    assert_eq!(rt; disk.read_at(&a, 6, &mut [0; 2]), Err(Failed));
+    seen.fail_at(0);
+    seen.take();
+    let mut out = [0; 2];
+    disk.read_at(&a, 0, &mut out)?;
+    assert_eq!(rt;
+        seen.take().as_str(),
+        "lstat w8/a,open w8/a,fstat w8/a,read w8/a,"
+    );
+    assert_eq!(rt; fs::read(&rt, "w8/a")?.as_slice(), b"abcdEF".as_slice());
     Ok(())
 }

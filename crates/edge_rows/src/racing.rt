@@ -1,12 +1,12 @@
 //! Another program comes between two calls of the system.
 use crate::values::{bytes, name};
-use crate::watched::{Race, Seen, Watched};
 use disk_model::{Copied, Disk, Hit, Marking, Moved, OutStat, Yard};
 use ftn_addr::Failed;
 use real_edge::RealFolder;
 use std::fs;
 use std::os::unix::fs::symlink;
 use std::test::Fail;
+use watched_files::{Race, Seen, Watched};
 
 // A link that comes just before an own file is opened, or just before one is made, isn't followed.
 #[test]

@@ -23,6 +23,7 @@ pub enum SystemCall {
     Remove,
     MakeFolder,
     List,
+    Random,
 }
 
 impl SystemCall {
@@ -41,6 +42,7 @@ impl SystemCall {
             SystemCall::Remove => "unlink",
             SystemCall::MakeFolder => "mkdir",
             SystemCall::List => "readdir",
+            SystemCall::Random => "getentropy",
         }
     }
 }

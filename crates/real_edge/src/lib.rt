@@ -1,4 +1,4 @@
-//! The adapters of the real outside. So far: a folder of the file system.
+//! The adapters of the real outside: a folder of the file system, the standard streams, the clock and random bytes.
 //!
 //! [`RealFolder`] is a [`Disk`](disk_model::Disk) and a [`Yard`](disk_model::Yard) over the files of the
 //! runtime that it is given. It doesn't tell its content: no contract says what the operating system keeps
@@ -8,6 +8,7 @@
 //!
 //! - `real_folder/own.rt` has the calls on the own folder, `real_folder/outside.rt` those on outside
 //!   folders, each as one function that answers what the system answered;
+//! - `real_folder/placed.rt` has an open file with the place at which its handle stands, so that no call goes there twice;
 //! - `real_folder/paths.rt` spells their paths, and `real_folder/system.rt` has the few calls of the
 //!   system that need more than a line;
 //! - `real_folder/calls.rt` counts the answers.
@@ -20,13 +21,41 @@
 //! if let Some(error) = folder.last_error() { .. }
 //! ```
 //!
-//! Left out: lines, the clock, random numbers and standard error, which come with the server.
+//! [`StdLine`] is the line over standard input and output, and [`StdSink`] the sink over standard error; they tell no bytes. Both
+//! stand over any reader and writer, and where these tell their bytes the contracts say which of them went through.
+//!
+//! ```text
+//! let mut line = StdLine::new(rt.reader(), io::writer(&rt));
+//! match line.read(&mut piece, true) {          // it waits
+//!     ReadAnswer::Came(n) => take(&piece[..n]),
+//!     ReadAnswer::End => done(),
+//!     ReadAnswer::NotYet | ReadAnswer::Quiet | ReadAnswer::Failed => {}
+//! }
+//! ```
+//!
+//! [`SystemClock`] and [`SystemDice`] are the clock and the dice of the system. The dice are made once, from bytes that the system
+//! gives, and refused where it gives none; no draw after that fails.
+//!
+//! ```text
+//! let moment = SystemClock::new(&rt).seconds();
+//! let challenge = SystemDice::new(&rt)?.sixteen();
+//! ```
+//!
+//! Left out: lines over the network, which come with the server.
 #![tactic(auto)]
 
 mod error;
 mod real_folder;
+mod std_line;
+mod std_sink;
+mod system_clock;
+mod system_dice;
 #[cfg(test)]
 mod tests;
 
 pub use error::{SystemCall, SystemError};
 pub use real_folder::RealFolder;
+pub use std_line::StdLine;
+pub use std_sink::StdSink;
+pub use system_clock::SystemClock;
+pub use system_dice::SystemDice;

@@ -4,6 +4,7 @@ mod copying;
 mod outside;
 mod own;
 mod paths;
+mod placed;
 mod system;
 
 pub use calls::RealFolder;

@@ -3,6 +3,7 @@
 use super::copying::copy_most;
 use super::own::Folder;
 use super::paths::{folder_of, is_entry_name, text, whole_text};
+use super::placed::Placed;
 use super::system::{
     at_path, cut_to, file_at, found, link, make_folders, make_new, open_file, open_plain,
     plain_len, remove, remove_any, rename, stat_of, sync_file, sync_folder, write_all,
@@ -68,7 +69,7 @@ impl<R: Files + Drop> Folder<R> {
         let mut file = make_new(&self.files, new)?;
         match copy_most(&mut source, &mut file, most)? {
             Some(size) => {
-                self.hold(own, file);
+                self.hold(own, Placed::new(file, size));
                 Ok(Copied::Copied(OutStat {
                     size,
                     ..stat_of(&metadata)

@@ -1,15 +1,14 @@
 //! The own folder.
 use super::paths::Paths;
+use super::placed::Placed;
 use super::system::{
     cut_to, make_new, open_plain, plain_len, remove, rename, status_of, sync_file, sync_folder,
-    write_all,
 };
 use crate::error::{Answer, ListError, SystemCall, refused, told};
 use disk_model::{Made, Name};
 use ftn_addr::NoMemory;
 use std::alloc::Global;
 use std::fs::{DirEntry, OpenFile};
-use std::io::{Read, Seek, SeekFrom};
 use std::rt::Files;
 use std::{fs, io};
 
@@ -17,7 +16,7 @@ use std::{fs, io};
 #[derive(Drop)]
 pub struct Held<F> {
     name: Name,
-    file: F,
+    opened: Placed<F>,
 }
 
 /// The own folder, as the system has it.
@@ -47,10 +46,9 @@ impl<R: Files + Drop> Folder<R> {
     }
 
     pub fn read(&mut self, name: &Name, at: u64, out: &mut [u8]) -> Answer<()> {
-        let mut file = self.open(name)?;
-        told(SystemCall::Seek, file.seek(SeekFrom::Start(at)))?;
-        told(SystemCall::Read, file.read_exact(out))?;
-        self.hold(name, file);
+        let mut opened = self.open(name)?;
+        opened.read(at, out)?;
+        self.hold(name, opened);
         Ok(())
     }
 
@@ -58,7 +56,7 @@ impl<R: Files + Drop> Folder<R> {
         self.forget(name);
         match make_new(&self.files, self.paths.own(name)?) {
             Ok(file) => {
-                self.hold(name, file);
+                self.hold(name, Placed::new(file, 0));
                 self.sync_names()?;
                 Ok(Made::New)
             }
@@ -73,27 +71,26 @@ impl<R: Files + Drop> Folder<R> {
     }
 
     pub fn write(&mut self, name: &Name, at: u64, bytes: &[u8]) -> Answer<()> {
-        let mut file = self.open_with(name, at)?;
-        told(SystemCall::Seek, file.seek(SeekFrom::Start(at)))?;
-        write_all(&mut file, bytes)?;
-        self.hold(name, file);
+        let mut opened = self.open_with(name, at)?;
+        opened.write(at, bytes)?;
+        self.hold(name, opened);
         Ok(())
     }
 
     pub fn cut(&mut self, name: &Name, len: u64) -> Answer<()> {
-        let file = self.open_with(name, len)?;
-        cut_to(&file, len)?;
-        self.hold(name, file);
+        let opened = self.open_with(name, len)?;
+        cut_to(&opened.file, len)?;
+        self.hold(name, opened);
         Ok(())
     }
 
     pub fn sync(&mut self, name: &Name) -> Answer<()> {
-        let file = self.open(name)?;
-        sync_file(&file)?;
+        let opened = self.open(name)?;
+        sync_file(&opened.file)?;
         if self.has_new_names {
             self.sync_names()?;
         }
-        self.hold(name, file);
+        self.hold(name, opened);
         Ok(())
     }
 
@@ -128,28 +125,31 @@ impl<R: Files + Drop> Folder<R> {
         }
     }
 
-    pub(super) fn hold(&mut self, name: &Name, file: R::File) {
-        self.held = Some(Held { name: *name, file });
+    pub(super) fn hold(&mut self, name: &Name, opened: Placed<R::File>) {
+        self.held = Some(Held {
+            name: *name,
+            opened,
+        });
     }
 
     // The file that is held, or else it is opened.
-    fn open(&mut self, name: &Name) -> Answer<R::File> {
+    fn open(&mut self, name: &Name) -> Answer<Placed<R::File>> {
         match self.held.take() {
-            Some(held) if held.name == *name => Ok(held.file),
+            Some(held) if held.name == *name => Ok(held.opened),
             _ => match open_plain(&self.files, self.paths.own(name)?)? {
-                Some(file) => Ok(file),
+                Some(file) => Ok(Placed::new(file, 0)),
                 None => Err(refused(SystemCall::Open, io::ErrorKind::NotFound)),
             },
         }
     }
 
     // The same file where it has at least so many bytes.
-    fn open_with(&mut self, name: &Name, len: u64) -> Answer<R::File> {
-        let file = self.open(name)?;
-        if status_of(&file)?.len() < len {
+    fn open_with(&mut self, name: &Name, len: u64) -> Answer<Placed<R::File>> {
+        let opened = self.open(name)?;
+        if status_of(&opened.file)?.len() < len {
             return Err(refused(SystemCall::Stat, io::ErrorKind::InvalidInput));
         }
-        Ok(file)
+        Ok(opened)
     }
 }
 

@@ -1,9 +1,9 @@
 //! A sink over a writer, as standard error is.
 ghost use Rattle.std.specs.Prelude.{◌≡◌, OnErr, OnOk};
 ghost use Rattle.binkp_link.specs.Lines.{PutsAll, PutsFront};
-ghost use Rattle.binkp_link.specs.StdSinks.{HasPut, new_std_sink, std_sink_state};
+ghost use Rattle.real_edge.specs.StdSinks.{HasPut, new_std_sink, std_sink_state};
 
-use crate::Sink;
+use binkp_link::Sink;
 use ftn_addr::Failed;
 use std::io::Write;
 

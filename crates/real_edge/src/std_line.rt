@@ -1,10 +1,9 @@
 //! A line over a reader and a writer, as standard input and output are.
 ghost use Rattle.std.specs.Prelude.{◌≡◌, ◌<◌, true, false, length};
 ghost use Rattle.binkp_link.specs.Lines.{IsRead, IsWrite};
-ghost use Rattle.binkp_link.specs.StdLines.{HasRead, HasWritten, IsStdRead, IsStdWrite, new_std_line, std_state};
+ghost use Rattle.real_edge.specs.StdLines.{HasRead, HasWritten, IsStdRead, IsStdWrite, new_std_line, std_state};
 
-use crate::counting::Tally;
-use crate::{Line, ReadAnswer, WriteAnswer};
+use binkp_link::{Line, ReadAnswer, Tally, WriteAnswer};
 use std::io::{Read, Write};
 
 /// A line over standard input and output, as under inetd. It doesn't tell its bytes.

@@ -1,6 +1,9 @@
 //! Files that are watched: a runtime in front of the real one, which notes each call of the system, moves
-//! two bytes at a time, lets one call fail, and lets another program come in before one.
-use crate::journal::Journal;
+//! two bytes at a time, lets one call fail, and lets another program come in before one. Where the syncs alone are noted, the
+//! bytes move as ever.
+ghost use Rattle.std.specs.Prelude.{◌≤◌};
+
+use crate::Journal;
 use std::alloc::Global;
 use std::cell::Cell;
 use std::fs::{Metadata, OpenFile, OpenOptions};
@@ -25,6 +28,7 @@ pub enum Race {
 /// What was called.
 #[derive(Drop)]
 pub struct Seen {
+    syncs_alone: bool,
     journal: Cell<Journal>,
     calls: Cell<u32>,
     failing: Cell<u32>,
@@ -33,8 +37,19 @@ pub struct Seen {
 }
 
 impl Seen {
+    /// For all calls.
     pub fn new() -> Seen {
+        Seen::of(false)
+    }
+
+    /// For the syncs alone.
+    pub fn of_syncs() -> Seen {
+        Seen::of(true)
+    }
+
+    fn of(syncs_alone: bool) -> Seen {
         Seen {
+            syncs_alone,
             journal: Cell::new(Journal::new()),
             calls: Cell::new(0),
             failing: Cell::new(0),
@@ -65,7 +80,25 @@ impl Seen {
         self.race.set(race);
     }
 
+    // How many of so many bytes are moved at a time.
+    fn most(&self, len: usize) -> usize
+        ensures { result ≤ len }
+    {
+        if self.syncs_alone { len } else { len.min(2) }
+    }
+
+    fn note_sync(&self, word: &str, path: &str) -> io::Result<()> {
+        self.put(word, path, None)
+    }
+
     fn note(&self, word: &str, path: &str, more: Option<&str>) -> io::Result<()> {
+        if self.syncs_alone {
+            return Ok(());
+        }
+        self.put(word, path, more)
+    }
+
+    fn put(&self, word: &str, path: &str, more: Option<&str>) -> io::Result<()> {
         let mut journal = self.journal.get();
         journal.push(word);
         journal.push(" ");
@@ -80,6 +113,9 @@ impl Seen {
     }
 
     fn note_number(&self, word: &str, path: &str, number: u64) -> io::Result<()> {
+        if self.syncs_alone {
+            return Ok(());
+        }
         let mut journal = self.journal.get();
         journal.push(word);
         journal.push(" ");
@@ -166,7 +202,7 @@ impl<'a, R: AllocGlobal> Alloc for Watched<'a, R> {
 impl<'a, F: Read> Read for WatchedFile<'a, F> {
     fn read(&mut self, buf: &mut [u8]) -> io::Result<usize> {
         self.seen.note("read", self.path.as_str(), None)?;
-        let most = buf.len().min(2);
+        let most = self.seen.most(buf.len());
         self.file.read(&mut buf[..most])
     }
 }
@@ -187,7 +223,7 @@ impl<'a, D: Read> Read for WatchedDir<'a, D> {
 impl<'a, F: Write> Write for WatchedFile<'a, F> {
     fn write(&mut self, buf: &[u8]) -> io::Result<usize> {
         self.seen.note("write", self.path.as_str(), None)?;
-        let most = buf.len().min(2);
+        let most = self.seen.most(buf.len());
         self.file.write(&buf[..most])
     }
 
@@ -218,12 +254,12 @@ impl<'a, F: OpenFile> OpenFile for WatchedFile<'a, F> {
     }
 
     fn sync_all(&self) -> io::Result<()> {
-        self.seen.note("sync", self.path.as_str(), None)?;
+        self.seen.note_sync("sync", self.path.as_str())?;
         self.file.sync_all()
     }
 
     fn sync_data(&self) -> io::Result<()> {
-        self.seen.note("sync_data", self.path.as_str(), None)?;
+        self.seen.note_sync("sync_data", self.path.as_str())?;
         self.file.sync_data()
     }
 }
