@@ -1,13 +1,14 @@
--- The settings of a text have addresses within the limits.
-use Rattle.std.proofs.Common.{◌≡◌, ℕ, zero, suc, Bool, true, false, not, ltb, List, [], ◌∷◌, ◌++◌, length, map, Option, Some, None, Result, Ok, Err, refl, subst, arith}
-use Rattle.std.specs.Prelude.{codes, slice_get, if◌then◌else◌}
+-- The settings of a text have addresses and numbers within the limits.
+use Rattle.std.proofs.Common.{◌≡◌, ℕ, zero, suc, ◌<◌, ◌≤◌, Bool, true, false, not, ◌&&◌, ltb, List, [], ◌∷◌, ◌++◌, length, map, Option, Some, None, Result, Ok, Err, refl, subst, arith}
+use Rattle.std.specs.Prelude.{nat_le, unwrap_or, if◌then◌else◌}
 use Rattle.std.specs.Char.{to_ascii_lowercase}
 use Rattle.std.specs.List.{All, list_any}
 use Rattle.std.specs.Result.{result_ok}
 use Rattle.std.specs.Str.Lines.{lines}
-use Rattle.std.proofs.lemmas.Bool.{ltb-false}
+use Rattle.std.proofs.lemmas.Bool.{and_parts, leb-true, ltb-false}
 use Rattle.std.proofs.lemmas.List.Elements.{All-append, All-nil}
 use Rattle.ftn_addr.specs.Address.{Address, same_address}
+use Rattle.ftn_addr.specs.Digits.{saturated_number}
 use Rattle.ftn_addr.specs.Domain.{is_domain}
 use Rattle.ftn_addr.specs.LineNumbers.{next_line, or_fault}
 use Rattle.ftn_addr.specs.Limits.{IsAddress}
@@ -18,17 +19,16 @@ use Rattle.ftn_addr.specs.declared.limits.TheConstants.{MAX_ADDRESS_NUMBER}
 use Rattle.ftn_addr.specs.declared.reading.AddrFault.{AddrFault}
 use Rattle.ftn_addr.proofs.Outcomes.{steps_ok}
 use Rattle.ftn_addr.proofs.ReadLimits.{IsDomain, lower_domain, lower_lower, reading_within_zone}
-use Rattle.mail_conf.specs.Cause.{on_line}
-use Rattle.mail_conf.specs.Conf.{ConfText, with_lines, domain_or, first_zone, finished_with, finished, finish_or, settings_of, conf_of}
-use Rattle.mail_conf.specs.Domain.{DomainText, domain_line, domain_words, home_at, home_or, home_from, home_with, home_of, address_or, address_at, is_alias}
+use Rattle.mail_conf.specs.Conf.{ConfText, with_lines, domain_or, first_zone, finished_with, finished, finish_or, settings_of}
+use Rattle.mail_conf.specs.Domain.{DomainText, domain_line, domain_words, home_or, home_with, home_of, address_or, address_at, is_alias}
 use Rattle.mail_conf.specs.Draft.{DraftText, empty_draft, text_taken, path_taken, number_taken, addresses_from, domain_taken, list_taken}
 use Rattle.mail_conf.specs.Host.{NodeText, node_line, host_word, without_options}
 use Rattle.mail_conf.specs.Limits.{KeepsLimits, EachKeepsLimits}
-use Rattle.mail_conf.specs.Line.{if_text, if_path, if_number, if_list, word_taken, words_taken, line_taken}
-use Rattle.mail_conf.specs.Values.{before_comment, number_in, once, word_at}
+use Rattle.mail_conf.specs.Line.{if_text, if_path, if_number, if_list, words_taken, line_taken}
+use Rattle.mail_conf.specs.Values.{before_comment, number_in, number_once, number_or, once, word_at}
 use Rattle.mail_conf.specs.Words.{is_passed_over, list_word, number_word, path_word, text_word}
 use Rattle.mail_conf.specs.declared.cause.ConfCause.{ConfCause}
-use Rattle.mail_conf.specs.declared.cause.ConfCause.TheVariants.{BadAddress, UnknownWord, NoAddress, TooLong}
+use Rattle.mail_conf.specs.declared.cause.ConfCause.TheVariants.{BadAddress, BadNumber, UnknownWord, NoAddress, TooLong}
 use Rattle.mail_conf.specs.declared.cause.ConfFault.{ConfFault}
 use Rattle.mail_conf.specs.declared.words.TextWord.{TextWord}
 use Rattle.mail_conf.specs.declared.words.TextWord.TheVariants.{Sysname, Sysop, Location, Nodeinfo}
@@ -118,9 +118,19 @@ node_good home nodes words node good e =
 abbrev pub OfNode : NodeText → Type 0
 OfNode node = IsAddress node.addr
 
-record Kept (d : DraftText) : Type 0 where
-  addresses : All IsAddress d.addresses
-  nodes : All OfNode d.nodes
+abbrev pub Within : ℕ → ℕ → Type 0
+Within high n = (0 < n) × (n ≤ high)
+
+-- of all that a draft holds, what the limits speak of
+pub record KeptOf (own : List Address) (others : List NodeText) (size limit servers : Option ℕ) : Type 0 where
+  addresses : All IsAddress own
+  nodes : All OfNode others
+  block : Within 32767 (unwrap_or size 4096)
+  session_limit : Within 17592186044416 (unwrap_or limit 17592186044416)
+  max_servers : Within 100 (unwrap_or servers 100)
+
+abbrev pub Kept : DraftText → Type 0
+Kept d = KeptOf d.addresses d.nodes d.block d.session_limit d.max_servers
 
 sets : {A : Type 0} (r : Result A ConfCause) (f : A → DraftText) (e : DraftText) → ((x : A) → Kept (f x)) → (r >>= λ x. Ok (f x)) ≡ Ok e → Kept e
 sets r f e keeps h =
@@ -128,30 +138,56 @@ sets r f e keeps h =
     let same : f x.0 ≡ e = cc in
     subst Kept same (keeps x.0)
 
+in_range : (digits : List ℕ) (low high n : ℕ) → number_in digits low high ≡ Ok n → (low ≤ n) × (n ≤ high)
+unfolding number_in
+in_range digits low high n e = go (saturated_number digits) e
+  where
+    test : (m : ℕ) (b : Bool) → (nat_le low m && nat_le m high) ≡ b → (if b then Ok m else Err BadNumber) ≡ Ok n → (low ≤ n) × (n ≤ high)
+    test m false is e = absurd (let clash : Err BadNumber ≡ Ok n = e in cc)
+    test m true is e =
+        let parts = and_parts (nat_le low m) (nat_le m high) is in
+        let same : m ≡ n = cc in
+        subst (λ (k : ℕ). (low ≤ k) × (k ≤ high)) same (leb-true low m parts.0, leb-true m high parts.1)
+
+    go : (found : Option ℕ) → number_or found low high ≡ Ok n → (low ≤ n) × (n ≤ high)
+    go None e = absurd (let clash : Err BadNumber ≡ Ok n = e in cc)
+    go (Some m) e = test m (nat_le low m && nat_le m high) refl e
+
+-- a line that sets a number of which a limit speaks
+sets_number : (given : Bool) (words : List (List ℕ)) (low high : ℕ) (f : ℕ → DraftText) (e : DraftText) → 0 < low → ((n : ℕ) → Within high n → Kept (f n)) → (number_once given words low high >>= λ n. Ok (f n)) ≡ Ok e → Kept e
+unfolding number_once
+sets_number given words low high f e some keeps h =
+    let n = steps_ok (number_once given words low high) (λ n. Ok (f n)) e h in
+    let digits = steps_ok (word_at words 0) _ n.0 n.1 in
+    let free = steps_ok (once given) _ n.0 digits.2 in
+    let range = in_range digits.0 low high n.0 free.2 in
+    let same : f n.0 ≡ e = cc in
+    subst Kept same (keeps n.0 (omega (arith, range.0, some), range.1))
+
 text_kept : (word : TextWord) (rest : List ℕ) (d e : DraftText) → Kept d → text_taken word rest d ≡ Ok e → Kept e
 unfolding text_taken
-text_kept Sysname rest d e k h = sets _ (λ text. record d { sysname = Some text }) e (λ text. record { addresses = k.addresses; nodes = k.nodes }) h
-text_kept Sysop rest d e k h = sets _ (λ text. record d { sysop = Some text }) e (λ text. record { addresses = k.addresses; nodes = k.nodes }) h
-text_kept Location rest d e k h = sets _ (λ text. record d { location = Some text }) e (λ text. record { addresses = k.addresses; nodes = k.nodes }) h
-text_kept Nodeinfo rest d e k h = sets _ (λ text. record d { nodeinfo = Some text }) e (λ text. record { addresses = k.addresses; nodes = k.nodes }) h
+text_kept Sysname rest d e k h = sets _ (λ text. record d { sysname = Some text }) e (λ text. k) h
+text_kept Sysop rest d e k h = sets _ (λ text. record d { sysop = Some text }) e (λ text. k) h
+text_kept Location rest d e k h = sets _ (λ text. record d { location = Some text }) e (λ text. k) h
+text_kept Nodeinfo rest d e k h = sets _ (λ text. record d { nodeinfo = Some text }) e (λ text. k) h
 
 path_kept : (word : PathWord) (words : List (List ℕ)) (d e : DraftText) → Kept d → path_taken word words d ≡ Ok e → Kept e
 unfolding path_taken
-path_kept Inbound words d e k h = sets _ (λ path. record d { inbound = Some path }) e (λ path. record { addresses = k.addresses; nodes = k.nodes }) h
-path_kept InboundNonsecure words d e k h = sets _ (λ path. record d { inbound_nonsecure = Some path }) e (λ path. record { addresses = k.addresses; nodes = k.nodes }) h
+path_kept Inbound words d e k h = sets _ (λ path. record d { inbound = Some path }) e (λ path. k) h
+path_kept InboundNonsecure words d e k h = sets _ (λ path. record d { inbound_nonsecure = Some path }) e (λ path. k) h
 
 number_kept : (word : NumberWord) (words : List (List ℕ)) (d e : DraftText) → Kept d → number_taken word words d ≡ Ok e → Kept e
 unfolding number_taken
-number_kept Port words d e k h = sets _ (λ n. record d { port = Some n }) e (λ n. record { addresses = k.addresses; nodes = k.nodes }) h
-number_kept MaxServers words d e k h = sets _ (λ n. record d { max_servers = Some n }) e (λ n. record { addresses = k.addresses; nodes = k.nodes }) h
-number_kept MaxClients words d e k h = sets _ (λ n. record d { max_clients = Some n }) e (λ n. record { addresses = k.addresses; nodes = k.nodes }) h
-number_kept Block words d e k h = sets _ (λ n. record d { block = Some n }) e (λ n. record { addresses = k.addresses; nodes = k.nodes }) h
-number_kept RefuseOver words d e k h = sets _ (λ n. record d { refuse_over = Some n }) e (λ n. record { addresses = k.addresses; nodes = k.nodes }) h
-number_kept SessionLimit words d e k h = sets _ (λ n. record d { session_limit = Some n }) e (λ n. record { addresses = k.addresses; nodes = k.nodes }) h
+number_kept Port words d e k h = sets _ (λ n. record d { port = Some n }) e (λ n. k) h
+number_kept MaxServers words d e k h = sets_number _ words 1 100 (λ n. record d { max_servers = Some n }) e (omega arith) (λ n range. record { addresses = k.addresses; nodes = k.nodes; block = k.block; session_limit = k.session_limit; max_servers = range }) h
+number_kept MaxClients words d e k h = sets _ (λ n. record d { max_clients = Some n }) e (λ n. k) h
+number_kept Block words d e k h = sets_number _ words 128 32767 (λ n. record d { block = Some n }) e (omega arith) (λ n range. record { addresses = k.addresses; nodes = k.nodes; block = range; session_limit = k.session_limit; max_servers = k.max_servers }) h
+number_kept RefuseOver words d e k h = sets _ (λ n. record d { refuse_over = Some n }) e (λ n. k) h
+number_kept SessionLimit words d e k h = sets_number _ words 1 17592186044416 (λ n. record d { session_limit = Some n }) e (omega arith) (λ n range. record { addresses = k.addresses; nodes = k.nodes; block = k.block; session_limit = range; max_servers = k.max_servers }) h
 
 domain_kept : (alias : Bool) (words : List (List ℕ)) (d e : DraftText) → Kept d → domain_taken alias words d ≡ Ok e → Kept e
 domain_kept true words d e k h = sets _ (λ word. d) e (λ word. k) h
-domain_kept false words d e k h = sets _ (λ line. record d { domain = Some line }) e (λ line. record { addresses = k.addresses; nodes = k.nodes }) h
+domain_kept false words d e k h = sets _ (λ line. record d { domain = Some line }) e (λ line. k) h
 
 list_kept : (word : ListWord) (home : Address) (words : List (List ℕ)) (d e : DraftText) → IsDomain home.domain → Kept d → list_taken word home words d ≡ Ok e → Kept e
 unfolding list_taken
@@ -161,14 +197,14 @@ list_kept list.Address home words d e good k h =
     let all = steps_ok (addresses_from home d.addresses words) _ e word.2 in
     let read : DraftText = record d { addresses = all.0 } in
     let same : read ≡ e = cc in
-    subst Kept same (record { addresses = addresses_good home d.addresses words all.0 good k.addresses all.1; nodes = k.nodes })
+    subst Kept same (record { addresses = addresses_good home d.addresses words all.0 good k.addresses all.1; nodes = k.nodes; block = k.block; session_limit = k.session_limit; max_servers = k.max_servers })
 list_kept list.Node home words d e good k h =
     let node = steps_ok (node_line home d.nodes words) _ e h in
     let read : DraftText = record d { nodes = d.nodes ++ node.0 ∷ [] } in
     let same : read ≡ e = cc in
-    subst Kept same (record { addresses = k.addresses; nodes = all_more OfNode d.nodes node.0 k.nodes (node_good home d.nodes words node.0 good node.1) })
-list_kept list.RefuseName home words d e good k h = sets _ (λ name. record d { refuse_names = d.refuse_names ++ name ∷ [] }) e (λ name. record { addresses = k.addresses; nodes = k.nodes }) h
-list_kept list.RequestFolder home words d e good k h = sets _ (λ share. record d { shares = d.shares ++ share ∷ [] }) e (λ share. record { addresses = k.addresses; nodes = k.nodes }) h
+    subst Kept same (record { addresses = k.addresses; nodes = all_more OfNode d.nodes node.0 k.nodes (node_good home d.nodes words node.0 good node.1); block = k.block; session_limit = k.session_limit; max_servers = k.max_servers })
+list_kept list.RefuseName home words d e good k h = sets _ (λ name. record d { refuse_names = d.refuse_names ++ name ∷ [] }) e (λ name. k) h
+list_kept list.RequestFolder home words d e good k h = sets _ (λ share. record d { shares = d.shares ++ share ∷ [] }) e (λ share. k) h
 
 by_text : (word : Option TextWord) (rest : List ℕ) (d e : DraftText) (other : Result DraftText ConfCause) → Kept d → (other ≡ Ok e → Kept e) → if_text word rest d other ≡ Ok e → Kept e
 by_text None rest d e other k goes h = goes h
@@ -211,6 +247,10 @@ lines_kept home d number (line ∷ texts) e good k h =
 
 -- The whole.
 
+empty_kept : Kept empty_draft
+empty_kept =
+    record { addresses = All-nil IsAddress; nodes = All-nil OfNode; block = (omega arith, omega arith); session_limit = (omega arith, omega arith); max_servers = (omega arith, omega arith) }
+
 finished_keeps : (d : DraftText) (c : ConfText) → Kept d → finished d ≡ Ok c → KeepsLimits c
 unfolding finished
 finished_keeps d c k h = go d.addresses refl h
@@ -220,10 +260,10 @@ finished_keeps d c k h = go d.addresses refl h
     go (first ∷ more) is h =
         let read : ConfText = settings_of (domain_or d.domain first.zone) d in
         let same : read ≡ c = cc in
-        subst KeepsLimits same (record { some = rw is (omega arith); addresses = k.addresses; nodes = k.nodes })
+        subst KeepsLimits same (record { some = rw is (omega arith); addresses = k.addresses; nodes = k.nodes; block_some = k.block.0; block_fits = k.block.1; limit_some = k.session_limit.0; limit_fits = k.session_limit.1; servers_some = k.max_servers.0; servers_fit = k.max_servers.1 })
 
 draft_keeps : (r : Result DraftText ConfFault) (home : Address) (texts : List (List ℕ)) (c : ConfText) → IsDomain home.domain → with_lines home empty_draft 0 texts ≡ r → finish_or r ≡ Ok c → KeepsLimits c
-draft_keeps (Ok d) home texts c good is h = finished_keeps d c (lines_kept home empty_draft 0 texts d good (record { addresses = All-nil IsAddress; nodes = All-nil OfNode }) is) h
+draft_keeps (Ok d) home texts c good is h = finished_keeps d c (lines_kept home empty_draft 0 texts d good empty_kept is) h
 draft_keeps (Err fault) home texts c good is h = absurd (let clash : Err fault ≡ Ok c = h in cc)
 
 pub each_keeps_limits : EachKeepsLimits
