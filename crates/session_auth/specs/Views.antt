@@ -20,6 +20,9 @@ stage_of (S.AwaitsAddress offer) = Awaits_address (offered offer)
 stage_of (S.AwaitsPassword peers) = Awaits_password (map address peers.addresses.items)
 stage_of (S.AwaitsWord peers secure) = Awaits_word (map address peers.addresses.items) secure
 
+abbrev pub stage_in : Auth → Stage
+stage_in auth = stage_of auth.stage
+
 abbrev pub terms_of : Auth → ConfText → Terms
 terms_of auth conf = record { side = side_of auth.side; challenge = auth.challenge; conf = conf }
 

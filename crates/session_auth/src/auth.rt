@@ -40,8 +40,45 @@ impl Auth {
     ghost use Rattle.session_auth.specs.Sides.{side_of};
     ghost use Rattle.session_auth.specs.Views.{Begins, Keeps, stage_of, terms_of};
 
-    /// Says the greeting at the end of `out`, at a moment in seconds since 1970. The settings have an own
-    /// address. The challenge is offered at the answering side alone.
+    /// Before the greeting. The challenge is offered at the answering side alone. This takes no memory.
+    pub fn new(side: Side, challenge: [u8; 16]) -> Auth
+        ensures { Begins side challenge result }
+    {
+        Auth {
+            side,
+            challenge,
+            stage: Stage::AwaitsAddress(Offer::Absent),
+        }
+    }
+
+    /// Its side.
+    pub fn side(&self) -> &Side
+        ensures { side_of result.now ≡ side_of self.now.side }
+    {
+        &self.side
+    }
+
+    /// Says the greeting at the end of `out`, at a moment in seconds since 1970. The settings have an own address.
+    ///
+    /// # Errors
+    /// `NoMemory`: `out` holds what it held.
+    pub fn greet(
+        &self,
+        alloc: Global,
+        conf: &Conf,
+        now: u64,
+        out: &mut Bytes,
+    ) -> Result<(), NoMemory>
+        requires { AreAddresses (conf_text conf.now).addresses }
+        ensures said { OnOk result (out.new.list ≡ out.old.list ++ said_bytes (greeting (side_of self.now.side) (conf_text conf.now) self.now.challenge now)) }
+        ensures err { OnErr result (out.new.list ≡ out.old.list) }
+    {
+        let mut text = Bytes::new(alloc);
+        say_greeting(alloc, &self.side, conf, &self.challenge, now, &mut text)?;
+        out.push_slice(text.as_slice())
+    }
+
+    /// A login whose greeting stands at the end of `out`.
     ///
     /// # Errors
     /// `NoMemory`: `out` holds what it held.
@@ -58,18 +95,12 @@ impl Auth {
         ensures begins { IfOk result (λ auth. Begins side challenge auth) }
         ensures err { OnErr result (out.new.list ≡ out.old.list) }
     {
-        let mut text = Bytes::new(alloc);
-        say_greeting(alloc, &side, conf, &challenge, now, &mut text)?;
-        out.push_slice(text.as_slice())?;
-        Ok(Auth {
-            side,
-            challenge,
-            stage: Stage::AwaitsAddress(Offer::Absent),
-        })
+        let auth = Auth::new(side, challenge);
+        auth.greet(alloc, conf, now, out)?;
+        Ok(auth)
     }
 
-    /// Takes the next command of the peer's, and adds what is said to the end of `out`. After an end or
-    /// an error the login isn't used any more.
+    /// Takes the next command of the peer's, and adds what is said to `out`. After an end or an error the login isn't used any more.
     ///
     /// # Errors
     /// `NoMemory`: `out` holds what it held.

@@ -1,28 +1,22 @@
 -- Rows that were made.
-use Rattle.std.proofs.Common.{◌≡◌, ◌⊎◌, Bool, true, false, ℕ, List, [], ◌∷◌, Result, Err, refl, sym, subst, inl, inr, not, map}
-use Rattle.std.specs.Prelude.{MatchBool}
-use Rattle.std.specs.List.{All, list_any}
+use Rattle.std.proofs.Common.{◌≡◌, ◌⊎◌, Bool, ℕ, List, [], Result, Err, refl, sym, subst, inl, inr}
 use Rattle.std.proofs.lemmas.List.{append-nil}
-use Rattle.std.proofs.lemmas.List.Elements.{All-filter}
-use Rattle.ftn_addr.specs.Address.{Address, same_address}
-use Rattle.ftn_addr.specs.Limits.{IsAddress}
 use Rattle.ftn_addr.specs.Outcomes.{Fails}
 use Rattle.binkp_args.specs.Command.{CommandText}
 use Rattle.binkp_args.specs.declared.fault.ArgFault.{ArgFault}
 use Rattle.binkp_args.specs.declared.fault.ArgFault.TheVariants.{NoMemory as NoMemoryFault}
 use Rattle.node_model.specs.Calls.{Event, asked_of}
 use Rattle.node_model.specs.Images.{Stand}
-use Rattle.node_model.specs.Lists.{without}
 use Rattle.node_model.proofs.Rans.{ran_none}
 use Rattle.session_core.specs.Takings.{Took}
 use Rattle.session_core.specs.Takings as T
-use Rattle.session_core.specs.Stages.{Calls, Setting, Stage, Awaits_address, Awaits_login, Tally, Told}
+use Rattle.session_core.specs.Stages.{Setting, Stage, Tally, Told}
 use Rattle.session_core.specs.declared.ending.Cause.{Cause}
 use Rattle.session_core.specs.declared.ending.Cause.TheVariants as C
 use Rattle.session_core.specs.Ends.{End}
 use Rattle.session_core.specs.Ends as E
-use Rattle.session_core.specs.Says.{cause_bytes, no_password}
-use Rattle.session_core.specs.Sessions.{on, over, breaks, is_among, met, Said, Reply, Plain, ReadRow}
+use Rattle.session_core.specs.Says.{cause_bytes}
+use Rattle.session_core.specs.Sessions.{on, over, breaks, Said, Reply, Plain, ReadRow}
 use Rattle.session_core.specs.Replies.{Counts, Did, DidPlain, Made, MadeRow, NothingMore, RefusesArgument, IfMore, Writes}
 use Rattle.session_core.proofs.Writings.{wrote_all}
 
@@ -81,28 +75,6 @@ made_as P Q alone old new was now stage out out' took f m =
 pub counts_as : (P Q : List Event → Reply → Type 0) (alone : Bool) (old new : Stand) (was now : Tally) (stage : Stage) (out out' : List ℕ) (took : Took) → ((es : List Event) (r : Reply) → P es r → Q es r) → Counts P alone old new was now stage out out' took → Counts Q alone old new was now stage out out' took
 counts_as P Q alone old new was now stage out out' took f m =
     record { did = record { events = m.did.events; reply = m.did.reply; row = f (asked_of m.did.events) m.did.reply m.did.row; ran = m.did.ran; stage_is = m.did.stage_is; writes = m.did.writes }; count_is = m.count_is }
-
--- what is left of addresses within the limits is within them
-pub others_within : (home : Address) (xs : List Address) → All IsAddress xs → All IsAddress (without (same_address home) xs)
-others_within home xs all = All-filter (λ a. not (same_address home a)) IsAddress xs all
-
--- among them, by what contracts see of each
-pub list_any_map : {X Y : Type 0} (p : Y → Bool) (h : X → Y) (xs : List X) → list_any p (map h xs) ≡ list_any (λ x. p (h x)) xs
-list_any_map p h [] = refl
-list_any_map p h (x ∷ xs) = rw (list_any_map p h xs) refl
-
--- the calling side met the node that it called, or another
-pub met_it : (called : Address) (n : ℕ) (peers : List Address) → is_among called peers ≡ true → met (Calls called) n peers ≡ on (Awaits_login peers) no_password
-met_it called n peers e = rw e refl
-
-pub met_other : (called : Address) (n : ℕ) (peers : List Address) → is_among called peers ≡ false → met (Calls called) n peers ≡ breaks n Awaits_address C.NotCalled
-met_other called n peers e = rw e refl
-
-pub may : (b : Bool) (P Q : Type 0) → b ≡ true → P → MatchBool b P Q
-may b P Q e p = rw e p
-
-pub may_not : (b : Bool) (P Q : Type 0) → b ≡ false → Q → MatchBool b P Q
-may_not b P Q e q = rw e q
 
 -- a fault that is no want of memory is the definition's
 fault_told : {Y : Type 0} (fault : ArgFault) (read : Result Y ArgFault) → (fault ≡ NoMemoryFault → ⊥) → Fails NoMemoryFault fault read → read ≡ Err fault

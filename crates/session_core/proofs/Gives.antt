@@ -16,7 +16,7 @@ use Rattle.session_core.specs.Ends as E
 use Rattle.session_core.specs.Givings.{Gave}
 use Rattle.session_core.specs.Givings as G
 use Rattle.session_core.specs.Takings as T
-use Rattle.session_core.specs.Stages.{Setting, Stage, Awaits_address, Awaits_login, Talks}
+use Rattle.session_core.specs.Stages.{Stage, Logs_in, Talks}
 use Rattle.session_core.specs.Says.{message_bytes, said_bytes, fault_bytes}
 use Rattle.session_core.specs.Sessions.{GiveRow, TalkTurn, fault_end, outcome_gave, turn_of}
 use Rattle.session_core.specs.declared.stage.Talking.{Talking}
@@ -29,10 +29,9 @@ abbrev pub IsEarly : Stage → Type 0
 IsEarly (Talks talk held) = ⊥
 IsEarly stage = Unit {0}
 
-pub gave_early : (s : Setting) (stage : Stage) (alone : Bool) (desk : Stand) (out : List ℕ) → IsEarly stage → MadeTurn (GiveRow s stage) alone desk desk stage stage out out G.Waits
-gave_early s Awaits_address alone desk out early = inl (record { events = []; turn = record { output = []; gave = G.Waits; stage = Awaits_address }; row = (refl, refl); ran = ran_none alone desk; stage_is = refl; writes = gave_nothing out G.Waits })
-gave_early s (Awaits_login peers) alone desk out early = inl (record { events = []; turn = record { output = []; gave = G.Waits; stage = Awaits_login peers }; row = (refl, refl); ran = ran_none alone desk; stage_is = refl; writes = gave_nothing out G.Waits })
-gave_early s (Talks talk held) alone desk out early = absurd early
+pub gave_early : (block : ℕ) (stage : Stage) (alone : Bool) (desk : Stand) (out : List ℕ) → IsEarly stage → MadeTurn (GiveRow block stage) alone desk desk stage stage out out G.Waits
+gave_early block (Logs_in at) alone desk out early = inl (record { events = []; turn = record { output = []; gave = G.Waits; stage = Logs_in at }; row = (refl, refl); ran = ran_none alone desk; stage_is = refl; writes = gave_nothing out G.Waits })
+gave_early block (Talks talk held) alone desk out early = absurd early
 
 pub gave_finish : (block : ℕ) (talk : Talk) (held : Option Part) (alone : Bool) (desk : Stand) (out : List ℕ) → is_finished talk held ≡ true → MadeTurn (TalkTurn block talk held) alone desk desk (Talks talk held) (Talks talk held) out out (G.Ended E.Finished)
 gave_finish block talk held alone desk out done = inl (record {

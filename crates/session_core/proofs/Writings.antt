@@ -1,8 +1,12 @@
 -- What was written of what a row says.
 use Rattle.std.proofs.Common.{◌≡◌, ◌⊎◌, ◌<◌, ℕ, List, [], ◌∷◌, ◌++◌, codes, ◌∙◌, length, arith, append_assoc, ap, refl, sym, inl, inr}
 use Rattle.std.proofs.lemmas.List.{append-nil}
-use Rattle.binkp_args.specs.Command.{CommandText, Pwd, Error, Bsy, Accept}
+use Rattle.binkp_args.specs.Command.{CommandText, Adr, Error, Bsy}
 use Rattle.session_recv.specs.Replies.{command_bytes}
+use Rattle.mail_conf.specs.Conf.{ConfText}
+use Rattle.session_auth.specs.Greeting.{announced, greeting, offer_line, setting_line, time_line, version}
+use Rattle.session_auth.specs.Says.{said_bytes as login_bytes}
+use Rattle.session_auth.specs.Sides.{Side}
 use Rattle.session_core.specs.declared.ending.Cause.{Cause}
 use Rattle.session_core.specs.declared.ending.Cause.TheVariants as C
 use Rattle.session_core.specs.Ends.{End}
@@ -11,7 +15,7 @@ use Rattle.session_core.specs.Givings.{Gave}
 use Rattle.session_core.specs.Givings as G
 use Rattle.session_core.specs.Takings.{Took}
 use Rattle.session_core.specs.Takings as T
-use Rattle.session_core.specs.Says.{broken_frame, offset_again, not_called, bad_password, no_password, disk_fault, ledger_full, too_many, welcome, cause_bytes}
+use Rattle.session_core.specs.Says.{broken_frame, offset_again, not_called, disk_fault, ledger_full, too_many, cause_bytes}
 use Rattle.session_core.specs.Sessions.{Said, Gives}
 use Rattle.session_core.specs.Replies.{Writes, WritesTurn, IfMore, IfOn}
 
@@ -64,14 +68,6 @@ pub some_not_called : 0 < length not_called
 unfolding not_called
 some_not_called = some_command (Error (codes "not the called address"))
 
-pub some_bad_password : 0 < length bad_password
-unfolding bad_password
-some_bad_password = some_command (Error (codes "bad password"))
-
-pub some_password : 0 < length no_password
-unfolding no_password
-some_password = some_command (Pwd (codes "-"))
-
 pub some_disk : 0 < length disk_fault
 unfolding disk_fault
 some_disk = some_command (Error (codes "disk fault"))
@@ -84,10 +80,6 @@ pub some_many : 0 < length too_many
 unfolding too_many
 some_many = some_command (Bsy (codes "too many servers"))
 
-pub some_welcome : 0 < length welcome
-unfolding welcome
-some_welcome = some_command (Accept (codes "non-secure"))
-
 pub some_cause : (cause : Cause) → 0 < length (cause_bytes cause)
 some_cause C.Late = some_again
 some_cause (C.Arg fault) = some_broken
@@ -98,6 +90,19 @@ some_cause C.TooMuch = some_broken
 pub some_first : (xs ys : List ℕ) → 0 < length xs → 0 < length (xs ++ ys)
 some_first [] ys h = absurd (omega (arith, h))
 some_first (x ∷ xs) ys h = omega arith
+
+-- what stands behind other commands is said too
+some_behind : (said more : List CommandText) → 0 < length (login_bytes more) → 0 < length (login_bytes (said ++ more))
+some_behind [] more h = h
+some_behind (command ∷ said) more h = some_first (command_bytes command) (login_bytes (said ++ more)) (some_command command)
+
+some_last : (command : CommandText) (more : List CommandText) → 0 < length (login_bytes (command ∷ more))
+some_last command more = some_first (command_bytes command) (login_bytes more) (some_command command)
+
+-- a greeting ends with the addresses
+pub some_greeting : (side : Side) (conf : ConfText) (challenge : List ℕ) (now : ℕ) → 0 < length (login_bytes (greeting side conf challenge now))
+some_greeting side conf challenge now =
+    some_behind (offer_line side challenge ++ setting_line (codes "SYS ") conf.sysname ++ setting_line (codes "ZYZ ") conf.sysop ++ setting_line (codes "LOC ") conf.location ++ setting_line (codes "NDL ") conf.nodeinfo ++ time_line now) (version ∷ Adr (announced conf.addresses) ∷ []) (some_last version (Adr (announced conf.addresses) ∷ []))
 
 -- The same of an own turn.
 

@@ -3,8 +3,7 @@ use Rattle.std.specs.Prelude.{ℕ}
 use Rattle.session_core.specs.declared.stage.Stage.{Stage}
 use Rattle.session_core.specs.declared.stage.Stage.TheVariants as K
 
--- that of the sending half, and before login that of the setting
+-- that of the sending half, and at the login that of the setting
 abbrev pub block_at : ℕ → Stage → ℕ
-block_at block K.AwaitsAddress = block
-block_at block (K.AwaitsLogin peers) = block
+block_at block K.LogsIn = block
 block_at block (K.Talks talking) = talking.sender.block

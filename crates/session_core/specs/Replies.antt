@@ -1,5 +1,5 @@
 -- How the code's rows stand to the session's: what was asked of the desk, and what was written.
-use Rattle.std.specs.Prelude.{◌≡◌, ◌≢◌, ◌⊎◌, ℕ, Bool, List, [], ◌++◌, map, option_map}
+use Rattle.std.specs.Prelude.{◌≡◌, ◌≢◌, ◌⊎◌, ℕ, Bool, List, [], ◌++◌, option_map}
 use Rattle.ftn_addr.specs.Address.{address}
 use Rattle.binkp_args.specs.declared.fault.ArgFault.{ArgFault}
 use Rattle.binkp_args.specs.declared.fault.ArgFault.TheVariants.{NoMemory}
@@ -9,6 +9,10 @@ use Rattle.node_model.specs.Desks.{DeskPart}
 use Rattle.node_model.specs.Talk.{Talk, Verdict, AfterSend, Empty}
 use Rattle.session_send.specs.Senders.{sending_of}
 use Rattle.session_recv.specs.Replies.{held_of}
+use Rattle.mail_conf.specs.Conf.{ConfText}
+use Rattle.session_auth.specs.Sides.{Side, side_of}
+use Rattle.session_auth.specs.Views.{stage_in as login_stage}
+use Rattle.session_auth.specs.declared.auth.Auth.{Auth}
 use Rattle.session_core.specs.declared.ending.Cause.TheVariants as C
 use Rattle.session_core.specs.Ends as E
 use Rattle.session_core.specs.Givings.{Gave}
@@ -17,25 +21,15 @@ use Rattle.session_core.specs.Takings.{Took}
 use Rattle.session_core.specs.Takings as T
 use Rattle.session_core.specs.declared.login.Login.{Login as CodeLogin}
 use Rattle.session_core.specs.declared.session.Session.{Session}
-use Rattle.session_core.specs.declared.side.Side.{Side as CodeSide}
-use Rattle.session_core.specs.declared.side.Side.TheVariants as S
 use Rattle.session_core.specs.declared.stage.Stage.{Stage as CodeStage}
 use Rattle.session_core.specs.declared.stage.Stage.TheVariants as K
 use Rattle.session_core.specs.declared.stage.Talking.{Talking}
 use Rattle.session_core.specs.declared.tally.Tally.{Tally as CodeTally}
-use Rattle.session_core.specs.declared.terms.Setting.{Setting as CodeSetting}
-use Rattle.session_core.specs.Stages.{Side, Answers, Calls, Setting, Stage, Awaits_address, Awaits_login, Talks, desk_part, Login, Tally, nothing_yet, tally_along, Told, told_along}
+use Rattle.session_core.specs.Stages.{Setting, home_of, Stage, Logs_in, Talks, desk_part, Login, Tally, nothing_yet, tally_along, Told, told_along}
 use Rattle.session_core.specs.Says.{said_bytes}
 use Rattle.session_core.specs.Sessions.{Reply, Turn, Said, Gives, OwesFile, breaks, outcome_gave}
 
 -- Views.
-
-abbrev pub side_of : CodeSide → Side
-side_of S.Answers = Answers
-side_of (S.Calls called) = Calls (address called)
-
-abbrev pub setting_of : CodeSide → CodeSetting → Setting
-setting_of side s = record { side = side_of side; home = address s.home; moment = s.moment; limit = s.limit; block = s.block }
 
 abbrev pub talk_of : Talking → Talk
 talk_of t = record { role = t.role; sending = sending_of t.sender; own_end = t.own_end; peer_end = t.peer_end }
@@ -43,10 +37,12 @@ talk_of t = record { role = t.role; sending = sending_of t.sender; own_end = t.o
 abbrev pub talking_stage : Talking → Stage
 talking_stage t = Talks (talk_of t) (held_of t.receiver)
 
-abbrev pub stage_of : CodeStage → Stage
-stage_of K.AwaitsAddress = Awaits_address
-stage_of (K.AwaitsLogin peers) = Awaits_login (map address peers.addresses.items)
-stage_of (K.Talks talking) = talking_stage talking
+abbrev pub stage_with : Auth → CodeStage → Stage
+stage_with auth K.LogsIn = Logs_in (login_stage auth)
+stage_with auth (K.Talks talking) = talking_stage talking
+
+abbrev pub stage_in : Session → Stage
+stage_in s = stage_with s.auth s.stage
 
 abbrev pub login_text : CodeLogin → Login
 login_text l = record { number = l.number; peer = address l.peer }
@@ -57,17 +53,32 @@ tally_text t = record { sent = t.sent; received = t.received; skipped = t.skippe
 abbrev pub tally_of : Talking → Tally
 tally_of t = record { sent = t.sender.sent; received = t.receiver.received; skipped = t.sender.skipped }
 
--- nothing is counted before login
+-- nothing is counted at the login
 abbrev pub tally_at : CodeStage → Tally
-tally_at K.AwaitsAddress = nothing_yet
-tally_at (K.AwaitsLogin peers) = nothing_yet
+tally_at K.LogsIn = nothing_yet
 tally_at (K.Talks talking) = tally_of talking
 
 abbrev pub told_of : Session → Told
 told_of s = record { login = option_map login_text s.login; tally = tally_at s.stage }
 
-abbrev pub setting_in : Session → Setting
-setting_in s = setting_of s.side s.setting
+-- what a session has of its setting; the settings themselves are lent at each call
+pub record Lent : Type 0 where
+  pub side : Side
+  pub challenge : List ℕ
+  pub moment : ℕ
+  pub limit : ℕ
+  pub block : ℕ
+
+abbrev pub lent_in : Session → Lent
+lent_in s = record { side = side_of s.auth.side; challenge = s.auth.challenge; moment = s.setting.moment; limit = s.setting.limit; block = s.setting.block }
+
+abbrev pub setting_with : Lent → ConfText → Setting
+setting_with l conf =
+    record { side = l.side; conf = conf; challenge = l.challenge; home = home_of conf.addresses; moment = l.moment; limit = l.limit; block = l.block }
+
+-- with these settings
+abbrev pub setting_in : Session → ConfText → Setting
+setting_in s conf = setting_with (lent_in s) conf
 
 -- What was written.
 
@@ -173,15 +184,8 @@ pub record SitsOn (ready : Type 0) (part : DeskPart) (stage : Stage) (gave : Gav
 
 -- what a session is lent, and the number of its last frame, stay
 pub record Keeps (old new : Session) : Type 0 where
-  pub setting_is : setting_in new ≡ setting_in old
+  pub lent_is : lent_in new ≡ lent_in old
   pub frames_is : new.frames ≡ old.frames
-
--- before login: a row was made that asks the desk for nothing, or none, for want of memory; nothing is open then
-pub record DidEarly (reply : Reply) (old new : Session) (out out' : List ℕ) (took : Took) : Type 0 where
-  pub row : DidPlain reply (stage_of new.stage) out out' took ⊎ NothingMore out out' took
-  pub keeps : Keeps old new
-  pub told_is : told_of new ≡ told_of old
-  pub shut : IfMore took (desk_part (stage_of new.stage) ≡ desk_part Awaits_address)
 
 -- nothing is offered: the own batch ends, or waits for the end of the peer's
 pub record EndsBatch (old new : Talking) (out out' : List ℕ) (gave : Gave) : Type 0 where

@@ -1,15 +1,13 @@
--- What a session says (FTS-1026; the texts of M_OK, M_ERR, M_BSY and VER are own).
-use Rattle.std.specs.Prelude.{ℕ, Bool, true, false, List, [], ◌∷◌, ◌++◌, codes}
+-- What a session says beside its login (FTS-1026; the texts of M_ERR and M_BSY are own).
+use Rattle.std.specs.Prelude.{ℕ, Bool, true, false, List, [], codes}
 use Rattle.std.specs.List.{flat_map}
-use Rattle.ftn_addr.specs.Address.{Address}
-use Rattle.binkp_args.specs.Command.{Nul, Adr, Pwd, Accept, Eob, Error, Bsy}
+use Rattle.binkp_args.specs.Command.{Eob, Error, Bsy}
 use Rattle.node_model.specs.Calls.{Fault, Disk, Read, Full, No_memory}
 use Rattle.node_model.specs.Talk.{Message, File, Data, Got, Get, Skip, End, RowEnd, Finished, Out_of_turn, Too_late, Too_much, Refused_by}
 use Rattle.session_send.specs.Senders.{offer_bytes, empty_frame}
 use Rattle.session_recv.specs.Replies.{command_bytes, reply_bytes}
 use Rattle.session_core.specs.declared.ending.Cause.{Cause}
 use Rattle.session_core.specs.declared.ending.Cause.TheVariants as C
-use Rattle.session_core.specs.Stages.{Side, Answers, Calls}
 
 -- the frame of a message: M_EOB is the session's own, the others are those of its halves
 abbrev pub message_bytes : Message → List ℕ
@@ -28,25 +26,6 @@ abbrev pub filling : Bool → List ℕ
 filling true = empty_frame
 filling false = []
 
-unfoldable pub version : List ℕ
-version = command_bytes (Nul (codes "VER binkp_mailer/1.0 binkp/1.0"))
-
--- VER alone, and the own address
-abbrev pub greeting : Address → List ℕ
-greeting home = version ++ command_bytes (Adr (home ∷ []))
-
--- the password of the calling side: none
-unfoldable pub no_password : List ℕ
-no_password = command_bytes (Pwd (codes "-"))
-
-unfoldable pub welcome : List ℕ
-welcome = command_bytes (Accept (codes "non-secure"))
-
--- what lets the peer in: the answering side says so
-abbrev pub welcome_of : Side → List ℕ
-welcome_of Answers = welcome
-welcome_of (Calls called) = []
-
 unfoldable pub broken_frame : List ℕ
 broken_frame = command_bytes (Error (codes "broken frame"))
 
@@ -55,9 +34,6 @@ offset_again = command_bytes (Error (codes "offset again"))
 
 unfoldable pub not_called : List ℕ
 not_called = command_bytes (Error (codes "not the called address"))
-
-unfoldable pub bad_password : List ℕ
-bad_password = command_bytes (Error (codes "bad password"))
 
 unfoldable pub disk_fault : List ℕ
 disk_fault = command_bytes (Error (codes "disk fault"))

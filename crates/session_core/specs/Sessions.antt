@@ -1,15 +1,18 @@
 -- The rows of a session over frames: its login, the messages after it, and its own turn (FTS-1026, session stages).
-use Rattle.std.specs.Prelude.{◌≡◌, ◌⊎◌, ℕ, ◌-◌, ◌^◌, ◌<◌, min, Bool, false, nat_eq, MatchBool, if◌then◌else◌, List, [], ◌∷◌, ◌++◌, length, Option, None, Result, Ok, Err, codes}
-use Rattle.std.specs.List.{list_any}
-use Rattle.std.specs.Cmp.Lexicographic.{pointwise}
-use Rattle.ftn_addr.specs.Address.{Address, same_address}
+use Rattle.std.specs.Prelude.{◌≡◌, ◌⊎◌, ℕ, ◌-◌, ◌^◌, ◌<◌, min, Bool, false, List, [], ◌++◌, length, Option, None, Result, Ok, Err}
+use Rattle.ftn_addr.specs.Address.{Address}
 use Rattle.ftn_addr.specs.Frames.{FrameText, Command as CommandFrame, Data as DataFrame}
 use Rattle.binkp_args.specs.declared.fault.ArgFault.{ArgFault}
 use Rattle.binkp_args.specs.declared.fault.ArgFault.TheVariants.{NoAddress}
 use Rattle.binkp_args.specs.Command.{CommandText, Nul, Adr, Pwd, File as FileCommand, Accept, Eob, Got as GotCommand, Error, Bsy, Get as GetCommand, Skip as SkipCommand, Other, command_of}
-use Rattle.node_model.specs.Lists.{without}
 use Rattle.node_model.specs.Calls.{Open_call, Fault, Disk, Read, Full, No_memory, Answer, Let_in, Busy, Begun, Refused, Event, one}
 use Rattle.node_model.specs.Talk.{Message, File, Data, Got, Get, Skip, End as EndMessage, Talk, first_words, Part, RowEnd, Finished, Out_of_turn, Too_late, Too_much, Refused_by, Outcome, Goes_on, Waits, Ends, Verdict, TakeRow, TurnRow}
+use Rattle.session_auth.specs.Greeting.{greeting}
+use Rattle.session_auth.specs.Login.{Terms, Stage as LoginStage, Step, More as LoginMore, In, Bad_password, Peer_error, Peer_busy, Broke, reply_to}
+use Rattle.session_auth.specs.Says.{said_bytes as login_bytes}
+use Rattle.session_auth.specs.Sides.{Side}
+use Rattle.session_auth.specs.declared.steps.LoginFault.{LoginFault}
+use Rattle.session_auth.specs.declared.steps.LoginFault.TheVariants as F
 use Rattle.session_send.specs.Senders.{IsDue, CommandRow as SenderRow}
 use Rattle.session_recv.specs.Replies.{held_along}
 use Rattle.session_core.specs.declared.ending.Cause.{Cause}
@@ -20,8 +23,8 @@ use Rattle.session_core.specs.Takings.{Took}
 use Rattle.session_core.specs.Takings as T
 use Rattle.session_core.specs.Givings.{Gave}
 use Rattle.session_core.specs.Givings as G
-use Rattle.session_core.specs.Stages.{Side, Answers, Calls, role_of, Setting, Stage, Awaits_address, Awaits_login, Talks}
-use Rattle.session_core.specs.Says.{said_bytes, filling, greeting, no_password, welcome_of, bad_password, too_many, cause_bytes, fault_bytes, last_words}
+use Rattle.session_core.specs.Stages.{role_of, Setting, Stage, Logs_in, Talks, at_first}
+use Rattle.session_core.specs.Says.{said_bytes, filling, too_many, cause_bytes, fault_bytes, last_words}
 
 -- Ends.
 
@@ -65,87 +68,42 @@ breaks n stage cause = over stage (cause_bytes cause) (E.Broke cause n)
 abbrev pub Plain : Reply → List Event → Reply → Type 0
 Plain reply es r = (es ≡ []) × (r ≡ reply)
 
--- Before login.
+-- The login, whose rows are those of `session_auth`.
 
--- the called address is among the peer's
-abbrev pub is_among : Address → List Address → Bool
-is_among called peers = list_any (same_address called) peers
+-- what it goes by
+abbrev pub terms_of : Setting → Terms
+terms_of s = record { side = s.side; challenge = s.challenge; conf = s.conf }
 
--- the calling side wants the node that it called, and says its password
-abbrev pub met : Side → ℕ → List Address → Reply
-met Answers n peers = on (Awaits_login peers) []
-met (Calls called) n peers = if is_among called peers then on (Awaits_login peers) no_password else breaks n Awaits_address C.NotCalled
+abbrev pub cause_of : LoginFault → Cause
+cause_of F.NoAddress = C.Arg NoAddress
+cause_of F.NotCalled = C.NotCalled
+cause_of F.OutOfTurn = C.OutOfTurn
 
--- the peer's addresses without the own one; none is no address
-abbrev pub named : Side → ℕ → List Address → Reply
-named side n [] = breaks n Awaits_address (C.Arg NoAddress)
-named side n (first ∷ others) = met side n (first ∷ others)
+-- the peer is in once the desk has opened its session; what the login says stands before a refusal
+abbrev pub AfterBegin : Side → LoginStage → List ℕ → Answer → Reply → Type 0
+AfterBegin side at said (Begun number) r = r ≡ on (Talks (first_words (role_of side)) None) said
+AfterBegin side at said (Refused fault) r = r ≡ over (Logs_in at) (said ++ fault_bytes fault) (fault_end fault)
+AfterBegin side at said _ r = ⊥
 
--- M_PWD before M_ADR
-abbrev pub early_password : Side → ℕ → Reply
-early_password Answers n = breaks n Awaits_address C.OutOfTurn
-early_password (Calls called) n = on Awaits_address []
-
--- M_OK before the own password
-abbrev pub early_word : Side → ℕ → Reply
-early_word Answers n = on Awaits_address []
-early_word (Calls called) n = breaks n Awaits_address C.OutOfTurn
-
--- a command before the peer's addresses
-abbrev pub before_address : Setting → ℕ → CommandText → Reply
-before_address s n (Nul text) = on Awaits_address []
-before_address s n (Adr addresses) = named s.side n (without (same_address s.home) addresses)
-before_address s n (Pwd text) = early_password s.side n
-before_address s n (FileCommand key offset) = breaks n Awaits_address C.OutOfTurn
-before_address s n (Accept text) = early_word s.side n
-before_address s n Eob = breaks n Awaits_address C.OutOfTurn
-before_address s n (GotCommand key) = breaks n Awaits_address C.OutOfTurn
-before_address s n (Error text) = over Awaits_address [] (E.PeerError text)
-before_address s n (Bsy text) = over Awaits_address [] E.PeerBusy
-before_address s n (GetCommand key offset) = breaks n Awaits_address C.OutOfTurn
-before_address s n (SkipCommand key) = breaks n Awaits_address C.OutOfTurn
-before_address s n (Other number) = on Awaits_address []
-
--- the peer is in once the desk has opened its session
-abbrev pub AfterBegin : Side → List Address → Answer → Reply → Type 0
-AfterBegin side peers (Begun number) r = r ≡ on (Talks (first_words (role_of side)) None) (welcome_of side)
-AfterBegin side peers (Refused fault) r = r ≡ over (Awaits_login peers) (welcome_of side ++ fault_bytes fault) (fault_end fault)
-AfterBegin side peers _ r = ⊥
-
-pub record LoginRow (s : Setting) (peers : List Address) (es : List Event) (r : Reply) : Type 0 where
+-- these peers are to be let in, by a login that is secure or not
+pub record BeginRow (s : Setting) (at : LoginStage) (said : List ℕ) (peers : List Address) (secure : Bool) (es : List Event) (r : Reply) : Type 0 where
   pub answer : Answer
-  pub asks : es ≡ one (Open_call (role_of s.side) peers false s.moment) answer
-  pub follows : AfterBegin s.side peers answer r
+  pub asks : es ≡ one (Open_call (role_of s.side) peers secure s.moment) answer
+  pub follows : AfterBegin s.side at said answer r
 
--- a password of one hyphen is none
-abbrev pub is_none : List ℕ → Bool
-is_none text = pointwise nat_eq text (45 ∷ [])
+-- what becomes of the session by a step of its login
+abbrev pub StepRow : Setting → ℕ → LoginStage → List ℕ → Step → List Event → Reply → Type 0
+StepRow s n at said (LoginMore stage) es r = Plain (on (Logs_in stage) said) es r
+StepRow s n at said (In peers secure) es r = BeginRow s at said peers secure es r
+StepRow s n at said (Bad_password wanted given) es r = Plain (over (Logs_in at) said (E.BadPassword wanted given)) es r
+StepRow s n at said (Peer_error text) es r = Plain (over (Logs_in at) said (E.PeerError text)) es r
+StepRow s n at said Peer_busy es r = Plain (over (Logs_in at) said E.PeerBusy) es r
+StepRow s n at said (Broke fault) es r = Plain (over (Logs_in at) said (E.Broke (cause_of fault) n)) es r
 
--- M_PWD: the answering side wants none
-abbrev pub PasswordRow : Side → Setting → List Address → List ℕ → List Event → Reply → Type 0
-PasswordRow Answers s peers text es r =
-    MatchBool (is_none text) (LoginRow s peers es r) (Plain (over (Awaits_login peers) bad_password (E.BadPassword (codes "-") text)) es r)
-PasswordRow (Calls called) s peers text es r = Plain (on (Awaits_login peers) []) es r
-
--- M_OK: the calling side is in
-abbrev pub AcceptRow : Side → Setting → List Address → List Event → Reply → Type 0
-AcceptRow Answers s peers es r = Plain (on (Awaits_login peers) []) es r
-AcceptRow (Calls called) s peers es r = LoginRow s peers es r
-
--- a command between the peer's addresses and the login
-abbrev pub BeforeLogin : Setting → ℕ → List Address → CommandText → List Event → Reply → Type 0
-BeforeLogin s n peers (Nul text) es r = Plain (on (Awaits_login peers) []) es r
-BeforeLogin s n peers (Adr addresses) es r = Plain (on (Awaits_login peers) []) es r
-BeforeLogin s n peers (Pwd text) es r = PasswordRow s.side s peers text es r
-BeforeLogin s n peers (FileCommand key offset) es r = Plain (breaks n (Awaits_login peers) C.OutOfTurn) es r
-BeforeLogin s n peers (Accept text) es r = AcceptRow s.side s peers es r
-BeforeLogin s n peers Eob es r = Plain (breaks n (Awaits_login peers) C.OutOfTurn) es r
-BeforeLogin s n peers (GotCommand key) es r = Plain (breaks n (Awaits_login peers) C.OutOfTurn) es r
-BeforeLogin s n peers (Error text) es r = Plain (over (Awaits_login peers) [] (E.PeerError text)) es r
-BeforeLogin s n peers (Bsy text) es r = Plain (over (Awaits_login peers) [] E.PeerBusy) es r
-BeforeLogin s n peers (GetCommand key offset) es r = Plain (breaks n (Awaits_login peers) C.OutOfTurn) es r
-BeforeLogin s n peers (SkipCommand key) es r = Plain (breaks n (Awaits_login peers) C.OutOfTurn) es r
-BeforeLogin s n peers (Other number) es r = Plain (on (Awaits_login peers) []) es r
+-- a command where the login stands there
+abbrev pub LoginRow : Setting → ℕ → LoginStage → CommandText → List Event → Reply → Type 0
+LoginRow s n at command es r =
+    StepRow s n at (login_bytes (reply_to (terms_of s) at command).said) (reply_to (terms_of s) at command).step es r
 
 -- After login.
 
@@ -193,8 +151,7 @@ LoggedRow n talk held (Other number) es r = Plain (on (Talks talk held) []) es r
 -- Frames.
 
 abbrev pub CommandRow : Setting → ℕ → Stage → CommandText → List Event → Reply → Type 0
-CommandRow s n Awaits_address command es r = Plain (before_address s n command) es r
-CommandRow s n (Awaits_login peers) command es r = BeforeLogin s n peers command es r
+CommandRow s n (Logs_in at) command es r = LoginRow s n at command es r
 CommandRow s n (Talks talk held) command es r = LoggedRow n talk held command es r
 
 abbrev pub ReadRow : Setting → ℕ → Stage → Result CommandText ArgFault → List Event → Reply → Type 0
@@ -212,9 +169,9 @@ Row s n stage (DataFrame bytes) es r = DataRow n stage bytes es r
 
 -- the first turn: this side knocks at its desk, and greets the peer or turns it away
 abbrev pub AfterKnock : Setting → Answer → Reply → Type 0
-AfterKnock s Let_in r = r ≡ on Awaits_address (greeting s.home)
-AfterKnock s Busy r = r ≡ over Awaits_address too_many E.TurnedAway
-AfterKnock s (Refused fault) r = r ≡ over Awaits_address (fault_bytes fault) (fault_end fault)
+AfterKnock s Let_in r = r ≡ on at_first (login_bytes (greeting s.side s.conf s.challenge s.moment))
+AfterKnock s Busy r = r ≡ over at_first too_many E.TurnedAway
+AfterKnock s (Refused fault) r = r ≡ over at_first (fault_bytes fault) (fault_end fault)
 AfterKnock s _ r = ⊥
 
 -- The own turn.
@@ -238,10 +195,10 @@ pub record TalkTurn (block : ℕ) (talk : Talk) (held : Option Part) (es : List 
   pub row : TurnRow block held talk es verdict
   pub is : t ≡ turn_of held verdict
 
--- before login it waits
-abbrev pub GiveRow : Setting → Stage → List Event → Turn → Type 0
-GiveRow s (Talks talk held) es t = TalkTurn s.block talk held es t
-GiveRow s stage es t = (es ≡ []) × (t ≡ record { output = []; gave = G.Waits; stage = stage })
+-- at the login it waits
+abbrev pub GiveRow : (block : ℕ) → Stage → List Event → Turn → Type 0
+GiveRow block (Talks talk held) es t = TalkTurn block talk held es t
+GiveRow block stage es t = (es ≡ []) × (t ≡ record { output = []; gave = G.Waits; stage = stage })
 
 -- the own turn says something of the file under way
 abbrev pub OwesFile : Stage → Type 0

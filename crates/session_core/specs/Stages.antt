@@ -1,43 +1,55 @@
--- The two sides of a session, what it is lent, how far it has come, and its login (FTS-1026, session stages).
+-- What a session is lent, how far it has come, and its login (FTS-1026, session stages).
 use Rattle.std.specs.Prelude.{ℕ, true, false, List, [], ◌∷◌, Option, Some, None}
 use Rattle.ftn_addr.specs.Address.{Address}
+use Rattle.cram_md5.specs.Offer.{Absent}
+use Rattle.mail_conf.specs.Conf.{ConfText}
 use Rattle.node_model.specs.declared.words.Role.{Role}
 use Rattle.node_model.specs.declared.words.Role.TheVariants as R
 use Rattle.node_model.specs.Calls.{Call, Open_call, Answer, Begun, Event}
 use Rattle.node_model.specs.Desks.{DeskPart}
 use Rattle.node_model.specs.Talk.{Talk, Part}
+use Rattle.session_auth.specs.Login.{Stage as LoginStage, Awaits_address}
+use Rattle.session_auth.specs.Sides.{Side, Answers, Calls}
 use Rattle.session_send.specs.Senders.{claim_of, sent_after, skipped_after}
 use Rattle.session_recv.specs.Replies.{received_after}
-
--- the peer called, or this side called the node of that address
-pub data Side : Type 0 where
-  Answers : Side
-  Calls : (called : Address) → Side
 
 abbrev pub role_of : Side → Role
 role_of Answers = R.Answers
 role_of (Calls called) = R.Calls
 
--- what a session is lent: its side, its own address, the moment, the most bytes that it takes and writes, and the most
--- bytes of data in a frame
+-- the home is the first own address; settings have one
+abbrev pub home_of : List Address → Address
+home_of [] = record { zone = 0; net = 0; node = 0; point = 0; domain = [] }
+home_of (home ∷ others) = home
+
+-- what a session is lent: its side, the settings, the challenge that it offers, its home, the moment, the most bytes that it
+-- takes and writes, and the most bytes of data in a frame
 pub record Setting : Type 0 where
   pub side : Side
+  pub conf : ConfText
+  pub challenge : List ℕ
   pub home : Address
   pub moment : ℕ
   pub limit : ℕ
   pub block : ℕ
 
--- before the peer's addresses; with these, before the answering side has the password, and the calling side the word that
--- its own is accepted; and after login, with the file that is held
+-- the home, the limit and the block are those of the settings
+abbrev pub setting_of : Side → ConfText → List ℕ → ℕ → Setting
+setting_of side conf challenge now =
+    record { side = side; conf = conf; challenge = challenge; home = home_of conf.addresses; moment = now; limit = conf.session_limit; block = conf.block }
+
+-- at its login; and after it, with the file that is held
 pub data Stage : Type 0 where
-  Awaits_address : Stage
-  Awaits_login : (peers : List Address) → Stage
+  Logs_in : (at : LoginStage) → Stage
   Talks : (talk : Talk) (held : Option Part) → Stage
+
+-- before the peer's addresses, with no offer of the peer's
+abbrev pub at_first : Stage
+at_first = Logs_in (Awaits_address Absent)
 
 -- what the desk has of a session at that stage
 abbrev pub desk_part : Stage → DeskPart
-desk_part Awaits_address = record { open_now = false; claim = None; held = None }
-desk_part (Awaits_login peers) = record { open_now = false; claim = None; held = None }
+desk_part (Logs_in at) = record { open_now = false; claim = None; held = None }
 desk_part (Talks talk held) = record { open_now = true; claim = claim_of talk.sending; held = held }
 
 -- the session's number at its desk, and the peer's first address

@@ -22,12 +22,7 @@ impl Session {
         ensures { tally_text result ≡ tally_at self.now.stage }
     {
         match &self.stage {
-            Stage::AwaitsAddress => Tally {
-                sent: 0,
-                received: 0,
-                skipped: 0,
-            },
-            Stage::AwaitsLogin(_) => Tally {
+            Stage::LogsIn => Tally {
                 sent: 0,
                 received: 0,
                 skipped: 0,

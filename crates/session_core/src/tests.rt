@@ -1,5 +1,6 @@
 //! Sessions at a small desk, by the bytes that they write. These are counted by hand from FTS-1026.
-ghost use Rattle.std.specs.Prelude.{IfOk};
+ghost use Rattle.std.specs.Prelude.{◌≡◌, map, IfOk};
+ghost use Rattle.binkp_args.specs.Limits.{AreAddresses};
 ghost use Rattle.ftn_addr.specs.Address.{address};
 ghost use Rattle.ftn_addr.specs.Limits.{IsAddress};
 
@@ -13,6 +14,7 @@ mod words;
 use crate::tests::rig::Rig;
 use crate::{End, Gave, Side, Took};
 use ftn_addr::{Addr, Bytes, NoMemory};
+use mail_conf::{Conf, read_conf};
 use std::alloc::Global;
 use std::process::Abort;
 use std::test::Fail;
@@ -43,6 +45,14 @@ pub const PEER: &[u8] = b"2:5047/13@fidonet";
 
 pub const BROKEN: &[u8] = b"\x80\x0d\x07broken frame";
 
+/// The moment of the sessions, in seconds since 1970.
+pub const NOW: u64 = 1_000_000_000;
+
+/// The challenge of the example of FTS-1027.
+pub const CHALLENGE: [u8; 16] = [
+    0xf0, 0x31, 0x5b, 0x07, 0x4d, 0x72, 0x8d, 0x48, 0x3d, 0x68, 0x87, 0xd0, 0x18, 0x2f, 0xc3, 0x28,
+];
+
 /// 2:5020/1042@fidonet.
 pub fn own(alloc: Global) -> Result<Addr, NoMemory>
     ensures { IfOk result (λ addr. IsAddress (address addr)) }
@@ -67,18 +77,54 @@ pub fn peer(alloc: Global) -> Result<Addr, NoMemory> {
     })
 }
 
-/// The answering side, before the first frame.
-pub fn answering(alloc: Global) -> Result<Rig, NoMemory> {
-    Ok(Rig::new(alloc, Side::Answers, own(alloc)?, 4_096))
+fn own_addresses(alloc: Global) -> Result<Vec<Addr>, NoMemory>
+    ensures { IfOk result (λ addresses. AreAddresses (map address addresses.items)) }
+{
+    let mut addresses = Vec::new(alloc);
+    addresses.push(own(alloc)?)?;
+    Ok(addresses)
 }
 
-/// The side that called 2:5047/13@fidonet, before the first frame.
-pub fn calling(alloc: Global) -> Result<Rig, NoMemory> {
-    Ok(Rig::new(alloc, Side::Calls(peer(alloc)?), own(alloc)?, 4_096))
+/// The settings of 2:5020/1042@fidonet with these lines, whose frames have at most 4,096 bytes of data.
+pub fn settings(alloc: Global, lines: &[u8]) -> Result<Conf, Fail>
+    ensures own { IfOk result (λ conf. AreAddresses (map address conf.addresses.items)) }
+    ensures block { IfOk result (λ conf. conf.block ≡ 4096) }
+{
+    let mut text = Bytes::from_slice(alloc, b"domain fidonet out 2\naddress 5020/1042\n")?;
+    text.push_slice(lines)?;
+    match read_conf(alloc, text.as_slice()) {
+        Ok(mut conf) => {
+            conf.addresses = own_addresses(alloc)?;
+            conf.block = 4_096;
+            Ok(conf)
+        }
+        Err(_) => Err(Fail::from("no settings")),
+    }
+}
+
+/// The answering side with these settings, before the first frame. It stands in a box: proofs about a value that is handed on are
+/// much shorter then.
+pub fn answering_with(alloc: Global, lines: &[u8]) -> Result<Box<Rig>, Fail> {
+    let rig = Rig::new(alloc, Side::Answers, settings(alloc, lines)?);
+    Ok(Box::new(alloc, rig)?)
+}
+
+/// The side that called 2:5047/13@fidonet with these settings, before the first frame.
+pub fn calling_with(alloc: Global, lines: &[u8]) -> Result<Box<Rig>, Fail> {
+    let rig = Rig::new(alloc, Side::Calls(peer(alloc)?), settings(alloc, lines)?);
+    Ok(Box::new(alloc, rig)?)
+}
+
+pub fn answering(alloc: Global) -> Result<Box<Rig>, Fail> {
+    answering_with(alloc, b"")
+}
+
+pub fn calling(alloc: Global) -> Result<Box<Rig>, Fail> {
+    calling_with(alloc, b"")
 }
 
 /// The answering side behind a login.
-pub fn answered(rt: &impl Abort, alloc: Global) -> Result<Rig, NoMemory> {
+pub fn answered(rt: &impl Abort, alloc: Global) -> Result<Box<Rig>, Fail> {
     let mut rig = answering(alloc)?;
     goes_on(rt, rig.hear(alloc, ADR, PEER)?);
     goes_on(rt, rig.hear(alloc, PWD, b"-")?);
@@ -87,7 +133,7 @@ pub fn answered(rt: &impl Abort, alloc: Global) -> Result<Rig, NoMemory> {
 }
 
 /// The calling side behind a login.
-pub fn called(rt: &impl Abort, alloc: Global) -> Result<Rig, NoMemory> {
+pub fn called(rt: &impl Abort, alloc: Global) -> Result<Box<Rig>, Fail> {
     let mut rig = calling(alloc)?;
     goes_on(rt, rig.hear(alloc, ADR, PEER)?);
     goes_on(rt, rig.hear(alloc, OK, b"non-secure")?);

@@ -26,6 +26,43 @@ pub fn cross(alloc: Global, near: &mut Post, far: &mut Post) -> Result<(), NoMem
     Ok(())
 }
 
+/// Lets two nodes hold two sessions with one another, each over a line of its own, of which the first is cut: it stands where
+/// the far node has taken the near node's first M_FILE and no data, until the second session is over.
+pub fn cross_and_cut(alloc: Global, near: &mut Post, far: &mut Post) -> Result<(), NoMemory> {
+    begin_to_send(alloc, near, far)?;
+    swap(near, far);
+    finish(alloc, near, far)?;
+    swap(near, far);
+    near.cut_if(true);
+    far.cut_if(true);
+    finish(alloc, near, far)
+}
+
+// The first session up to the near node's first M_FILE, which the far node reads, and then takes.
+fn begin_to_send(alloc: Global, near: &mut Post, far: &mut Post) -> Result<(), NoMemory> {
+    for _ in 0..LOGIN {
+        half_round(alloc, near, far)?;
+        if near.own.is_sending() {
+            break;
+        }
+        half_round(alloc, far, near)?;
+    }
+    far.turn(alloc);
+    far.turn(alloc);
+    Ok(())
+}
+
+// Lets one session make its turns at both ends until it is over.
+fn finish(alloc: Global, near: &mut Post, far: &mut Post) -> Result<(), NoMemory> {
+    for _ in 0..ROUNDS {
+        if near.own.is_over() && far.own.is_over() {
+            break;
+        }
+        round(alloc, near, far)?;
+    }
+    Ok(())
+}
+
 fn begin(alloc: Global, near: &mut Post, far: &mut Post) -> Result<(), NoMemory> {
     for _ in 0..LOGIN {
         round(alloc, near, far)?;

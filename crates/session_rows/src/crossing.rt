@@ -1,32 +1,29 @@
 //! A node that holds two sessions at a time, each over a line of its own.
 ghost use Rattle.std.specs.Prelude.{◌≡◌, ◌<◌, ◌≢◌, length, IfOk, IfSome, IsTrue};
-ghost use Rattle.ftn_addr.specs.Address.{address as address_of};
-ghost use Rattle.ftn_addr.specs.Limits.{IsAddress};
 ghost use Rattle.list_store.specs.ListStates.{stand_of};
 ghost use Rattle.hub_core.specs.Hubs.{IsReady, hub_stand, hub_state, settings_of};
 ghost use Rattle.hub_core.specs.Opening.{IsWhole, no_seats, with_seat};
 ghost use Rattle.session_rows.specs.Halves.{MayGoOn};
 ghost use Rattle.session_rows.specs.Crossings.{CameIn, GoesOn, HoldsBoth, MayBegin, MayTell, MayTurnLeg, Ran, Rests, TurnRan};
 
-use crate::half::setting;
-use crate::node::{Node, Who};
+use crate::node::Node;
+use crate::who::Who;
 use binkp_link::MemPipe;
-use ftn_addr::{Addr, NoMemory};
+use ftn_addr::NoMemory;
 use hub_core::{Desk, Hub, HubConf, HubDesk, Knock};
 use list_store::ListStore;
 use node_model::Role;
-use session_core::Side;
+use session_core::{Side, Stage};
 use session_run::{Course, Report, Turn};
 use std::alloc::Global;
 use std::marker::Model;
 use std::mem;
 
-/// A session that is to come: the own address that it says, and its side.
+/// A session that is to come: who the node says that it is, and its side.
 #[derive(Drop)]
 pub struct Plan {
-    pub home: Addr,
+    pub who: Who,
     pub side: Side,
-    pub ghost home_is: { IsAddress (address_of home) },
 }
 
 /// What a node has of one of its two sessions.
@@ -40,9 +37,10 @@ pub enum Told {
     Lost,
 }
 
-/// One of a node's two sessions: its end of the line, and its seat.
+/// One of a node's two sessions: who the node is in it, its end of the line, and its seat.
 #[derive(Drop)]
 pub struct Leg {
+    pub who: Who,
     pub pipe: MemPipe,
     pub seat: u32,
     pub told: Told,
@@ -76,11 +74,13 @@ impl Leg {
         ensures begins { MayBegin result.pipe result.told }
         ensures seat { result.seat ≡ seat }
     {
-        let Plan { home, side } = plan;
+        let Plan { who, side } = plan;
+        let told = Told::Goes(who.begin(alloc, side));
         Leg {
+            who,
             pipe: MemPipe::new(alloc),
             seat,
-            told: Told::Goes(Course::new(alloc, side, setting(home))),
+            told,
         }
     }
 
@@ -102,6 +102,18 @@ impl Leg {
         }
     }
 
+    /// Whether it sends a file.
+    pub fn is_sending(&self) -> bool {
+        match &self.told {
+            Told::Goes(course) => match &course.run.session.stage {
+                Stage::Talks(talking) => talking.sender.sending.is_some(),
+                Stage::LogsIn => false,
+            },
+            Told::Over(_) => false,
+            Told::Lost => false,
+        }
+    }
+
     // Whether its end is there, and it isn't closed yet.
     fn is_draining(&self) -> bool {
         match &self.told {
@@ -113,11 +125,11 @@ impl Leg {
 }
 
 impl Post {
-    /// A node with two sessions that are to come, the first one at its second seat. Each says that own address.
+    /// A node with two sessions that are to come, the first one at its second seat.
     #[tactic(auto, using(crate::proofs::Resting::both_begin))]
     pub fn new(alloc: Global, node: Node, first: Plan, second: Plan) -> Result<Post, NoMemory> {
         let Node { who, store } = node;
-        let desk = second_desk(alloc, store, who.conf(alloc)?)?;
+        let desk = second_desk(alloc, store, who.hub_conf(alloc)?)?;
         Ok(Post {
             who,
             desk,
@@ -227,7 +239,7 @@ fn turn_beside(
 {
     let seat = own.seat;
     desk.seat = seat;
-    match turned(alloc, &mut own.pipe, course, desk) {
+    match turned(alloc, &mut own.pipe, &own.who, course, desk) {
         Some(told) => {
             own.set(told);
             if !is_given(&desk.hub, other.seat, seat) {
@@ -245,6 +257,7 @@ fn turn_beside(
 fn turned(
     alloc: Global,
     pipe: &mut MemPipe,
+    who: &Who,
     course: Course,
     desk: &mut HubDesk<ListStore>,
 ) -> Option<Told>
@@ -259,7 +272,7 @@ fn turned(
         drop(course);
         return None;
     }
-    Some(go_on(alloc, pipe, course, desk))
+    Some(go_on(alloc, pipe, who, course, desk))
 }
 
 // Whether the store isn't broken. It asks by a call that changes nothing.
@@ -272,14 +285,20 @@ fn is_sound(desk: &mut HubDesk<ListStore>) -> bool
     matches!(desk.knock(Role::Calls), Ok(Knock::Come))
 }
 
-fn go_on(alloc: Global, pipe: &mut MemPipe, course: Course, desk: &mut HubDesk<ListStore>) -> Told
+fn go_on(
+    alloc: Global,
+    pipe: &mut MemPipe,
+    who: &Who,
+    course: Course,
+    desk: &mut HubDesk<ListStore>,
+) -> Told
     requires { MayGoOn (stand_of desk.old.hub.store) (hub_state desk.old.hub.seats) desk.old.seat course pipe.old }
     ensures ready { IsReady (stand_of desk.new.hub.store) (hub_state desk.new.hub.seats) desk.new.seat }
     ensures ran { TurnRan (hub_stand (stand_of desk.old.hub.store) (hub_state desk.old.hub.seats) desk.old.seat) (hub_stand (stand_of desk.new.hub.store) (hub_state desk.new.hub.seats) desk.new.seat) }
     ensures may { GoesOn (stand_of desk.new.hub.store) (hub_state desk.new.hub.seats) desk.new.seat pipe.new result }
 {
     let mut course = course;
-    match course.turn(alloc, pipe, desk) {
+    match course.turn(alloc, pipe, &who.conf, desk) {
         Turn::More => Told::Goes(course),
         Turn::Ended(report) => {
             drop(course);

@@ -1,29 +1,19 @@
 //! One end of a line, with the session that a node holds over it.
 ghost use Rattle.std.specs.Prelude.{◌≡◌, ◌^◌, ◌<◌, ◌≤◌, IfOk};
-ghost use Rattle.ftn_addr.specs.Address.{address as address_of};
-ghost use Rattle.ftn_addr.specs.Limits.{IsAddress};
 ghost use Rattle.session_rows.specs.Halves.{MayStep};
 ghost use Rattle.session_rows.specs.declared.half.Holding.TheVariants as H;
 
-use crate::node::{Node, Who};
+use crate::node::Node;
+use crate::who::Who;
 use binkp_link::MemPipe;
-use ftn_addr::{Addr, NoMemory};
+use ftn_addr::NoMemory;
 use hub_core::{Hub, HubDesk};
 use list_store::ListStore;
-use session_core::{Setting, Side};
+use session_core::Side;
 use session_run::{Course, Report, Turn};
 use std::alloc::Global;
 use std::marker::Model;
 use std::mem;
-
-/// The most bytes that a session of the tests takes and writes, together: 16 TiB.
-const SESSION_LIMIT: u64 = 17_592_186_044_416;
-
-/// The most bytes of data in a frame that is sent.
-const BLOCK: u16 = 4096;
-
-/// When the sessions of the tests begin.
-const MOMENT: u64 = 1_000_000_000;
 
 /// A session that goes on, and its desk at the one seat of its node.
 #[derive(Drop)]
@@ -65,7 +55,16 @@ impl Model for Half {
 impl Half {
     /// A session of that node at that side, before its first turn.
     pub fn new(alloc: Global, node: Node, side: Side) -> Result<Half, NoMemory> {
-        Half::within(alloc, node, side, SESSION_LIMIT)
+        let Node { who, store } = node;
+        let mut hub = Hub::new(alloc, store, who.hub_conf(alloc)?);
+        let seat = hub.seat()?;
+        let desk = HubDesk { hub, seat };
+        let course = who.begin(alloc, side);
+        let talk = Talk { course, desk, who };
+        Ok(Half {
+            pipe: MemPipe::new(alloc),
+            session: Holding::Talks(talk),
+        })
     }
 
     /// The same, which ends once it has taken and written so many bytes.
@@ -74,16 +73,8 @@ impl Half {
         requires fits { limit ≤ 2 ^ 62 }
     {
         let Node { who, store } = node;
-        let setting = setting_within(who.home.copy(alloc)?, limit);
-        let mut hub = Hub::new(alloc, store, who.conf(alloc)?);
-        let seat = hub.seat()?;
-        let desk = HubDesk { hub, seat };
-        let course = Course::new(alloc, side, setting);
-        let talk = Talk { course, desk, who };
-        Ok(Half {
-            pipe: MemPipe::new(alloc),
-            session: Holding::Talks(talk),
-        })
+        let who = who.within(limit);
+        Half::new(alloc, Node { who, store }, side)
     }
 
     /// Whether its session is over.
@@ -153,27 +144,6 @@ impl Half {
     }
 }
 
-/// The setting of a session of the tests, which says that own address.
-pub fn setting(home: Addr) -> Setting
-    requires { IsAddress (address_of home) }
-    ensures { result.limit ≡ 17_592_186_044_416 }
-{
-    setting_within(home, SESSION_LIMIT)
-}
-
-// The same with another limit.
-fn setting_within(home: Addr, limit: u64) -> Setting
-    requires { IsAddress (address_of home) }
-    ensures { result.limit ≡ limit }
-{
-    Setting {
-        home,
-        moment: MOMENT,
-        limit,
-        block: BLOCK,
-    }
-}
-
 // What a turn leaves of a session.
 fn turned(alloc: Global, pipe: &mut MemPipe, talk: Talk) -> Holding
     requires { MayStep pipe.old (H.Talks talk) }
@@ -184,7 +154,7 @@ fn turned(alloc: Global, pipe: &mut MemPipe, talk: Talk) -> Holding
         mut desk,
         who,
     } = talk;
-    match course.turn(alloc, pipe, &mut desk) {
+    match course.turn(alloc, pipe, &who.conf, &mut desk) {
         Turn::More => Holding::Talks(Talk { course, desk, who }),
         Turn::Ended(report) => {
             let store = desk.hub.into_store();

@@ -12,23 +12,12 @@ ghost use Rattle.list_store.specs.ListStates.{stand_of};
 ghost use Rattle.hub_core.specs.Opening.{IsWhole, no_seats};
 
 use crate::offered::{Offered, address};
+use crate::who::Who;
 use ftn_addr::{Action, Addr, Bytes, FileKey, NoMemory, is_same_address, is_same_key};
-use hub_core::HubConf;
 use list_store::{ListStore, QueuedFile, Received, StagedFile};
 use node_model::{Flavour, NewFile, Slot, Store, StoreFault};
 use std::alloc::Global;
 use std::marker::Model;
-
-/// A node's address, and the settings of its next session.
-#[derive(Drop)]
-pub struct Who {
-    pub home: Addr,
-    /// Files whose names end so are refused, ASCII case ignored.
-    pub refuse_names: Vec<Bytes>,
-    /// Files above this size are refused.
-    pub refuse_over: u64,
-    pub ghost home_is: { IsAddress (address_of home) },
-}
 
 /// A node that no session uses: who it is, and what it keeps.
 #[derive(Drop)]
@@ -49,31 +38,11 @@ impl Model for Node {
     ghost invariant = { λ n. (settings : Settings) → IsWhole (stand_of n.store) (no_seats settings) };
 }
 
-impl Who {
-    /// The settings of a hub.
-    pub fn conf(&self, alloc: Global) -> Result<HubConf, NoMemory> {
-        let mut refuse_names = Vec::new(alloc);
-        for name in &self.refuse_names {
-            refuse_names.push(name.copy(alloc)?)?;
-        }
-        Ok(HubConf {
-            max_servers: 100,
-            refuse_names,
-            refuse_over: self.refuse_over,
-        })
-    }
-}
-
 impl Node {
     /// A node with nothing in it, which refuses nothing: `2:5020/NUMBER@fidonet`.
-    #[tactic(auto, using(hub_core::proofs::NewStores::new_fits))]
     pub fn new(alloc: Global, number: u16) -> Result<Node, NoMemory> {
         Ok(Node {
-            who: Who {
-                home: address(alloc, number)?,
-                refuse_names: Vec::new(alloc),
-                refuse_over: u64::MAX,
-            },
+            who: Who::new(alloc, number)?,
             store: ListStore::new(alloc),
         })
     }

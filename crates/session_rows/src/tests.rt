@@ -15,13 +15,21 @@ mod many;
 mod mixed;
 mod odd_words;
 mod ordinary;
+mod passwords;
 mod refused_words;
 mod resumed;
+mod two_addresses;
 
 // The numbers of the two nodes.
 const NEAR: u16 = 1;
 
 const FAR: u16 = 2;
+
+// What the near node says first where it answers, in 139 bytes.
+const GREETING: &[u8] = b"\x80\x2e\x00OPT CRAM-MD5-00000000000000000000000000000000\
+\x80\x25\x00TIME Sun, 09 Sep 2001 01:46:40 +0000\
+\x80\x1f\x00VER binkp_mailer/1.0 binkp/1.0\
+\x80\x11\x012:5020/1@fidonet";
 
 // What came of a session: at the node that called, and at the one that was called.
 #[derive(Drop)]
@@ -73,8 +81,8 @@ fn has_each(
     at_near: &[Offered],
     at_far: &[Offered],
 ) -> Result<bool, NoMemory> {
-    let near_has = near.has_each(alloc, &far.who.home, at_near)?;
-    let far_has = far.has_each(alloc, &near.who.home, at_far)?;
+    let near_has = near.has_each(alloc, far.who.home(), at_near)?;
+    let far_has = far.has_each(alloc, near.who.home(), at_far)?;
     Ok(near_has && far_has)
 }
 
@@ -125,7 +133,7 @@ fn queue_each(
 fn refusing(alloc: Global, number: u16, end: &[u8]) -> Result<Node, NoMemory> {
     let mut node = Node::new(alloc, number)?;
     let end = Bytes::from_slice(alloc, end)?;
-    node.who.refuse_names.push(end)?;
+    node.who.conf.refuse_names.push(end)?;
     Ok(node)
 }
 
@@ -175,7 +183,7 @@ fn call(
     far: &mut Node,
     most: u64,
 ) -> Result<Option<Ends>, NoMemory> {
-    let side = Side::Calls(far.who.home.copy(alloc)?);
+    let side = Side::Calls(far.who.home().copy(alloc)?);
     let mut calling = begin(alloc, near, side)?;
     let answered = answer(alloc, &mut calling, far, most)?;
     Ok(both(end(calling, near), answered))

@@ -1,23 +1,26 @@
 -- The ends that rows give, and their causes.
-use Rattle.std.proofs.Common.{◌≡◌, ◌⊎◌, ℕ, Bool, true, false, List, [], ◌∷◌, Option, Some, None, Result, Ok, Err, refl, sym, subst, inl, inr, codes}
-use Rattle.std.specs.Prelude.{MatchBool, if◌then◌else◌}
-use Rattle.ftn_addr.specs.Address.{Address, same_address}
+use Rattle.std.proofs.Common.{◌≡◌, ◌⊎◌, ℕ, Bool, true, false, List, Option, Some, None, Result, Ok, Err, refl, sym, ap, subst, inl, inr}
+use Rattle.ftn_addr.specs.Address.{Address}
 use Rattle.ftn_addr.specs.Frames.{FrameText, Command, Data}
 use Rattle.ftn_addr.specs.Key.{Key}
 use Rattle.binkp_args.specs.declared.fault.ArgFault.{ArgFault}
 use Rattle.binkp_args.specs.Command.{CommandText, Nul, Adr, Pwd, File as FileCommand, Accept, Eob, Got as GotCommand, Error, Bsy, Get as GetCommand, Skip as SkipCommand, Other, command_of}
-use Rattle.node_model.specs.Lists.{without}
 use Rattle.node_model.specs.Rows.{Have, Refuse, Elsewhere, Go, Whole, From, Late}
 use Rattle.node_model.specs.Calls.{Call, Offer_call, Read_call, Fault, Answer, Let_in, Busy, Begun, Offered, Nothing, Came, Settled, Filed, More, Whole_now, Refused, Event, one}
 use Rattle.node_model.specs.Talk.{Message, File, Data as DataMessage, Got, Get, Skip, End as EndMessage, Talk, Part, Outcome, Verdict, TakeRow, AfterFile, AfterData, AfterSettling, Nothing_held, Drops, Exceeds, Fits, Settles, Passes_got, Skips, Passes_skip, Resends, Passes_get, is_finished, Sending, SendVerdict, Fails, SendRow, Reads, Fills, Awaits, Asks, AfterRead, AfterOffer, AfterSend, Says, Fills_out, Awaits_answer, Says_end, Waits_for_end, Ends_by, TurnRow, Finishes, Rests, Gives as GivesRow}
+use Rattle.cram_md5.specs.Answer.{answer, is_answer}
+use Rattle.session_auth.specs.Login.{Stage as LoginStage, Awaits_password, Step, More as LoginMore, In, Bad_password, Peer_error, Peer_busy, Broke, reply_to}
+use Rattle.session_auth.specs.Passwords.{wanted_password}
+use Rattle.session_auth.specs.Sides.{Side}
 use Rattle.session_core.specs.Ends.{End}
 use Rattle.session_core.specs.Ends as E
 use Rattle.session_core.specs.Takings.{Took}
 use Rattle.session_core.specs.Takings as T
 use Rattle.session_core.specs.Givings.{Gave}
 use Rattle.session_core.specs.Givings as G
-use Rattle.session_core.specs.Stages.{Side, Answers, Calls, Setting, Stage, Awaits_address, Awaits_login, Talks}
-use Rattle.session_core.specs.Sessions.{Reply, Row, ReadRow, CommandRow, BeforeLogin, PasswordRow, AcceptRow, LoggedRow, LoginRow, TalkRow, DataRow, AfterBegin, AfterKnock, Plain, before_address, early_password, early_word, named, is_among, is_none, fault_end, outcome_took, outcome_gave, Said, Gives, Turn, GiveRow}
+use Rattle.session_core.specs.Stages.{Setting, Stage, Logs_in, Talks}
+use Rattle.session_core.specs.Sessions.{Reply, Row, ReadRow, CommandRow, StepRow, LoggedRow, TalkRow, DataRow, AfterBegin, AfterKnock, Plain, terms_of, fault_end, outcome_took, outcome_gave, Said, Gives, Turn, GiveRow}
+use Rattle.session_run.proofs.LoginSteps.{StepCause, replies_well}
 
 -- what a row met: the number of the peer's frame and what it says, where it is a command that was read; whether both sides
 -- are done at an own turn
@@ -51,13 +54,14 @@ said_by home (Data bytes) = None
 abbrev pub met_by : Setting → ℕ → Stage → Option CommandText → Met
 met_by s n stage said = record { setting = s; number = Some n; stage = stage; said = said; done = false }
 
--- a password that isn't none, at the answering side that waits for it
+-- a password that is no answer, at a login that waits for it
 pub record Unwanted (m : Met) (wanted given : List ℕ) : Type 0 where
-  pub side : m.setting.side ≡ Answers
   pub peers : List Address
-  pub waits : m.stage ≡ Awaits_login peers
-  pub none : wanted ≡ codes "-"
-  pub other : is_none given ≡ false
+  pub waits : m.stage ≡ Logs_in (Awaits_password peers)
+  pub password : List ℕ
+  pub has : wanted_password m.setting.conf peers ≡ Some password
+  pub answers : wanted ≡ answer password m.setting.challenge
+  pub other : is_answer password m.setting.challenge given ≡ false
   pub says : m.said ≡ Some (Pwd given)
 
 -- the ends that a row gives without another object
@@ -104,73 +108,21 @@ plain_cause m reply r es p plain = subst (λ (x : Reply). RowCause m x.took es) 
 reply_cause : (m : Met) (reply r : Reply) (es : List Event) → RowCause m reply.took es → r ≡ reply → RowCause m r.took es
 reply_cause m reply r es p e = subst (λ (x : Reply). RowCause m x.took es) (sym e) p
 
-either : (b : Bool) (P Q R : Type 0) → (b ≡ true → P → R) → (b ≡ false → Q → R) → MatchBool b P Q → R
-either true P Q R p q m = p refl m
-either false P Q R p q m = q refl m
+-- The login.
 
--- Before login.
+begin_cause : (m : Met) (side : Side) (at : LoginStage) (said : List ℕ) (call : Call) (answer : Answer) (es : List Event) (r : Reply) → es ≡ one call answer → AfterBegin side at said answer r → RowCause m r.took es
+begin_cause m side at said call (Begun number) es r e a = reply_cause m _ r es tt a
+begin_cause m side at said call (Refused fault) es r e a = reply_cause m _ r es (inr (inl (call, fault, e, refl))) a
+begin_cause m side at said call answer es r e a = absurd a
 
-among_plain : (m : Met) (b : Bool) (x y : Reply) → Plain_took m x.took → Plain_took m y.took → Plain_took m (if b then x else y).took
-among_plain m true x y p q = p
-among_plain m false x y p q = q
-
-named_plain : (m : Met) (side : Side) (n : ℕ) (peers : List Address) → m.number ≡ Some n → Plain_took m (named side n peers).took
-named_plain m side n [] e = e
-named_plain m Answers n (first ∷ others) e = tt
-named_plain m (Calls called) n (first ∷ others) e = among_plain m (is_among called (first ∷ others)) _ _ tt e
-
-password_plain : (m : Met) (side : Side) (n : ℕ) → m.number ≡ Some n → Plain_took m (early_password side n).took
-password_plain m Answers n e = e
-password_plain m (Calls called) n e = tt
-
-word_plain : (m : Met) (side : Side) (n : ℕ) → m.number ≡ Some n → Plain_took m (early_word side n).took
-word_plain m Answers n e = tt
-word_plain m (Calls called) n e = e
-
-before_plain : (s : Setting) (n : ℕ) (command : CommandText) → Plain_took (met_by s n Awaits_address (Some command)) (before_address s n command).took
-before_plain s n (Nul text) = tt
-before_plain s n (Adr addresses) = named_plain _ s.side n (without (same_address s.home) addresses) refl
-before_plain s n (Pwd text) = password_plain _ s.side n refl
-before_plain s n (FileCommand key offset) = refl
-before_plain s n (Accept text) = word_plain _ s.side n refl
-before_plain s n Eob = refl
-before_plain s n (GotCommand key) = refl
-before_plain s n (Error text) = refl
-before_plain s n (Bsy text) = (text, refl)
-before_plain s n (GetCommand key offset) = refl
-before_plain s n (SkipCommand key) = refl
-before_plain s n (Other number) = tt
-
-begin_cause : (m : Met) (side : Side) (peers : List Address) (call : Call) (answer : Answer) (es : List Event) (r : Reply) → es ≡ one call answer → AfterBegin side peers answer r → RowCause m r.took es
-begin_cause m side peers call (Begun number) es r e a = reply_cause m _ r es tt a
-begin_cause m side peers call (Refused fault) es r e a = reply_cause m _ r es (inr (inl (call, fault, e, refl))) a
-begin_cause m side peers call answer es r e a = absurd a
-
-login_cause : (m : Met) (s : Setting) (peers : List Address) (es : List Event) (r : Reply) → LoginRow s peers es r → RowCause m r.took es
-login_cause m s peers es r l = begin_cause m s.side peers _ l.answer es r l.asks l.follows
-
-password_cause : (s : Setting) (n : ℕ) (side : Side) (peers : List Address) (text : List ℕ) (es : List Event) (r : Reply) → s.side ≡ side → PasswordRow side s peers text es r → RowCause (met_by s n (Awaits_login peers) (Some (Pwd text))) r.took es
-password_cause s n Answers peers text es r is row =
-    either (is_none text) _ _ _ (λ t l. login_cause _ s peers es r l) (λ f p. plain_cause _ _ r es (record { side = is; peers = peers; waits = refl; none = refl; other = f; says = refl }) p) row
-password_cause s n (Calls called) peers text es r is row = plain_cause _ _ r es tt row
-
-accept_cause : (m : Met) (s : Setting) (side : Side) (peers : List Address) (es : List Event) (r : Reply) → AcceptRow side s peers es r → RowCause m r.took es
-accept_cause m s Answers peers es r row = plain_cause m _ r es tt row
-accept_cause m s (Calls called) peers es r row = login_cause m s peers es r row
-
-login_row_cause : (s : Setting) (n : ℕ) (peers : List Address) (command : CommandText) (es : List Event) (r : Reply) → BeforeLogin s n peers command es r → RowCause (met_by s n (Awaits_login peers) (Some command)) r.took es
-login_row_cause s n peers (Nul text) es r row = plain_cause _ _ r es tt row
-login_row_cause s n peers (Adr addresses) es r row = plain_cause _ _ r es tt row
-login_row_cause s n peers (Pwd text) es r row = password_cause s n s.side peers text es r refl row
-login_row_cause s n peers (FileCommand key offset) es r row = plain_cause _ _ r es refl row
-login_row_cause s n peers (Accept text) es r row = accept_cause _ s s.side peers es r row
-login_row_cause s n peers Eob es r row = plain_cause _ _ r es refl row
-login_row_cause s n peers (GotCommand key) es r row = plain_cause _ _ r es refl row
-login_row_cause s n peers (Error text) es r row = plain_cause _ _ r es refl row
-login_row_cause s n peers (Bsy text) es r row = plain_cause _ _ r es (text, refl) row
-login_row_cause s n peers (GetCommand key offset) es r row = plain_cause _ _ r es refl row
-login_row_cause s n peers (SkipCommand key) es r row = plain_cause _ _ r es refl row
-login_row_cause s n peers (Other number) es r row = plain_cause _ _ r es tt row
+step_cause : (s : Setting) (n : ℕ) (at : LoginStage) (said : List ℕ) (command : CommandText) (step : Step) (es : List Event) (r : Reply) → StepCause (terms_of s) at command step → StepRow s n at said step es r → RowCause (met_by s n (Logs_in at) (Some command)) r.took es
+step_cause s n at said command (LoginMore stage) es r c row = plain_cause _ _ r es tt row
+step_cause s n at said command (In peers secure) es r c row = begin_cause _ s.side at said _ row.answer es r row.asks row.follows
+step_cause s n at said command (Bad_password wanted given) es r c row =
+    plain_cause _ _ r es (record { peers = c.peers; waits = ap Logs_in c.waits; password = c.password; has = c.has; answers = c.answers; other = c.other; says = ap (λ (x : CommandText). Some x) c.says }) row
+step_cause s n at said command (Peer_error text) es r c row = plain_cause _ _ r es (ap (λ (x : CommandText). Some x) c) row
+step_cause s n at said command Peer_busy es r c row = plain_cause _ _ r es (c.0, ap (λ (x : CommandText). Some x) c.1) row
+step_cause s n at said command (Broke fault) es r c row = plain_cause _ _ r es refl row
 
 -- After login.
 
@@ -237,8 +189,7 @@ logged_cause s n t held (Other number) es r row = plain_cause _ _ r es tt row
 -- Frames.
 
 command_cause : (s : Setting) (n : ℕ) (stage : Stage) (command : CommandText) (es : List Event) (r : Reply) → CommandRow s n stage command es r → RowCause (met_by s n stage (Some command)) r.took es
-command_cause s n Awaits_address command es r row = plain_cause _ _ r es (before_plain s n command) row
-command_cause s n (Awaits_login peers) command es r row = login_row_cause s n peers command es r row
+command_cause s n (Logs_in at) command es r row = step_cause s n at _ command (reply_to (terms_of s) at command).step es r (replies_well (terms_of s) at command).cause row
 command_cause s n (Talks t held) command es r row = logged_cause s n t held command es r row
 
 read_cause : (s : Setting) (n : ℕ) (stage : Stage) (read : Result CommandText ArgFault) (es : List Event) (r : Reply) → ReadRow s n stage read es r → RowCause (met_by s n stage (read_as read)) r.took es
@@ -246,8 +197,7 @@ read_cause s n stage (Ok command) es r row = command_cause s n stage command es 
 read_cause s n stage (Err fault) es r row = plain_cause _ _ r es refl row
 
 data_row_cause : (s : Setting) (n : ℕ) (stage : Stage) (bytes : List ℕ) (es : List Event) (r : Reply) → DataRow n stage bytes es r → RowCause (met_by s n stage None) r.took es
-data_row_cause s n Awaits_address bytes es r row = plain_cause _ _ r es refl row
-data_row_cause s n (Awaits_login peers) bytes es r row = plain_cause _ _ r es refl row
+data_row_cause s n (Logs_in at) bytes es r row = plain_cause _ _ r es refl row
 data_row_cause s n (Talks t held) bytes es r row = talk_cause _ n t held _ es r refl row
 
 pub row_cause : (s : Setting) (n : ℕ) (stage : Stage) (frame : FrameText) (es : List Event) (r : Reply) → Row s n stage frame es r → RowCause (met_by s n stage (said_by s.home frame)) r.took es
@@ -308,10 +258,9 @@ verdict_turn s block held t es v (Finishes is e a) = subst (λ (x : Verdict). Tu
 verdict_turn s block held t es v (Rests is own e a) = subst (λ (x : Verdict). TurnCause (own_turn s (Talks x.after held)) (outcome_gave x.outcome) es) (sym a) tt
 verdict_turn s block held t es v (GivesRow own w row a) = send_turn (own_turn s (Talks v.after held)) block t.sending es t v w row a
 
-pub turn_cause : (s : Setting) (stage : Stage) (es : List Event) (t : Turn) → GiveRow s stage es t → TurnCause (own_turn s t.stage) t.gave es
+pub turn_cause : (s : Setting) (stage : Stage) (es : List Event) (t : Turn) → GiveRow s.block stage es t → TurnCause (own_turn s t.stage) t.gave es
 turn_cause s (Talks talk held) es t row = subst (λ (x : Turn). TurnCause (own_turn s x.stage) x.gave es) (sym row.is) (verdict_turn s s.block held talk es row.verdict row.row)
-turn_cause s Awaits_address es t row = subst (λ (x : Turn). TurnCause (own_turn s x.stage) x.gave es) (sym row.1) tt
-turn_cause s (Awaits_login peers) es t row = subst (λ (x : Turn). TurnCause (own_turn s x.stage) x.gave es) (sym row.1) tt
+turn_cause s (Logs_in at) es t row = subst (λ (x : Turn). TurnCause (own_turn s x.stage) x.gave es) (sym row.1) tt
 
 pub gives_cause : (m : Met) (output : List ℕ) (goal : Gave) (written : List ℕ) (gave : Gave) (es : List Event) → TurnCause m goal es → Gives output goal written gave → TurnCause m gave es
 gives_cause m output goal written gave es c (inl s) = subst (λ (x : Gave). TurnCause m x es) (sym s.0) c

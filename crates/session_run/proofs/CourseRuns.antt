@@ -14,7 +14,8 @@ use Rattle.session_run.specs.declared.turns.Turn.TheVariants as T
 use Rattle.session_run.specs.declared.report.Report.{Report}
 use Rattle.node_model.specs.Desks.{DeskPart}
 use Rattle.session_core.specs.declared.ending.End.{End as EndCode}
-use Rattle.session_core.specs.Replies.{Sits, setting_in, stage_of}
+use Rattle.mail_conf.specs.Conf.{ConfText}
+use Rattle.session_core.specs.Replies.{Sits, setting_in, stage_in}
 use Rattle.session_run.specs.Courses.{IsFree, IsLeft, MayTurn, Nearer, TurnWent, phase_of, talks, talk_room}
 use Rattle.session_run.specs.Laws.{IsSession}
 use Rattle.session_run.specs.Machine.{World, Starting, opening}
@@ -89,15 +90,15 @@ nearer_close limit old calm new calm' (G.Draining mute end) is n = n
 nearer_close limit old calm new calm' G.Closed is n = absurd (omega (arith, n))
 
 -- a turn may be made of a new course
-pub new_may : (ready : Type 0) (part : DeskPart) (broken : Option ℕ) (course : Course) (calm : ℕ) (s : Setting) → IsNew course.run → course.going ≡ G.Starting → setting_in course.run.session ≡ s → part ≡ record { open_now = false; claim = None; held = None } → 0 < s.limit → calm ≡ 0 → MayTurn ready part broken calm course.run course.going
-new_may ready part broken course calm s new going lent none some still =
+pub new_may : (ready : Type 0) (part : DeskPart) (broken : Option ℕ) (course : Course) (calm : ℕ) (conf : ConfText) (s : Setting) → IsNew course.run → course.going ≡ G.Starting → setting_in course.run.session conf ≡ s → part ≡ record { open_now = false; claim = None; held = None } → 0 < s.limit → calm ≡ 0 → MayTurn ready part broken calm course.run course.going
+new_may ready part broken course calm conf s new going lent none some still =
     subst (MayTurn ready part broken calm course.run) (sym going) (new, none, subst (λ (x : Setting). 0 < x.limit) (sym lent) some, still)
 
 -- and of one whose turn was settled
-pub settled_may : (end : Option EndCode) (ready old : Type 0) (part was : DeskPart) (broken : Option ℕ) (calm limit : ℕ) (run before : Run) (going : Going) → ready → run ≡ before → IfNone end (going ≡ G.Talking) → IfNone end (part ≡ was) → (IsSome end → IsLeft going) → (IsSome end → IsFree broken part) → IfNone end (Sits old was (stage_of before.session.stage)) → before.session.setting.limit ≡ limit → IfNone end (InLimit limit before calm) → MayTurn ready part broken calm run going
+pub settled_may : (end : Option EndCode) (ready old : Type 0) (part was : DeskPart) (broken : Option ℕ) (calm limit : ℕ) (run before : Run) (going : Going) → ready → run ≡ before → IfNone end (going ≡ G.Talking) → IfNone end (part ≡ was) → (IsSome end → IsLeft going) → (IsSome end → IsFree broken part) → IfNone end (Sits old was (stage_in before.session)) → before.session.setting.limit ≡ limit → IfNone end (InLimit limit before calm) → MayTurn ready part broken calm run going
 settled_may None ready old part was broken calm limit run before going is same on still left free sits lent within =
     subst (MayTurn ready part broken calm run) (sym on) (
-      record { is_ready = is; part_is = still ∙ sits.part_is ∙ ap (λ (r : Run). desk_part (stage_of r.session.stage)) (sym same) },
+      record { is_ready = is; part_is = still ∙ sits.part_is ∙ ap (λ (r : Run). desk_part (stage_in r.session)) (sym same) },
       subst (λ (r : Run). InLimit r.session.setting.limit r calm) (sym same) (subst (λ (n : ℕ). InLimit n before calm) (sym lent) within),
     )
 settled_may (Some end) ready old part was broken calm limit run before G.Starting is same on still left free sits lent within = absurd (left refl)

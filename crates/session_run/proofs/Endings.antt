@@ -174,7 +174,7 @@ step_brought alone line desk w v facts b (takes_frame s) =
 step_brought alone line desk w v facts b (makes_turn s) =
     let before : (end : End) → IsBrought end w.events w.setting.home w.frames = brought_as w Taking b s.phase in
     subst Brought (sym s.is) (gave_at s.gave (w.events ++ s.events) w.setting.home w.frames (λ end f. record {
-      answer = answers_on w.events s.events (gave_end s.turn.gave) end (before end).answer (turn_gives w.setting w.stage (asked_of s.events) s.turn s.row) (gave_meets s.turn.output s.turn.gave s.output s.gave end s.said f);
+      answer = answers_on w.events s.events (gave_end s.turn.gave) end (before end).answer (turn_gives w.setting.block w.stage (asked_of s.events) s.turn s.row) (gave_meets s.turn.output s.turn.gave s.output s.gave end s.said f);
       word = (before end).word;
     }))
 step_brought alone line desk w v facts b (writes s) =

@@ -3,11 +3,10 @@ use Rattle.std.proofs.Common.{◌≡◌, ◌≢◌, ◌≤◌, ◌∙◌, ℕ, l
 use Rattle.std.specs.List.{flat_map}
 use Rattle.std.proofs.lemmas.List.{append-nil}
 use Rattle.std.proofs.lemmas.List.Concat.{flat_map-append}
-use Rattle.ftn_addr.specs.Address.{Address}
 use Rattle.ftn_addr.specs.Frames.{FrameText, Command, Data, frame_bytes}
 use Rattle.ftn_addr.specs.Key.{Key}
 use Rattle.ftn_addr.specs.declared.limits.TheConstants.{MAX_FRAME_DATA}
-use Rattle.binkp_args.specs.Command.{CommandText, Nul, Adr, Pwd, File as FileCommand, Accept, Eob, Got as GotCommand, Error, Bsy, Get as GetCommand, Skip as SkipCommand}
+use Rattle.binkp_args.specs.Command.{CommandText, File as FileCommand, Eob, Got as GotCommand, Error, Bsy, Get as GetCommand, Skip as SkipCommand}
 use Rattle.binkp_args.specs.Writing.{number_of, argument_of, frame_text_of}
 use Rattle.node_model.specs.Lists.{Each}
 use Rattle.node_model.specs.Rows.{Have, Refuse, Elsewhere, Go, Whole, From, Late}
@@ -16,8 +15,8 @@ use Rattle.node_model.specs.Talk.{Message, File, Data as DataMessage, Got, Get, 
 use Rattle.session_recv.specs.Replies.{command_bytes}
 use Rattle.session_core.specs.declared.ending.Cause.{Cause}
 use Rattle.session_core.specs.declared.ending.Cause.TheVariants as C
-use Rattle.session_core.specs.Stages.{Side, Answers, Calls, Stage, Talks}
-use Rattle.session_core.specs.Says.{said_bytes, filling, version, greeting, no_password, welcome, welcome_of, broken_frame, offset_again, not_called, bad_password, disk_fault, ledger_full, too_many, cause_bytes, fault_bytes, last_words}
+use Rattle.session_core.specs.Stages.{Stage, Talks}
+use Rattle.session_core.specs.Says.{said_bytes, filling, broken_frame, offset_again, not_called, disk_fault, ledger_full, too_many, cause_bytes, fault_bytes, last_words}
 use Rattle.session_core.specs.Sessions.{outcome_bytes}
 use Rattle.session_run.proofs.HeldKeys.{part_key}
 use Rattle.session_run.proofs.Acks.{Acks}
@@ -54,7 +53,7 @@ nothing held es after = record { frames = []; spelled = refl; owed = tt }
 pub plain : (held : Option Key) (es : List Event) (after : Stage) (c : CommandText) → number_of c ≢ 6 → number_of c ≢ 5 → Framed held es after (command_bytes c)
 plain held es after c other more = record { frames = frame_text_of c ∷ []; spelled = sym (append-nil (command_bytes c)); owed = ((λ six. absurd (other six), λ five. absurd (more five)), tt) }
 
-each_both : {A : Type 0} (P : A → Type 0) (xs ys : List A) → Each P xs → Each P ys → Each P (xs ++ ys)
+pub each_both : {A : Type 0} (P : A → Type 0) (xs ys : List A) → Each P xs → Each P ys → Each P (xs ++ ys)
 each_both P [] ys a b = b
 each_both P (x ∷ xs) ys a b = (a.0, each_both P xs ys a.1 b)
 
@@ -77,10 +76,6 @@ pub uncalled : (held : Option Key) (es : List Event) (after : Stage) → Framed 
 unfolding not_called
 uncalled held es after = plain held es after (Error (codes "not the called address")) (λ six. let clash : 7 ≡ 6 = six in cc) (λ five. let clash : 7 ≡ 5 = five in cc)
 
-pub bad : (held : Option Key) (es : List Event) (after : Stage) → Framed held es after bad_password
-unfolding bad_password
-bad held es after = plain held es after (Error (codes "bad password")) (λ six. let clash : 7 ≡ 6 = six in cc) (λ five. let clash : 7 ≡ 5 = five in cc)
-
 disk : (held : Option Key) (es : List Event) (after : Stage) → Framed held es after disk_fault
 unfolding disk_fault
 disk held es after = plain held es after (Error (codes "disk fault")) (λ six. let clash : 7 ≡ 6 = six in cc) (λ five. let clash : 7 ≡ 5 = five in cc)
@@ -92,26 +87,6 @@ full held es after = plain held es after (Error (codes "ledger full")) (λ six. 
 pub many : (held : Option Key) (es : List Event) (after : Stage) → Framed held es after too_many
 unfolding too_many
 many held es after = plain held es after (Bsy (codes "too many servers")) (λ six. let clash : 8 ≡ 6 = six in cc) (λ five. let clash : 8 ≡ 5 = five in cc)
-
-welcomed : (held : Option Key) (es : List Event) (after : Stage) → Framed held es after welcome
-unfolding welcome
-welcomed held es after = plain held es after (Accept (codes "non-secure")) (λ six. let clash : 4 ≡ 6 = six in cc) (λ five. let clash : 4 ≡ 5 = five in cc)
-
-pub asking : (held : Option Key) (es : List Event) (after : Stage) → Framed held es after no_password
-unfolding no_password
-asking held es after = plain held es after (Pwd (codes "-")) (λ six. let clash : 2 ≡ 6 = six in cc) (λ five. let clash : 2 ≡ 5 = five in cc)
-
-versioned : (held : Option Key) (es : List Event) (after : Stage) → Framed held es after version
-unfolding version
-versioned held es after = plain held es after (Nul (codes "VER binkp_mailer/1.0 binkp/1.0")) (λ six. let clash : 0 ≡ 6 = six in cc) (λ five. let clash : 0 ≡ 5 = five in cc)
-
-pub welcoming : (side : Side) (held : Option Key) (es : List Event) (after : Stage) → Framed held es after (welcome_of side)
-welcoming Answers held es after = welcomed held es after
-welcoming (Calls called) held es after = nothing held es after
-
-pub greeted : (home : Address) (held : Option Key) (es : List Event) (after : Stage) → Framed held es after (greeting home)
-greeted home held es after =
-    both held es after version (command_bytes (Adr (home ∷ []))) (versioned held es after) (plain held es after (Adr (home ∷ [])) (λ six. let clash : 1 ≡ 6 = six in cc) (λ five. let clash : 1 ≡ 5 = five in cc))
 
 pub caused : (held : Option Key) (es : List Event) (after : Stage) (cause : Cause) → Framed held es after (cause_bytes cause)
 caused held es after (C.Arg fault) = broken held es after

@@ -14,6 +14,7 @@ pub mod Laws
 pub mod Leavings
 pub mod LineLaws
 pub mod LineRuns
+pub mod LoginSteps
 pub mod Openings
 pub mod Marked
 pub mod OwnCauses

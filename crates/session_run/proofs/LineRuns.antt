@@ -11,7 +11,7 @@ use Rattle.binkp_link.specs.Lines.{LineState, IsRead, IsWrite, came, went}
 use Rattle.binkp_link.specs.declared.link.ReadAnswer.{ReadAnswer}
 use Rattle.binkp_link.specs.declared.link.WriteAnswer.{WriteAnswer}
 use Rattle.session_core.specs.Stages.{Setting}
-use Rattle.session_core.specs.Replies.{stage_of}
+use Rattle.session_core.specs.Replies.{stage_in}
 use Rattle.session_run.proofs.Runs.{stood_is, stood_same, tells_as}
 use Rattle.session_run.proofs.Streams.{stream_same}
 use Rattle.session_run.specs.Machine.{World, Taking, Writing, Reading, here, next, Writes, writes, PassesWrite, passes_write, Reads, reads, after_write, after_read}
@@ -97,7 +97,7 @@ came_it alone s run run' l l' desk waits answer buffer result room is did to = r
       ∙ ap (λ (x : ℕ). after_read answer s.limit (x + length w.sent) l'.calm) now
       ∙ ap (λ (x : ℕ). after_read answer s.limit (run'.taken + x) l'.calm) (at.wrote tt) ∙ sym to in
       let stream : Stream run' [] v = record {
-        stage_is = st.stage_is ∙ ap (λ (x : Session). stage_of x.stage) (sym did.session);
+        stage_is = st.stage_is ∙ ap stage_in (sym did.session);
         number_is = ap (λ (x : Session). x.frames) did.session ∙ st.number_is;
         fed = st.fed;
         whole = ap (λ (x : List ℕ). x ++ piece) st.whole ∙ append_assoc st.fed run.piece.list piece ∙ ap (λ (x : List ℕ). st.fed ++ x) (sym did.piece_is);

@@ -12,9 +12,9 @@ use Rattle.session_core.specs.Takings as T
 use Rattle.session_run.specs.declared.run.Run.{Run}
 use Rattle.session_core.specs.declared.session.Session.{Session}
 use Rattle.binkp_link.specs.Lines.{LineState}
-use Rattle.session_core.specs.Stages.{Awaits_address, Setting, role_of}
+use Rattle.session_core.specs.Stages.{Setting, at_first, role_of}
 use Rattle.session_core.specs.Sessions.{AfterKnock, Reply}
-use Rattle.session_core.specs.Replies.{Writes as Grows, IfMore, told_of, stage_of}
+use Rattle.session_core.specs.Replies.{Writes as Grows, IfMore, told_of, stage_in}
 use Rattle.session_run.proofs.Runs.{stood_same, tells_more}
 use Rattle.session_run.specs.Machine.{World, Starting, opening, Greets, greets, Leaves, leaves, after_leave, is_mute, Over, Draining, here, next, after_took}
 use Rattle.session_run.specs.Runs.{spot, Stream, Follows, At, Went, IsNew}
@@ -28,7 +28,7 @@ follows_took T.More run pending v st = st
 follows_took (T.Ended end) run pending v st = tt
 
 -- the first turn
-pub greeted_it : (alone : Bool) (s : Setting) (run run' : Run) (line : LineState) (old new : Stand) (answer : Answer) (reply : Reply) (took : Took) → Kept alone old (Knock_call (role_of s.side)) answer new → AfterKnock s answer reply → IsNew run → run'.session ≡ run.session → run'.decoder ≡ run.decoder → run'.piece.list ≡ run.piece.list → run'.taken ≡ run.taken → run'.wrote ≡ run.wrote → reply.stage ≡ Awaits_address → Grows run.out.list run'.out.list reply.output reply.took took → Went alone s old (spot run line old.state [] Starting) new (spot run' line new.state [] (after_took took))
+pub greeted_it : (alone : Bool) (s : Setting) (run run' : Run) (line : LineState) (old new : Stand) (answer : Answer) (reply : Reply) (took : Took) → Kept alone old (Knock_call (role_of s.side)) answer new → AfterKnock s answer reply → IsNew run → run'.session ≡ run.session → run'.decoder ≡ run.decoder → run'.piece.list ≡ run.piece.list → run'.taken ≡ run.taken → run'.wrote ≡ run.wrote → reply.stage ≡ at_first → Grows run.out.list run'.out.list reply.output reply.took took → Went alone s old (spot run line old.state [] Starting) new (spot run' line new.state [] (after_took took))
 greeted_it alone s run run' line old new answer reply took kept after is_new session decoder piece taken wrote stage grows = record {
   events = turned (Knock_call (role_of s.side)) answer kept.rows_before kept.rows_after ∷ [];
   ran = ran_one alone old (Knock_call (role_of s.side)) answer new kept;
@@ -54,7 +54,7 @@ greeted_it alone s run run' line old new answer reply took kept after is_new ses
           is = refl;
         } in
         let stream : Stream run' [] v = record {
-          stage_is = stage ∙ sym is_new.stage ∙ ap (λ (x : Session). stage_of x.stage) (sym session);
+          stage_is = stage ∙ sym is_new.stage ∙ ap stage_in (sym session);
           number_is = ap (λ (x : Session). x.frames) session ∙ st.number_is;
           fed = st.fed;
           whole = st.whole ∙ ap (λ (x : List ℕ). st.fed ++ x) (sym piece);

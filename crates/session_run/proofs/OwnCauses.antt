@@ -19,7 +19,7 @@ use Rattle.binkp_link.specs.declared.link.WriteAnswer.{WriteAnswer}
 use Rattle.binkp_link.specs.declared.link.WriteAnswer.TheVariants as W
 use Rattle.session_core.specs.Givings.{Gave}
 use Rattle.session_core.specs.Givings as G
-use Rattle.session_core.specs.Stages.{Setting, Stage, Awaits_address, Awaits_login, Talks}
+use Rattle.session_core.specs.Stages.{Setting, Stage, Logs_in, Talks}
 use Rattle.session_core.specs.Sessions.{Said, fault_end}
 use Rattle.session_run.specs.Machine.{Phase, Taking, Reading, Over, Draining, Closed, after_took, after_gave, after_leave, after_read, after_write, after_drain}
 use Rattle.session_run.specs.Laws.{IsDone, OwnCause, OwnCauseAt, Refuses, Says}
@@ -82,7 +82,7 @@ row_plain s n met stage old frame E.Finished made taken sent rest b f p = absurd
 row_plain s n met stage old frame (E.PeerError text) made taken sent rest b f p = said_as s old frame (Error text) taken rest b p
 row_plain s n met stage old frame E.PeerBusy made taken sent rest b f p = (p.0, said_as s old frame (Bsy p.0) taken rest b p.1)
 row_plain s n met stage old frame (E.BadPassword wanted given) made taken sent rest b f p =
-    record { side = p.side; peers = p.peers; waits = p.waits; none = p.none; other = p.other; says = said_as s old frame (Pwd given) taken rest b p.says }
+    record { peers = p.peers; waits = p.waits; password = p.password; has = p.has; answers = p.answers; other = p.other; says = said_as s old frame (Pwd given) taken rest b p.says }
 row_plain s n met stage old frame (E.Broke cause k) made taken sent rest b f p =
     let same : k ≡ n = some_same k n p in
     subst (λ (x : ℕ). Refuses cause x s (old ++ frame ∷ []) met made taken) (sym same) (f cause (ap (E.Broke cause) same))
@@ -109,8 +109,7 @@ said_broke output goal written took cause n (inr s) e = absurd (let clash : T.En
 
 done_is : (stage : Stage) → done_at stage ≡ true → IsDone stage
 done_is (Talks talk held) e = e
-done_is Awaits_address e = absurd (let clash : false ≡ true = e in cc)
-done_is (Awaits_login peers) e = absurd (let clash : false ≡ true = e in cc)
+done_is (Logs_in at) e = absurd (let clash : false ≡ true = e in cc)
 
 turn_plain : (s : Setting) (stage : Stage) (end : End) (frames : List FrameText) (met : Stage) (made : List Turned) (taken sent : List ℕ) → Plain_end (own_turn s stage) end → OwnCause end s stage frames met made taken sent
 turn_plain s stage E.Finished frames met made taken sent p = done_is stage p

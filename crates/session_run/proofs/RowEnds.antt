@@ -1,21 +1,21 @@
 -- A row whose call was refused ends the session by that, and so does the peer's M_ERR or M_BSY.
-use Rattle.std.proofs.Common.{◌≡◌, ℕ, Bool, true, false, List, [], ◌∷◌, Option, Some, None, Result, Ok, Err, refl, sym, ap, subst}
-use Rattle.std.specs.Prelude.{MatchBool}
-use Rattle.ftn_addr.specs.Address.{Address}
+use Rattle.std.proofs.Common.{◌≡◌, ℕ, List, [], ◌∷◌, Option, Some, None, Result, Ok, Err, refl, sym, ap, subst}
 use Rattle.ftn_addr.specs.Frames.{FrameText, Command, Data}
 use Rattle.ftn_addr.specs.Key.{Key}
 use Rattle.binkp_args.specs.declared.fault.ArgFault.{ArgFault}
 use Rattle.binkp_args.specs.Command.{CommandText, Nul, Adr, Pwd, File as FileCommand, Accept, Eob, Got as GotCommand, Error, Bsy, Get as GetCommand, Skip as SkipCommand, Other, command_of}
 use Rattle.node_model.specs.Calls.{Call, Fault, Answer, Let_in, Busy, Begun, Offered, Nothing, Came, Settled, Filed, More, Whole_now, Refused, Event, one}
 use Rattle.node_model.specs.Talk.{Message, File, Data as DataMessage, Got, Get, Skip, End as EndMessage, Talk, Part, Refused_by, Verdict, ends, TakeRow, AfterFile, AfterData, AfterSettling, Nothing_held, Drops, Exceeds, Fits, Settles, Passes_got, Skips, Passes_skip, Resends, Passes_get, Sending, SendVerdict, Fails, SendRow, Reads, Fills, Awaits, Asks, AfterRead, AfterOffer, AfterSend, Ends_by, TurnRow, Finishes, Rests, Gives as GivesRow}
+use Rattle.session_auth.specs.Login.{Stage as LoginStage, Awaits_address, Awaits_password, Awaits_word, Step, More as LoginMore, In, Bad_password, Peer_error, Peer_busy, Broke, reply_to}
+use Rattle.session_auth.specs.Sides.{Side}
 use Rattle.session_core.specs.Ends.{End}
 use Rattle.session_core.specs.Ends as E
 use Rattle.session_core.specs.Takings.{Took}
 use Rattle.session_core.specs.Takings as T
 use Rattle.session_core.specs.Givings.{Gave}
 use Rattle.session_core.specs.Givings as G
-use Rattle.session_core.specs.Stages.{Side, Answers, Calls, Setting, Stage, Awaits_address, Awaits_login, Talks}
-use Rattle.session_core.specs.Sessions.{Reply, Row, ReadRow, CommandRow, BeforeLogin, PasswordRow, AcceptRow, LoggedRow, LoginRow, TalkRow, DataRow, AfterBegin, AfterKnock, Plain, is_none, fault_end, outcome_took, outcome_gave, Turn, GiveRow}
+use Rattle.session_core.specs.Stages.{Setting, Stage, Logs_in, Talks}
+use Rattle.session_core.specs.Sessions.{Reply, Row, ReadRow, CommandRow, StepRow, LoggedRow, TalkRow, DataRow, AfterBegin, AfterKnock, Plain, terms_of, fault_end, outcome_took, outcome_gave, Turn, GiveRow}
 use Rattle.session_run.proofs.Causes.{read_as, said_by}
 
 abbrev pub took_end : Took → Option End
@@ -47,41 +47,20 @@ by_one call answer es o e g = subst (λ (x : List Event). CallGives x o) (sym e)
 plain_gives : (reply r : Reply) (es : List Event) → Plain reply es r → CallGives es (took_end r.took)
 plain_gives reply r es p = by_none es (took_end r.took) p.0
 
--- Before login.
+-- The login.
 
-begin_gives : (side : Side) (peers : List Address) (call : Call) (answer : Answer) (es : List Event) (r : Reply) → es ≡ one call answer → AfterBegin side peers answer r → CallGives es (took_end r.took)
-begin_gives side peers call (Begun number) es r e a = by_one call (Begun number) es _ e tt
-begin_gives side peers call (Refused fault) es r e a = by_one call (Refused fault) es _ e (ap (λ (x : Reply). took_end x.took) a)
-begin_gives side peers call answer es r e a = absurd a
+begin_gives : (side : Side) (at : LoginStage) (said : List ℕ) (call : Call) (answer : Answer) (es : List Event) (r : Reply) → es ≡ one call answer → AfterBegin side at said answer r → CallGives es (took_end r.took)
+begin_gives side at said call (Begun number) es r e a = by_one call (Begun number) es _ e tt
+begin_gives side at said call (Refused fault) es r e a = by_one call (Refused fault) es _ e (ap (λ (x : Reply). took_end x.took) a)
+begin_gives side at said call answer es r e a = absurd a
 
-login_gives : (s : Setting) (peers : List Address) (es : List Event) (r : Reply) → LoginRow s peers es r → CallGives es (took_end r.took)
-login_gives s peers es r l = begin_gives s.side peers _ l.answer es r l.asks l.follows
-
-either : (b : Bool) (P Q R : Type 0) → (P → R) → (Q → R) → MatchBool b P Q → R
-either true P Q R p q m = p m
-either false P Q R p q m = q m
-
-password_gives : (s : Setting) (side : Side) (peers : List Address) (text : List ℕ) (es : List Event) (r : Reply) → PasswordRow side s peers text es r → CallGives es (took_end r.took)
-password_gives s Answers peers text es r row = either (is_none text) _ _ _ (login_gives s peers es r) (plain_gives _ r es) row
-password_gives s (Calls called) peers text es r row = plain_gives _ r es row
-
-accept_gives : (s : Setting) (side : Side) (peers : List Address) (es : List Event) (r : Reply) → AcceptRow side s peers es r → CallGives es (took_end r.took)
-accept_gives s Answers peers es r row = plain_gives _ r es row
-accept_gives s (Calls called) peers es r row = login_gives s peers es r row
-
-login_row_gives : (s : Setting) (n : ℕ) (peers : List Address) (command : CommandText) (es : List Event) (r : Reply) → BeforeLogin s n peers command es r → CallGives es (took_end r.took)
-login_row_gives s n peers (Nul text) es r row = plain_gives _ r es row
-login_row_gives s n peers (Adr addresses) es r row = plain_gives _ r es row
-login_row_gives s n peers (Pwd text) es r row = password_gives s s.side peers text es r row
-login_row_gives s n peers (FileCommand key offset) es r row = plain_gives _ r es row
-login_row_gives s n peers (Accept text) es r row = accept_gives s s.side peers es r row
-login_row_gives s n peers Eob es r row = plain_gives _ r es row
-login_row_gives s n peers (GotCommand key) es r row = plain_gives _ r es row
-login_row_gives s n peers (Error text) es r row = plain_gives _ r es row
-login_row_gives s n peers (Bsy text) es r row = plain_gives _ r es row
-login_row_gives s n peers (GetCommand key offset) es r row = plain_gives _ r es row
-login_row_gives s n peers (SkipCommand key) es r row = plain_gives _ r es row
-login_row_gives s n peers (Other number) es r row = plain_gives _ r es row
+step_gives : (s : Setting) (n : ℕ) (at : LoginStage) (said : List ℕ) (step : Step) (es : List Event) (r : Reply) → StepRow s n at said step es r → CallGives es (took_end r.took)
+step_gives s n at said (LoginMore stage) es r row = plain_gives _ r es row
+step_gives s n at said (In peers secure) es r row = begin_gives s.side at said _ row.answer es r row.asks row.follows
+step_gives s n at said (Bad_password wanted given) es r row = plain_gives _ r es row
+step_gives s n at said (Peer_error text) es r row = plain_gives _ r es row
+step_gives s n at said Peer_busy es r row = plain_gives _ r es row
+step_gives s n at said (Broke fault) es r row = plain_gives _ r es row
 
 -- After login.
 
@@ -141,8 +120,7 @@ logged_gives n t held (Other number) es r row = plain_gives _ r es row
 -- Frames.
 
 command_gives : (s : Setting) (n : ℕ) (stage : Stage) (command : CommandText) (es : List Event) (r : Reply) → CommandRow s n stage command es r → CallGives es (took_end r.took)
-command_gives s n Awaits_address command es r row = plain_gives _ r es row
-command_gives s n (Awaits_login peers) command es r row = login_row_gives s n peers command es r row
+command_gives s n (Logs_in at) command es r row = step_gives s n at _ (reply_to (terms_of s) at command).step es r row
 command_gives s n (Talks t held) command es r row = logged_gives n t held command es r row
 
 read_gives : (s : Setting) (n : ℕ) (stage : Stage) (read : Result CommandText ArgFault) (es : List Event) (r : Reply) → ReadRow s n stage read es r → CallGives es (took_end r.took)
@@ -150,8 +128,7 @@ read_gives s n stage (Ok command) es r row = command_gives s n stage command es 
 read_gives s n stage (Err fault) es r row = plain_gives _ r es row
 
 data_row_gives : (n : ℕ) (stage : Stage) (bytes : List ℕ) (es : List Event) (r : Reply) → DataRow n stage bytes es r → CallGives es (took_end r.took)
-data_row_gives n Awaits_address bytes es r row = plain_gives _ r es row
-data_row_gives n (Awaits_login peers) bytes es r row = plain_gives _ r es row
+data_row_gives n (Logs_in at) bytes es r row = plain_gives _ r es row
 data_row_gives n (Talks t held) bytes es r row = talk_gives n t held _ es r row
 
 pub row_gives : (s : Setting) (n : ℕ) (stage : Stage) (frame : FrameText) (es : List Event) (r : Reply) → Row s n stage frame es r → CallGives es (took_end r.took)
@@ -197,10 +174,9 @@ verdict_gives block held t es v (Finishes is e a) = by_none es _ e
 verdict_gives block held t es v (Rests is own e a) = by_none es _ e
 verdict_gives block held t es v (GivesRow own w row a) = send_gives block t.sending es t v w row a
 
-pub turn_gives : (s : Setting) (stage : Stage) (es : List Event) (t : Turn) → GiveRow s stage es t → CallGives es (gave_end t.gave)
-turn_gives s (Talks talk held) es t row = subst (λ (x : Turn). CallGives es (gave_end x.gave)) (sym row.is) (verdict_gives s.block held talk es row.verdict row.row)
-turn_gives s Awaits_address es t row = by_none es _ row.0
-turn_gives s (Awaits_login peers) es t row = by_none es _ row.0
+pub turn_gives : (block : ℕ) (stage : Stage) (es : List Event) (t : Turn) → GiveRow block stage es t → CallGives es (gave_end t.gave)
+turn_gives block (Talks talk held) es t row = subst (λ (x : Turn). CallGives es (gave_end x.gave)) (sym row.is) (verdict_gives block held talk es row.verdict row.row)
+turn_gives block (Logs_in at) es t row = by_none es _ row.0
 
 -- The peer's words.
 
@@ -214,10 +190,12 @@ ended_so : (end : End) (stage : Stage) (es : List Event) (r : Reply) → Plain (
 ended_so end stage es r p = (ap (λ (x : Reply). took_end x.took) p.1, ap (λ (x : Reply). x.output) p.1)
 
 command_words : (s : Setting) (n : ℕ) (stage : Stage) (command : CommandText) (es : List Event) (r : Reply) → CommandRow s n stage command es r → WordGives command r
-command_words s n Awaits_address (Error text) es r p = ended_so (E.PeerError text) Awaits_address es r p
-command_words s n Awaits_address (Bsy text) es r p = ended_so E.PeerBusy Awaits_address es r p
-command_words s n (Awaits_login peers) (Error text) es r p = ended_so (E.PeerError text) (Awaits_login peers) es r p
-command_words s n (Awaits_login peers) (Bsy text) es r p = ended_so E.PeerBusy (Awaits_login peers) es r p
+command_words s n (Logs_in (Awaits_address offer)) (Error text) es r p = ended_so (E.PeerError text) (Logs_in (Awaits_address offer)) es r p
+command_words s n (Logs_in (Awaits_address offer)) (Bsy text) es r p = ended_so E.PeerBusy (Logs_in (Awaits_address offer)) es r p
+command_words s n (Logs_in (Awaits_password peers)) (Error text) es r p = ended_so (E.PeerError text) (Logs_in (Awaits_password peers)) es r p
+command_words s n (Logs_in (Awaits_password peers)) (Bsy text) es r p = ended_so E.PeerBusy (Logs_in (Awaits_password peers)) es r p
+command_words s n (Logs_in (Awaits_word peers secure)) (Error text) es r p = ended_so (E.PeerError text) (Logs_in (Awaits_word peers secure)) es r p
+command_words s n (Logs_in (Awaits_word peers secure)) (Bsy text) es r p = ended_so E.PeerBusy (Logs_in (Awaits_word peers secure)) es r p
 command_words s n (Talks t held) (Error text) es r p = ended_so (E.PeerError text) (Talks t held) es r p
 command_words s n (Talks t held) (Bsy text) es r p = ended_so E.PeerBusy (Talks t held) es r p
 command_words s n stage command es r p = tt

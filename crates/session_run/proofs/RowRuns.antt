@@ -15,9 +15,9 @@ use Rattle.session_core.specs.Givings as G
 use Rattle.session_run.specs.declared.run.Run.{Run}
 use Rattle.session_core.specs.declared.session.Session.{Session}
 use Rattle.binkp_link.specs.Lines.{LineState}
-use Rattle.session_core.specs.Stages.{Awaits_address, Awaits_login, Talks, Setting, Stage, Told, told_along}
+use Rattle.session_core.specs.Stages.{Logs_in, Talks, Setting, Stage, Told, told_along}
 use Rattle.session_core.specs.Sessions.{Row, Turn, GiveRow, frame_number}
-use Rattle.session_core.specs.Replies.{Made, IfMore, IfOn, MadeRow, DidTurn, MadeTurn, told_of, stage_of}
+use Rattle.session_core.specs.Replies.{Made, IfMore, IfOn, MadeRow, DidTurn, MadeTurn, told_of, stage_in}
 use Rattle.node_model.specs.Talk as M
 use Rattle.node_model.specs.Talk.{Sending, Talk, Part, Verdict, SendVerdict, SendRow, TurnRow, Finishes, Rests, Gives}
 use Rattle.session_run.proofs.Runs.{gave_up_at, goes_drifts, stood_same, tells_as, tells_more}
@@ -34,7 +34,7 @@ fed_it alone s run run' line desk frames law feeds session piece out taken wrote
       let more : Feeds w.frames (run.decoder ++ run.piece.list) (w.frames ++ frames) run'.decoder = record { frames = feeds.frames; appended = ap (λ (fs : List FrameText). w.frames ++ fs) feeds.appended; splits = feeds.splits } in
       let all = law [] w.frames (w.frames ++ frames) st.fed run.piece.list run.decoder run'.decoder before more in
       let stream : Stream run' frames w = record {
-        stage_is = st.stage_is ∙ ap (λ (x : Session). stage_of x.stage) (sym session);
+        stage_is = st.stage_is ∙ ap stage_in (sym session);
         number_is = ap (λ (x : Session). x.frames) session ∙ st.number_is;
         fed = st.fed ++ run.piece.list;
         whole = st.whole ∙ sym (append-nil (st.fed ++ run.piece.list)) ∙ ap (λ (x : List ℕ). (st.fed ++ run.piece.list) ++ x) (sym piece);
@@ -67,7 +67,7 @@ if_more_map T.More P Q f p = f p
 if_more_map (T.Ended end) P Q f p = tt
 
 -- the next pending frame is taken
-took_row : (alone : Bool) (s : Setting) (run run' : Run) (line : LineState) (old new : Stand) (frame : FrameText) (more : List FrameText) (took : Took) → run'.session.frames ≡ min (run.session.frames + 1) (2 ^ 64 - 1) → Made (Row s run'.session.frames (stage_of run.session.stage) frame) alone old new (told_of run.session) (told_of run'.session) (stage_of run'.session.stage) run.out.list run'.out.list took → run'.decoder ≡ run.decoder → run'.piece.list ≡ run.piece.list → run'.taken ≡ run.taken → run'.wrote ≡ run.wrote → Went alone s old (spot run line old.state (frame ∷ more) Taking) new (spot run' line new.state more (after_took took))
+took_row : (alone : Bool) (s : Setting) (run run' : Run) (line : LineState) (old new : Stand) (frame : FrameText) (more : List FrameText) (took : Took) → run'.session.frames ≡ min (run.session.frames + 1) (2 ^ 64 - 1) → Made (Row s run'.session.frames (stage_in run.session) frame) alone old new (told_of run.session) (told_of run'.session) (stage_in run'.session) run.out.list run'.out.list took → run'.decoder ≡ run.decoder → run'.piece.list ≡ run.piece.list → run'.taken ≡ run.taken → run'.wrote ≡ run.wrote → Went alone s old (spot run line old.state (frame ∷ more) Taking) new (spot run' line new.state more (after_took took))
 took_row alone s run run' line old new frame more took number made decoder piece taken wrote = record {
   events = made.did.events;
   ran = made.did.ran;
@@ -78,7 +78,7 @@ took_row alone s run run' line old new frame more took number made decoder piece
         let first = begins_front st.fed run.decoder w.frames frame more st.splits.begins in
         let whole : Begins w.taken (w.frames ++ frame ∷ []) (first.0 ++ run.piece.list) = subst (λ (x : List ℕ). Begins x (w.frames ++ frame ∷ []) (first.0 ++ run.piece.list)) (sym st.whole) (begins_more st.fed first.0 run.piece.list (w.frames ++ frame ∷ []) first.1) in
         let n : run'.session.frames ≡ frame_number (w.frames ++ frame ∷ []) = next_number w.frames frame run.session.frames run'.session.frames st.number_is number in
-        let row1 = subst (λ (k : ℕ). Row s k (stage_of run.session.stage) frame (asked_of d.events) d.reply) n d.row in
+        let row1 = subst (λ (k : ℕ). Row s k (stage_in run.session) frame (asked_of d.events) d.reply) n d.row in
         let row2 = subst (λ (stage : Stage). Row s (frame_number (w.frames ++ frame ∷ [])) stage frame (asked_of d.events) d.reply) (sym st.stage_is) row1 in
         let row = subst (λ (x : Setting). Row x (frame_number (w.frames ++ frame ∷ [])) w.stage frame (asked_of d.events) d.reply) (sym at.setting_is) row2 in
         let z = absorbed alone w.desk old.state at.desk_is d.events d.ran.last d.ran.chain new.state d.ran.tail in
@@ -98,7 +98,7 @@ took_row alone s run run' line old new frame more took number made decoder piece
           said = d.writes.said;
           is = refl;
         } in
-        let stream : d.reply.stage ≡ stage_of run'.session.stage → Stream run' more v = λ stage. record {
+        let stream : d.reply.stage ≡ stage_in run'.session → Stream run' more v = λ stage. record {
           stage_is = stage;
           number_is = n;
           fed = st.fed;
@@ -117,14 +117,14 @@ took_row alone s run run' line old new frame more took number made decoder piece
             wrote = λ _. at.wrote tt ∙ sym wrote;
             stood = stood_same _ _ _ wrote at.stood;
             tells = tells_more run.session run'.session w.events d.events made.told_is at.tells;
-            follows = follows_took took run' more v (if_more_map took (stage_of run'.session.stage ≡ d.reply.stage) (Stream run' more v) (λ e. stream (sym e)) d.stage_is);
+            follows = follows_took took run' more v (if_more_map took (stage_in run'.session ≡ d.reply.stage) (Stream run' more v) (λ e. stream (sym e)) d.stage_is);
           },
           refl,
         );
   };
 }
 
-pub took_it : (alone : Bool) (s : Setting) (run run' : Run) (line : LineState) (old new : Stand) (frame : FrameText) (more : List FrameText) (took : Took) → run'.session.frames ≡ min (run.session.frames + 1) (2 ^ 64 - 1) → MadeRow (Row s run'.session.frames (stage_of run.session.stage) frame) alone old new (told_of run.session) (told_of run'.session) (stage_of run'.session.stage) run.out.list run'.out.list took → run'.decoder ≡ run.decoder → run'.piece.list ≡ run.piece.list → run'.taken ≡ run.taken → run'.wrote ≡ run.wrote → Went alone s old (spot run line old.state (frame ∷ more) Taking) new (spot run' line new.state more (after_took took))
+pub took_it : (alone : Bool) (s : Setting) (run run' : Run) (line : LineState) (old new : Stand) (frame : FrameText) (more : List FrameText) (took : Took) → run'.session.frames ≡ min (run.session.frames + 1) (2 ^ 64 - 1) → MadeRow (Row s run'.session.frames (stage_in run.session) frame) alone old new (told_of run.session) (told_of run'.session) (stage_in run'.session) run.out.list run'.out.list took → run'.decoder ≡ run.decoder → run'.piece.list ≡ run.piece.list → run'.taken ≡ run.taken → run'.wrote ≡ run.wrote → Went alone s old (spot run line old.state (frame ∷ more) Taking) new (spot run' line new.state more (after_took took))
 took_it alone s run run' line old new frame more took number (inl d) decoder piece taken wrote = took_row alone s run run' line old new frame more took number d decoder piece taken wrote
 took_it alone s run run' line old new frame more took number (inr g) decoder piece taken wrote =
     let over : Goes alone s (spot run line old.state (frame ∷ more) Taking) (spot run' line old.state more (Over E.NoMemory)) = gave_up_at alone s run run' line old.state (frame ∷ more) more Taking tt g.told_is g.out_is taken wrote in
@@ -153,13 +153,12 @@ turn_told block held talk es v login (Finishes is e a) = ap (told_along login) e
 turn_told block held talk es v login (Rests is own e a) = ap (told_along login) e
 turn_told block held talk es v login (Gives own w row a) = send_told block talk.sending es w login row
 
-quiet_told : (s : Setting) (stage : Stage) (es : List Event) (t : Turn) (login : Told) → GiveRow s stage es t → told_along login es ≡ login
-quiet_told s Awaits_address es t login row = ap (told_along login) row.0
-quiet_told s (Awaits_login peers) es t login row = ap (told_along login) row.0
-quiet_told s (Talks talk held) es t login row = turn_told s.block held talk es row.verdict login row.row
+quiet_told : (block : ℕ) (stage : Stage) (es : List Event) (t : Turn) (login : Told) → GiveRow block stage es t → told_along login es ≡ login
+quiet_told block (Logs_in at) es t login row = ap (told_along login) row.0
+quiet_told block (Talks talk held) es t login row = turn_told block held talk es row.verdict login row.row
 
 -- the own turn
-gave_row : (alone : Bool) (s : Setting) (run run' : Run) (line : LineState) (old new : Stand) (gave : Gave) → run.piece.list ≡ [] → DidTurn (GiveRow s (stage_of run.session.stage)) alone old new (stage_of run'.session.stage) run.out.list run'.out.list gave → run'.session.frames ≡ run.session.frames → told_of run'.session ≡ told_of run.session → run'.decoder ≡ run.decoder → run'.piece.list ≡ run.piece.list → run'.taken ≡ run.taken → run'.wrote ≡ run.wrote → Went alone s old (spot run line old.state [] Taking) new (spot run' line new.state [] (after_gave gave))
+gave_row : (alone : Bool) (s : Setting) (run run' : Run) (line : LineState) (old new : Stand) (gave : Gave) → run.piece.list ≡ [] → DidTurn (GiveRow s.block (stage_in run.session)) alone old new (stage_in run'.session) run.out.list run'.out.list gave → run'.session.frames ≡ run.session.frames → told_of run'.session ≡ told_of run.session → run'.decoder ≡ run.decoder → run'.piece.list ≡ run.piece.list → run'.taken ≡ run.taken → run'.wrote ≡ run.wrote → Went alone s old (spot run line old.state [] Taking) new (spot run' line new.state [] (after_gave gave))
 gave_row alone s run run' line old new gave empty d frames login decoder piece taken wrote = record {
   events = d.events;
   ran = d.ran;
@@ -168,12 +167,12 @@ gave_row alone s run run' line old new gave empty d frames login decoder piece t
         let st : Stream run [] w = at.follows in
         let all : w.taken ≡ st.fed = st.whole ∙ ap (λ (l : List ℕ). st.fed ++ l) empty ∙ append-nil st.fed in
         let split : Splits w.taken w.frames run.decoder = subst (λ (l : List ℕ). Splits l w.frames run.decoder) (sym all) (subst (λ (fs : List FrameText). Splits st.fed fs run.decoder) (append-nil w.frames) st.splits) in
-        let row1 = subst (λ (k : Stage). GiveRow s k (asked_of d.events) d.turn) (sym st.stage_is) d.row in
-        let row = subst (λ (x : Setting). GiveRow x w.stage (asked_of d.events) d.turn) (sym at.setting_is) row1 in
+        let row1 = subst (λ (k : Stage). GiveRow s.block k (asked_of d.events) d.turn) (sym st.stage_is) d.row in
+        let row = subst (λ (x : Setting). GiveRow x.block w.stage (asked_of d.events) d.turn) (sym at.setting_is) row1 in
         let z = absorbed alone w.desk old.state at.desk_is d.events d.ran.last d.ran.chain new.state d.ran.tail in
         let v : World = record w { desk = z.last; stage = d.turn.stage; phase = after_gave gave; output = w.output ++ d.writes.written; events = w.events ++ d.events } in
         let step : MakesTurn alone w v = record { phase = at.phase_is; rest = run.decoder; none = split; events = d.events; turn = d.turn; row = row; desk = z.last; chain = z.chain; output = d.writes.written; gave = gave; said = d.writes.said; is = refl } in
-        let stream : d.turn.stage ≡ stage_of run'.session.stage → Stream run' [] v = λ stage. record {
+        let stream : d.turn.stage ≡ stage_in run'.session → Stream run' [] v = λ stage. record {
           stage_is = stage;
           number_is = frames ∙ st.number_is;
           fed = st.fed;
@@ -191,8 +190,8 @@ gave_row alone s run run' line old new gave empty d frames login decoder piece t
             taken = at.taken ∙ sym taken;
             wrote = λ _. at.wrote tt ∙ sym wrote;
             stood = stood_same _ _ _ wrote at.stood;
-            tells = tells_more run.session run'.session w.events d.events (login ∙ sym (quiet_told s (stage_of run.session.stage) (asked_of d.events) d.turn (told_of run.session) d.row)) at.tells;
-            follows = follows_gave gave run' v (if_on_map gave (stage_of run'.session.stage ≡ d.turn.stage) (Stream run' [] v) (λ e. stream (sym e)) d.stage_is);
+            tells = tells_more run.session run'.session w.events d.events (login ∙ sym (quiet_told s.block (stage_in run.session) (asked_of d.events) d.turn (told_of run.session) d.row)) at.tells;
+            follows = follows_gave gave run' v (if_on_map gave (stage_in run'.session ≡ d.turn.stage) (Stream run' [] v) (λ e. stream (sym e)) d.stage_is);
           },
           refl,
         );
@@ -200,7 +199,7 @@ gave_row alone s run run' line old new gave empty d frames login decoder piece t
 }
 
 -- or none was made, for want of memory
-pub gave_it : (alone : Bool) (s : Setting) (run run' : Run) (line : LineState) (old new : Stand) (gave : Gave) → run.piece.list ≡ [] → MadeTurn (GiveRow s (stage_of run.session.stage)) alone old new (stage_of run.session.stage) (stage_of run'.session.stage) run.out.list run'.out.list gave → run'.session.frames ≡ run.session.frames → told_of run'.session ≡ told_of run.session → run'.decoder ≡ run.decoder → run'.piece.list ≡ run.piece.list → run'.taken ≡ run.taken → run'.wrote ≡ run.wrote → Went alone s old (spot run line old.state [] Taking) new (spot run' line new.state [] (after_gave gave))
+pub gave_it : (alone : Bool) (s : Setting) (run run' : Run) (line : LineState) (old new : Stand) (gave : Gave) → run.piece.list ≡ [] → MadeTurn (GiveRow s.block (stage_in run.session)) alone old new (stage_in run.session) (stage_in run'.session) run.out.list run'.out.list gave → run'.session.frames ≡ run.session.frames → told_of run'.session ≡ told_of run.session → run'.decoder ≡ run.decoder → run'.piece.list ≡ run.piece.list → run'.taken ≡ run.taken → run'.wrote ≡ run.wrote → Went alone s old (spot run line old.state [] Taking) new (spot run' line new.state [] (after_gave gave))
 gave_it alone s run run' line old new gave empty (inl d) frames login decoder piece taken wrote = gave_row alone s run run' line old new gave empty d frames login decoder piece taken wrote
 gave_it alone s run run' line old new gave empty (inr g) frames login decoder piece taken wrote =
     let over : Goes alone s (spot run line old.state [] Taking) (spot run' line old.state [] (Over E.NoMemory)) = gave_up_at alone s run run' line old.state [] [] Taking tt login g.out_is taken wrote in

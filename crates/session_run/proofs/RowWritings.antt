@@ -1,24 +1,26 @@
 -- What each row leaves behind it, frame by frame and at the own turn.
 use Rattle.std.proofs.Common.{◌≡◌, ◌⊎◌, ◌≤◌, ◌+◌, ◌∙◌, ℕ, length, Bool, true, false, List, [], ◌∷◌, Option, None, Result, Ok, Err, refl, sym, ap, subst, inl, inr, arith}
-use Rattle.std.specs.Prelude.{MatchBool, if◌then◌else◌}
-use Rattle.ftn_addr.specs.Address.{Address, same_address}
+use Rattle.ftn_addr.specs.Address.{Address}
 use Rattle.ftn_addr.specs.Frames.{FrameText, Command, Data}
 use Rattle.ftn_addr.specs.Key.{Key}
 use Rattle.ftn_addr.specs.declared.limits.TheConstants.{MAX_FRAME_DATA}
 use Rattle.binkp_args.specs.Command.{CommandText, Nul, Adr, Pwd, File as FileCommand, Accept, Eob, Got as GotCommand, Error, Bsy, Get as GetCommand, Skip as SkipCommand, Other, command_of}
 use Rattle.binkp_args.specs.declared.fault.ArgFault.{ArgFault}
-use Rattle.node_model.specs.Lists.{without}
+use Rattle.node_model.specs.Lists.{Each}
 use Rattle.node_model.specs.Calls.{Open_call, Knock_call, Offer_call, Answer, Let_in, Busy, Begun, Offered, Nothing, Came, Refused, Event, one}
 use Rattle.node_model.specs.Talk.{Message, File, Data as DataMessage, Got, Get, Skip, End as EndMessage, Talk, Part, Sending, RowEnd, Finished, Out_of_turn, Too_late, Too_much, Refused_by, Outcome, Goes_on, Waits, Ends, Verdict, TakeRow, FileTaken, AfterFile, AfterData, AfterSettling, DataTaken, Nothing_held, Drops, Exceeds, Fits, GotTaken, Settles, Passes_got, SkipTaken, Skips, Passes_skip, GetTaken, Resends, Passes_get, SendVerdict, Fails, SendRow, Reads, Fills, Awaits, Asks, AfterRead, AfterOffer, AfterSend, Says, Fills_out, Awaits_answer, Says_end, Waits_for_end, Ends_by, TurnRow, Finishes, Rests, Gives as GivesRow}
 use Rattle.node_model.specs.declared.words.Role.{Role}
-use Rattle.session_core.specs.Stages.{Side, Answers, Calls, Setting, Stage, Awaits_address, Awaits_login, Talks}
-use Rattle.session_core.specs.Says.{said_bytes, welcome_of, fault_bytes}
-use Rattle.session_core.specs.Sessions.{Reply, Row, ReadRow, CommandRow, BeforeLogin, PasswordRow, AcceptRow, LoggedRow, LoginRow, TalkRow, DataRow, AfterBegin, AfterKnock, Plain, before_address, early_password, early_word, named, is_among, is_none, Turn, GiveRow}
+use Rattle.session_auth.specs.Login.{Stage as LoginStage, Step, More as LoginMore, In, Bad_password, Peer_error, Peer_busy, Broke, reply_to}
+use Rattle.session_auth.specs.Says.{said_bytes as login_bytes}
+use Rattle.session_core.specs.Stages.{Setting, Stage, Logs_in, Talks, at_first}
+use Rattle.session_core.specs.Says.{said_bytes, fault_bytes}
+use Rattle.session_core.specs.Sessions.{Reply, Row, ReadRow, CommandRow, StepRow, LoggedRow, TalkRow, DataRow, AfterBegin, AfterKnock, Plain, terms_of, Turn, GiveRow}
 use Rattle.session_run.proofs.HeldKeys.{part_key, keys_along, keys_of_along}
 use Rattle.node_model.specs.Talk as M
 use Rattle.node_model.specs.Talk.{under_way}
 use Rattle.session_core.specs.Sessions.{turn_of}
-use Rattle.session_run.proofs.FrameWritings.{own_end_at, Framed, SaysWell, AllQuiet, nothing, asking, bad, both, broken, ending, faulty, filled, greeted, many, none_quiet, one_quiet, outcome, saying, says_as, section, take_end, take_quiet, take_says, uncalled, welcoming}
+use Rattle.session_run.proofs.FrameWritings.{own_end_at, Framed, SaysWell, AllQuiet, nothing, both, broken, ending, faulty, filled, many, none_quiet, one_quiet, outcome, saying, says_as, section, take_end, take_quiet, take_says}
+use Rattle.session_run.proofs.LoginSteps.{IsWord, greeting_words, replies_well, words_framed}
 
 abbrev pub stage_key : Stage → Option Key
 stage_key (Talks talk held) = part_key held
@@ -44,13 +46,11 @@ IsEarly (Talks talk held) = ⊥
 IsEarly stage = Unit {0}
 
 early_key : (stage : Stage) → IsEarly stage → stage_key stage ≡ None
-early_key Awaits_address i = refl
-early_key (Awaits_login peers) i = refl
+early_key (Logs_in at) i = refl
 early_key (Talks talk held) i = absurd i
 
 early_end : (stage : Stage) → IsEarly stage → own_end_at stage ≡ false
-early_end Awaits_address i = refl
-early_end (Awaits_login peers) i = refl
+early_end (Logs_in at) i = refl
 early_end (Talks talk held) i = absurd i
 
 -- an early reply's frames
@@ -62,72 +62,24 @@ early_behind : (before : Stage) (es : List Event) (reply r : Reply) → IsEarly 
 early_behind before es reply r i x p =
     unasked before es reply r (subst (λ (k : Option Key). Framed k es reply.stage reply.output) (sym (early_key before i)) x.writes) (early_key reply.stage x.early ∙ sym (early_key before i)) (early_end reply.stage x.early ∙ sym (early_end before i)) p
 
-among_early : (es : List Event) (b : Bool) (x y : Reply) → Early es x → Early es y → Early es (if b then x else y)
-among_early es true x y p q = p
-among_early es false x y p q = q
+begin_behind : (s : Setting) (role : Role) (peers : List Address) (secure : Bool) (at : LoginStage) (said : List CommandText) (answer : Answer) (es : List Event) (r : Reply) → Each IsWord said → es ≡ one (Open_call role peers secure s.moment) answer → AfterBegin s.side at (login_bytes said) answer r → Behind (Logs_in at) es r
+begin_behind s role peers secure at said (Begun number) es r words e a = behind_as (Logs_in at) es r _ a (record { writes = words_framed None es _ said words; holds = sym (ap (keys_along None) e); ends = refl; quiet = one_quiet es _ _ (λ h. cc) e })
+begin_behind s role peers secure at said (Refused fault) es r words e a =
+    behind_as (Logs_in at) es r _ a (record { writes = both None es _ (login_bytes said) (fault_bytes fault) (words_framed None es _ said words) (faulty None es _ fault); holds = sym (ap (keys_along None) e); ends = refl; quiet = one_quiet es _ _ (λ h. cc) e })
+begin_behind s role peers secure at said answer es r words e a = absurd a
 
-named_early : (side : Side) (n : ℕ) (peers : List Address) (es : List Event) → Early es (named side n peers)
-named_early side n [] es = record { writes = broken None es _; early = tt }
-named_early Answers n (first ∷ others) es = record { writes = nothing None es _; early = tt }
-named_early (Calls called) n (first ∷ others) es =
-    among_early es (is_among called (first ∷ others)) _ _ (record { writes = asking None es _; early = tt }) (record { writes = uncalled None es _; early = tt })
+-- a step that asks the desk for nothing
+step_early : (at : LoginStage) (said : List CommandText) (reply r : Reply) (es : List Event) → Each IsWord said → reply.output ≡ login_bytes said → IsEarly reply.stage → Plain reply es r → Behind (Logs_in at) es r
+step_early at said reply r es words is early p =
+    early_behind (Logs_in at) es reply r tt (record { writes = subst (Framed None es reply.stage) (sym is) (words_framed None es reply.stage said words); early = early }) p
 
-password_early : (side : Side) (n : ℕ) (es : List Event) → Early es (early_password side n)
-password_early Answers n es = record { writes = broken None es _; early = tt }
-password_early (Calls called) n es = record { writes = nothing None es _; early = tt }
-
-word_early : (side : Side) (n : ℕ) (es : List Event) → Early es (early_word side n)
-word_early Answers n es = record { writes = nothing None es _; early = tt }
-word_early (Calls called) n es = record { writes = broken None es _; early = tt }
-
-before_early : (s : Setting) (n : ℕ) (command : CommandText) (es : List Event) → Early es (before_address s n command)
-before_early s n (Nul text) es = record { writes = nothing None es _; early = tt }
-before_early s n (Adr addresses) es = named_early s.side n (without (same_address s.home) addresses) es
-before_early s n (Pwd text) es = password_early s.side n es
-before_early s n (FileCommand key offset) es = record { writes = broken None es _; early = tt }
-before_early s n (Accept text) es = word_early s.side n es
-before_early s n Eob es = record { writes = broken None es _; early = tt }
-before_early s n (GotCommand key) es = record { writes = broken None es _; early = tt }
-before_early s n (Error text) es = record { writes = nothing None es _; early = tt }
-before_early s n (Bsy text) es = record { writes = nothing None es _; early = tt }
-before_early s n (GetCommand key offset) es = record { writes = broken None es _; early = tt }
-before_early s n (SkipCommand key) es = record { writes = broken None es _; early = tt }
-before_early s n (Other number) es = record { writes = nothing None es _; early = tt }
-
-begin_behind : (s : Setting) (role : Role) (peers others : List Address) (answer : Answer) (es : List Event) (r : Reply) → es ≡ one (Open_call role peers false s.moment) answer → AfterBegin s.side others answer r → Behind (Awaits_login others) es r
-begin_behind s role peers others (Begun number) es r e a = behind_as (Awaits_login others) es r _ a (record { writes = welcoming s.side None es _; holds = sym (ap (keys_along None) e); ends = refl; quiet = one_quiet es _ _ (λ h. cc) e })
-begin_behind s role peers others (Refused fault) es r e a =
-    behind_as (Awaits_login others) es r _ a (record { writes = both None es _ (welcome_of s.side) (fault_bytes fault) (welcoming s.side None es _) (faulty None es _ fault); holds = sym (ap (keys_along None) e); ends = refl; quiet = one_quiet es _ _ (λ h. cc) e })
-begin_behind s role peers others answer es r e a = absurd a
-
-login_behind : (s : Setting) (peers : List Address) (es : List Event) (r : Reply) → LoginRow s peers es r → Behind (Awaits_login peers) es r
-login_behind s peers es r row = begin_behind s _ peers peers row.answer es r row.asks row.follows
-
-either : (b : Bool) (P Q R : Type 0) → (P → R) → (Q → R) → MatchBool b P Q → R
-either true P Q R p q m = p m
-either false P Q R p q m = q m
-
-password_behind : (side : Side) (s : Setting) (peers : List Address) (text : List ℕ) (es : List Event) (r : Reply) → PasswordRow side s peers text es r → Behind (Awaits_login peers) es r
-password_behind Answers s peers text es r p = either (is_none text) _ _ _ (login_behind s peers es r) (early_behind (Awaits_login peers) es _ r tt (record { writes = bad None es _; early = tt })) p
-password_behind (Calls called) s peers text es r p = early_behind (Awaits_login peers) es _ r tt (record { writes = nothing None es _; early = tt }) p
-
-accept_behind : (side : Side) (s : Setting) (peers : List Address) (es : List Event) (r : Reply) → AcceptRow side s peers es r → Behind (Awaits_login peers) es r
-accept_behind Answers s peers es r p = early_behind (Awaits_login peers) es _ r tt (record { writes = nothing None es _; early = tt }) p
-accept_behind (Calls called) s peers es r p = login_behind s peers es r p
-
-login_row_behind : (s : Setting) (n : ℕ) (peers : List Address) (command : CommandText) (es : List Event) (r : Reply) → BeforeLogin s n peers command es r → Behind (Awaits_login peers) es r
-login_row_behind s n peers (Nul text) es r p = early_behind (Awaits_login peers) es _ r tt (record { writes = nothing None es _; early = tt }) p
-login_row_behind s n peers (Adr addresses) es r p = early_behind (Awaits_login peers) es _ r tt (record { writes = nothing None es _; early = tt }) p
-login_row_behind s n peers (Pwd text) es r p = password_behind s.side s peers text es r p
-login_row_behind s n peers (FileCommand key offset) es r p = early_behind (Awaits_login peers) es _ r tt (record { writes = broken None es _; early = tt }) p
-login_row_behind s n peers (Accept text) es r p = accept_behind s.side s peers es r p
-login_row_behind s n peers Eob es r p = early_behind (Awaits_login peers) es _ r tt (record { writes = broken None es _; early = tt }) p
-login_row_behind s n peers (GotCommand key) es r p = early_behind (Awaits_login peers) es _ r tt (record { writes = broken None es _; early = tt }) p
-login_row_behind s n peers (Error text) es r p = early_behind (Awaits_login peers) es _ r tt (record { writes = nothing None es _; early = tt }) p
-login_row_behind s n peers (Bsy text) es r p = early_behind (Awaits_login peers) es _ r tt (record { writes = nothing None es _; early = tt }) p
-login_row_behind s n peers (GetCommand key offset) es r p = early_behind (Awaits_login peers) es _ r tt (record { writes = broken None es _; early = tt }) p
-login_row_behind s n peers (SkipCommand key) es r p = early_behind (Awaits_login peers) es _ r tt (record { writes = broken None es _; early = tt }) p
-login_row_behind s n peers (Other number) es r p = early_behind (Awaits_login peers) es _ r tt (record { writes = nothing None es _; early = tt }) p
+step_behind : (s : Setting) (n : ℕ) (at : LoginStage) (said : List CommandText) (step : Step) (es : List Event) (r : Reply) → Each IsWord said → StepRow s n at (login_bytes said) step es r → Behind (Logs_in at) es r
+step_behind s n at said (LoginMore stage) es r words p = step_early at said _ r es words refl tt p
+step_behind s n at said (In peers secure) es r words row = begin_behind s _ peers secure at said row.answer es r words row.asks row.follows
+step_behind s n at said (Bad_password wanted given) es r words p = step_early at said _ r es words refl tt p
+step_behind s n at said (Peer_error text) es r words p = step_early at said _ r es words refl tt p
+step_behind s n at said Peer_busy es r words p = step_early at said _ r es words refl tt p
+step_behind s n at said (Broke fault) es r words p = step_early at said _ r es words refl tt p
 
 talk_behind : (n : ℕ) (t : Talk) (part : Option Part) (message : Message) (es : List Event) (r : Reply) → TalkRow n t part message es r → Behind (Talks t part) es r
 talk_behind n t part message es r row =
@@ -156,8 +108,7 @@ logged_behind n t part (SkipCommand key) es r row = talk_behind n t part _ es r 
 logged_behind n t part (Other number) es r p = passed_behind t part es _ r (nothing _ es _) refl p
 
 command_behind : (s : Setting) (n : ℕ) (stage : Stage) (command : CommandText) (es : List Event) (r : Reply) → CommandRow s n stage command es r → Behind stage es r
-command_behind s n Awaits_address command es r row = early_behind Awaits_address es _ r tt (before_early s n command es) row
-command_behind s n (Awaits_login peers) command es r row = login_row_behind s n peers command es r row
+command_behind s n (Logs_in at) command es r row = step_behind s n at _ (reply_to (terms_of s) at command).step es r (replies_well (terms_of s) at command).words row
 command_behind s n (Talks t part) command es r row = logged_behind n t part command es r row
 
 read_behind : (s : Setting) (n : ℕ) (stage : Stage) (read : Result CommandText ArgFault) (es : List Event) (r : Reply) → ReadRow s n stage read es r → Behind stage es r
@@ -165,18 +116,17 @@ read_behind s n stage (Ok command) es r row = command_behind s n stage command e
 read_behind s n stage (Err fault) es r p = unasked stage es _ r (broken _ es _) refl refl p
 
 data_behind : (n : ℕ) (stage : Stage) (bytes : List ℕ) (es : List Event) (r : Reply) → DataRow n stage bytes es r → Behind stage es r
-data_behind n Awaits_address bytes es r p = unasked Awaits_address es _ r (broken _ es _) refl refl p
-data_behind n (Awaits_login peers) bytes es r p = unasked (Awaits_login peers) es _ r (broken _ es _) refl refl p
+data_behind n (Logs_in at) bytes es r p = unasked (Logs_in at) es _ r (broken _ es _) refl refl p
 data_behind n (Talks t part) bytes es r row = talk_behind n t part _ es r row
 
 pub row_behind : (s : Setting) (n : ℕ) (stage : Stage) (frame : FrameText) (es : List Event) (r : Reply) → Row s n stage frame es r → Behind stage es r
 row_behind s n stage (Command number args) es r row = read_behind s n stage (command_of s.home number args) es r row
 row_behind s n stage (Data bytes) es r row = data_behind n stage bytes es r row
 
-pub knock_behind : (s : Setting) (role : Role) (answer : Answer) (r : Reply) → AfterKnock s answer r → Behind Awaits_address (one (Knock_call role) answer) r
-knock_behind s role Let_in r a = behind_as Awaits_address _ r _ a (record { writes = greeted s.home None _ _; holds = refl; ends = refl; quiet = (λ h. cc, tt) })
-knock_behind s role Busy r a = behind_as Awaits_address _ r _ a (record { writes = many None _ _; holds = refl; ends = refl; quiet = (λ h. cc, tt) })
-knock_behind s role (Refused fault) r a = behind_as Awaits_address _ r _ a (record { writes = faulty None _ _ fault; holds = refl; ends = refl; quiet = (λ h. cc, tt) })
+pub knock_behind : (s : Setting) (role : Role) (answer : Answer) (r : Reply) → AfterKnock s answer r → Behind at_first (one (Knock_call role) answer) r
+knock_behind s role Let_in r a = behind_as at_first _ r _ a (record { writes = words_framed None _ _ _ (greeting_words s.side s.conf s.challenge s.moment); holds = refl; ends = refl; quiet = (λ h. cc, tt) })
+knock_behind s role Busy r a = behind_as at_first _ r _ a (record { writes = many None _ _; holds = refl; ends = refl; quiet = (λ h. cc, tt) })
+knock_behind s role (Refused fault) r a = behind_as at_first _ r _ a (record { writes = faulty None _ _ fault; holds = refl; ends = refl; quiet = (λ h. cc, tt) })
 knock_behind s role answer r a = absurd a
 
 -- The own turn.
@@ -262,7 +212,6 @@ turn_verdict s part t es v small (GivesRow own w row a) = record {
   quiet = inr own;
 }
 
-pub turn_behind : (s : Setting) (stage : Stage) (es : List Event) (t : Turn) → s.block ≤ MAX_FRAME_DATA → GiveRow s stage es t → TurnBehind stage es t
+pub turn_behind : (s : Setting) (stage : Stage) (es : List Event) (t : Turn) → s.block ≤ MAX_FRAME_DATA → GiveRow s.block stage es t → TurnBehind stage es t
 turn_behind s (Talks talk part) es t small row = subst (TurnBehind (Talks talk part) es) (sym row.is) (turn_verdict s part talk es row.verdict small row.row)
-turn_behind s Awaits_address es t small row = subst (TurnBehind Awaits_address es) (sym row.1) (record { writes = nothing None es _; holds = sym (ap (keys_along None) row.0); ends = λ h. h; quiet = inl (none_quiet es row.0) })
-turn_behind s (Awaits_login peers) es t small row = subst (TurnBehind (Awaits_login peers) es) (sym row.1) (record { writes = nothing None es _; holds = sym (ap (keys_along None) row.0); ends = λ h. h; quiet = inl (none_quiet es row.0) })
+turn_behind s (Logs_in at) es t small row = subst (TurnBehind (Logs_in at) es) (sym row.1) (record { writes = nothing None es _; holds = sym (ap (keys_along None) row.0); ends = λ h. h; quiet = inl (none_quiet es row.0) })

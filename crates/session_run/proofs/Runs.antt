@@ -14,7 +14,8 @@ use Rattle.session_run.specs.declared.run.Run.{Run}
 use Rattle.session_core.specs.declared.session.Session.{Session}
 use Rattle.binkp_link.specs.Lines.{LineState}
 use Rattle.session_core.specs.Stages.{Setting, Told, untold, told_after, told_along}
-use Rattle.session_core.specs.Replies.{told_of}
+use Rattle.mail_conf.specs.Conf.{ConfText}
+use Rattle.session_core.specs.Replies.{Lent, setting_with, told_of}
 use Rattle.session_run.specs.Machine.{World, Phase, Starting, Taking, Reading, Over, Reach, here, next, GivesUp, gives_up, MayGiveUp, after_took}
 use Rattle.session_run.specs.Runs.{IsUnleft, Tells_calls, Spot, spot, GoesBy, Goes, Went}
 
@@ -60,6 +61,10 @@ goes_drifts {alone} {s} {a} {es} {run} {line} {desk} {desk'} {fs} {p} drifted g 
 pub went_shared : (alone : Bool) (s : Setting) (run : Run) (line : LineState) (fs : List FrameText) (p : Phase) (old new : Stand) → Shared alone old new → Went alone s old (spot run line old.state fs p) new (spot run line new.state fs p)
 went_shared alone s run line fs p old new shared =
     record { events = []; goes = goes_drifts shared.drifted (record { goes = λ w at. (w, here, at, sym (append-nil w.events)) }); ran = ran_shared alone old new shared }
+
+-- with the same settings a session that keeps what it is lent has the same setting
+pub with_lent : (conf : ConfText) {old new : Lent} → new ≡ old → setting_with new conf ≡ setting_with old conf
+with_lent conf {old} {new} e = ap (λ (l : Lent). setting_with l conf) e
 
 -- what the session is lent, seen otherwise
 pub went_lent : {alone : Bool} {s r : Setting} {old new : Stand} {a b : Spot} → s ≡ r → Went alone s old a new b → Went alone r old a new b

@@ -1,18 +1,17 @@
 -- What rows do to the file under way: its entry and key stay, and it is settled at the peer's M_GOT of its key alone.
-use Rattle.std.proofs.Common.{◌≡◌, ◌∙◌, ◌+◌, ℕ, length, Bool, true, false, List, [], ◌∷◌, Option, Some, None, Result, Ok, Err, refl, sym, ap, subst}
-use Rattle.std.specs.Prelude.{MatchBool, if◌then◌else◌}
-use Rattle.ftn_addr.specs.Address.{Address, same_address}
+use Rattle.std.proofs.Common.{◌≡◌, ◌∙◌, ◌+◌, ℕ, length, false, List, [], ◌∷◌, Option, Some, None, Result, Ok, Err, refl, sym, ap, subst}
 use Rattle.ftn_addr.specs.Frames.{FrameText, Command, Data}
 use Rattle.ftn_addr.specs.Key.{Key}
 use Rattle.binkp_args.specs.declared.fault.ArgFault.{ArgFault}
 use Rattle.binkp_args.specs.Command.{CommandText, Nul, Adr, Pwd, File as FileCommand, Accept, Eob, Got as GotCommand, Error, Bsy, Get as GetCommand, Skip as SkipCommand, Other, command_of}
-use Rattle.node_model.specs.Lists.{without}
 use Rattle.node_model.specs.Rows.{Have, Refuse, Elsewhere, Go, Whole, From, Late}
 use Rattle.node_model.specs.Calls.{Call, Got_call, Offer_call, Answer, Let_in, Busy, Begun, Offered, Nothing, Came, Settled, Filed, More, Whole_now, Refused, Event, one}
 use Rattle.node_model.specs.Talk as M
 use Rattle.node_model.specs.Talk.{Message, File, Data as DataMessage, Got, Get, Skip, End as EndMessage, Talk, Part, Sending, under_way, Verdict, TakeRow, AfterFile, AfterData, AfterSettling, Nothing_held, Drops, Exceeds, Fits, Settles, Passes_got, Skips, Passes_skip, Resends, Passes_get, SendVerdict, SendRow, Reads, Fills, Awaits, Asks, AfterRead, AfterOffer, AfterSend, Says, Fills_out, Awaits_answer, Says_end, Waits_for_end, Ends_by, TurnRow, Finishes, Rests, Gives as GivesRow}
-use Rattle.session_core.specs.Stages.{Side, Answers, Calls, Setting, Stage, Awaits_address, Awaits_login, Talks}
-use Rattle.session_core.specs.Sessions.{Reply, Row, ReadRow, CommandRow, BeforeLogin, PasswordRow, AcceptRow, LoggedRow, LoginRow, TalkRow, DataRow, AfterBegin, AfterKnock, Plain, before_address, early_password, early_word, named, is_among, is_none, Turn, GiveRow}
+use Rattle.session_core.specs.Stages.{Setting, Stage, Logs_in, Talks}
+use Rattle.session_auth.specs.Login.{Stage as LoginStage, Step, More as LoginMore, In, Bad_password, Peer_error, Peer_busy, Broke, reply_to}
+use Rattle.session_auth.specs.Sides.{Side}
+use Rattle.session_core.specs.Sessions.{Reply, Row, ReadRow, CommandRow, StepRow, LoggedRow, TalkRow, DataRow, AfterBegin, AfterKnock, Plain, terms_of, Turn, GiveRow}
 use Rattle.session_run.proofs.Causes.{read_as, said_by}
 
 abbrev pub sending_at : Stage → Option Sending
@@ -131,70 +130,18 @@ plain_sends before reply r es said same (none, is) = subst (λ (x : Reply). RowS
 abbrev pub Unsent : Reply → Type 0
 Unsent reply = SameFile None (sending_at reply.stage)
 
-among_unsent : (b : Bool) (x y : Reply) → Unsent x → Unsent y → Unsent (if b then x else y)
-among_unsent true x y p q = p
-among_unsent false x y p q = q
+begin_unsent : (side : Side) (at : LoginStage) (words : List ℕ) (answer : Answer) (r : Reply) → AfterBegin side at words answer r → Unsent r
+begin_unsent side at words (Begun number) r a = subst Unsent (sym a) tt
+begin_unsent side at words (Refused fault) r a = subst Unsent (sym a) tt
+begin_unsent side at words answer r a = absurd a
 
-named_unsent : (side : Side) (n : ℕ) (peers : List Address) → Unsent (named side n peers)
-named_unsent side n [] = tt
-named_unsent Answers n (first ∷ others) = tt
-named_unsent (Calls called) n (first ∷ others) = among_unsent (is_among called (first ∷ others)) _ _ tt tt
-
-password_unsent : (side : Side) (n : ℕ) → Unsent (early_password side n)
-password_unsent Answers n = tt
-password_unsent (Calls called) n = tt
-
-word_unsent : (side : Side) (n : ℕ) → Unsent (early_word side n)
-word_unsent Answers n = tt
-word_unsent (Calls called) n = tt
-
-before_unsent : (s : Setting) (n : ℕ) (command : CommandText) → Unsent (before_address s n command)
-before_unsent s n (Adr addresses) = named_unsent s.side n (without (same_address s.home) addresses)
-before_unsent s n (Pwd text) = password_unsent s.side n
-before_unsent s n (Accept text) = word_unsent s.side n
-before_unsent s n (Nul text) = tt
-before_unsent s n (FileCommand key offset) = tt
-before_unsent s n Eob = tt
-before_unsent s n (GotCommand key) = tt
-before_unsent s n (Error text) = tt
-before_unsent s n (Bsy text) = tt
-before_unsent s n (GetCommand key offset) = tt
-before_unsent s n (SkipCommand key) = tt
-before_unsent s n (Other number) = tt
-
-begin_unsent : (side : Side) (peers : List Address) (answer : Answer) (r : Reply) → AfterBegin side peers answer r → Unsent r
-begin_unsent side peers (Begun number) r a = subst Unsent (sym a) tt
-begin_unsent side peers (Refused fault) r a = subst Unsent (sym a) tt
-begin_unsent side peers answer r a = absurd a
-
-login_sends : (s : Setting) (peers : List Address) (es : List Event) (r : Reply) (said : Option CommandText) → LoginRow s peers es r → RowSends said None es (sending_at r.stage)
-login_sends s peers es r said row = sends_one said None es _ _ row.answer (λ number h. cc) row.asks (begin_unsent s.side peers row.answer r row.follows)
-
-either : (b : Bool) (P Q R : Type 0) → (P → R) → (Q → R) → MatchBool b P Q → R
-either true P Q R p q m = p m
-either false P Q R p q m = q m
-
-password_sends : (side : Side) (s : Setting) (peers : List Address) (text : List ℕ) (es : List Event) (r : Reply) (said : Option CommandText) → PasswordRow side s peers text es r → RowSends said None es (sending_at r.stage)
-password_sends Answers s peers text es r said row = either (is_none text) _ _ _ (login_sends s peers es r said) (plain_sends None _ r es said tt) row
-password_sends (Calls called) s peers text es r said row = plain_sends None _ r es said tt row
-
-accept_sends : (side : Side) (s : Setting) (peers : List Address) (es : List Event) (r : Reply) (said : Option CommandText) → AcceptRow side s peers es r → RowSends said None es (sending_at r.stage)
-accept_sends Answers s peers es r said row = plain_sends None _ r es said tt row
-accept_sends (Calls called) s peers es r said row = login_sends s peers es r said row
-
-login_row_sends : (s : Setting) (n : ℕ) (peers : List Address) (command : CommandText) (es : List Event) (r : Reply) (said : Option CommandText) → BeforeLogin s n peers command es r → RowSends said None es (sending_at r.stage)
-login_row_sends s n peers (Pwd text) es r said row = password_sends s.side s peers text es r said row
-login_row_sends s n peers (Accept text) es r said row = accept_sends s.side s peers es r said row
-login_row_sends s n peers (Nul text) es r said row = plain_sends None _ r es said tt row
-login_row_sends s n peers (Adr addresses) es r said row = plain_sends None _ r es said tt row
-login_row_sends s n peers (FileCommand key offset) es r said row = plain_sends None _ r es said tt row
-login_row_sends s n peers Eob es r said row = plain_sends None _ r es said tt row
-login_row_sends s n peers (GotCommand key) es r said row = plain_sends None _ r es said tt row
-login_row_sends s n peers (Error text) es r said row = plain_sends None _ r es said tt row
-login_row_sends s n peers (Bsy text) es r said row = plain_sends None _ r es said tt row
-login_row_sends s n peers (GetCommand key offset) es r said row = plain_sends None _ r es said tt row
-login_row_sends s n peers (SkipCommand key) es r said row = plain_sends None _ r es said tt row
-login_row_sends s n peers (Other number) es r said row = plain_sends None _ r es said tt row
+login_sends : (s : Setting) (n : ℕ) (at : LoginStage) (words : List ℕ) (step : Step) (es : List Event) (r : Reply) (said : Option CommandText) → StepRow s n at words step es r → RowSends said None es (sending_at r.stage)
+login_sends s n at words (LoginMore stage) es r said row = plain_sends None _ r es said tt row
+login_sends s n at words (In peers secure) es r said row = sends_one said None es _ _ row.answer (λ number h. cc) row.asks (begin_unsent s.side at words row.answer r row.follows)
+login_sends s n at words (Bad_password wanted given) es r said row = plain_sends None _ r es said tt row
+login_sends s n at words (Peer_error text) es r said row = plain_sends None _ r es said tt row
+login_sends s n at words Peer_busy es r said row = plain_sends None _ r es said tt row
+login_sends s n at words (Broke fault) es r said row = plain_sends None _ r es said tt row
 
 logged_sends : (n : ℕ) (t : Talk) (part : Option Part) (command : CommandText) (es : List Event) (r : Reply) → LoggedRow n t part command es r → RowSends (Some command) t.sending es (sending_at r.stage)
 logged_sends n t part (Nul text) es r row = plain_sends t.sending _ r es _ (same_file t.sending) row
@@ -211,8 +158,7 @@ logged_sends n t part (SkipCommand key) es r row = talk_sends n t part _ es r _ 
 logged_sends n t part (Other number) es r row = plain_sends t.sending _ r es _ (same_file t.sending) row
 
 command_sends : (s : Setting) (n : ℕ) (stage : Stage) (command : CommandText) (es : List Event) (r : Reply) → CommandRow s n stage command es r → RowSends (Some command) (sending_at stage) es (sending_at r.stage)
-command_sends s n Awaits_address command es r row = plain_sends None _ r es _ (before_unsent s n command) row
-command_sends s n (Awaits_login peers) command es r row = login_row_sends s n peers command es r _ row
+command_sends s n (Logs_in at) command es r row = login_sends s n at _ (reply_to (terms_of s) at command).step es r _ row
 command_sends s n (Talks t part) command es r row = logged_sends n t part command es r row
 
 read_sends : (s : Setting) (n : ℕ) (stage : Stage) (read : Result CommandText ArgFault) (es : List Event) (r : Reply) → ReadRow s n stage read es r → RowSends (read_as read) (sending_at stage) es (sending_at r.stage)
@@ -220,8 +166,7 @@ read_sends s n stage (Ok command) es r row = command_sends s n stage command es 
 read_sends s n stage (Err fault) es r row = plain_sends (sending_at stage) _ r es _ (same_file (sending_at stage)) row
 
 data_frame_sends : (n : ℕ) (stage : Stage) (bytes : List ℕ) (es : List Event) (r : Reply) → DataRow n stage bytes es r → RowSends None (sending_at stage) es (sending_at r.stage)
-data_frame_sends n Awaits_address bytes es r row = plain_sends None _ r es _ tt row
-data_frame_sends n (Awaits_login peers) bytes es r row = plain_sends None _ r es _ tt row
+data_frame_sends n (Logs_in at) bytes es r row = plain_sends None _ r es _ tt row
 data_frame_sends n (Talks t part) bytes es r row = talk_sends n t part _ es r _ (λ k e. absurd (let clash : DataMessage bytes ≡ Got k = e in cc)) row
 
 pub row_sends : (s : Setting) (n : ℕ) (stage : Stage) (frame : FrameText) (es : List Event) (r : Reply) → Row s n stage frame es r → RowSends (said_by s.home frame) (sending_at stage) es (sending_at r.stage)
@@ -304,7 +249,6 @@ verdict_settles block part t es v (GivesRow own w row a) =
     let x = step_got block t.sending es w row in
     record { few = x.0; got = x.1; sends = subst (TurnSends t.sending es) (sym (send_leaves t v w a)) (step_sends block t.sending es w row) }
 
-pub turn_settles : (s : Setting) (stage : Stage) (es : List Event) (t : Turn) → GiveRow s stage es t → TurnSettles (sending_at stage) es (sending_at t.stage)
-turn_settles s (Talks talk part) es t row = subst (λ (x : Turn). TurnSettles talk.sending es (sending_at x.stage)) (sym row.is) (verdict_settles s.block part talk es row.verdict row.row)
-turn_settles s Awaits_address es t row = subst (λ (x : Turn). TurnSettles None es (sending_at x.stage)) (sym row.1) (quiet_turn None es None row.0 refl)
-turn_settles s (Awaits_login peers) es t row = subst (λ (x : Turn). TurnSettles None es (sending_at x.stage)) (sym row.1) (quiet_turn None es None row.0 refl)
+pub turn_settles : (block : ℕ) (stage : Stage) (es : List Event) (t : Turn) → GiveRow block stage es t → TurnSettles (sending_at stage) es (sending_at t.stage)
+turn_settles block (Talks talk part) es t row = subst (λ (x : Turn). TurnSettles talk.sending es (sending_at x.stage)) (sym row.is) (verdict_settles block part talk es row.verdict row.row)
+turn_settles block (Logs_in at) es t row = subst (λ (x : Turn). TurnSettles None es (sending_at x.stage)) (sym row.1) (quiet_turn None es None row.0 refl)

@@ -105,7 +105,7 @@ step_settling alone desk w v f (takes_frame s) =
           heard = heard_last home frames frame (Got g.file.key) g.says;
         }
 step_settling alone desk w v f (makes_turn s) =
-    let r = turn_settles w.setting w.stage (asked_of s.events) s.turn s.row in
+    let r = turn_settles w.setting.block w.stage (asked_of s.events) s.turn s.row in
     subst (Settling alone desk) (sym s.is) (record {
       leads = (joined alone desk w.events w.desk s.events s.desk f.leads s.chain).chain;
       each = quiet_each alone desk w.events s.events w.setting.home w.frames r.few r.got f.each;

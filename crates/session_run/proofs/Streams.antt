@@ -11,7 +11,7 @@ use Rattle.binkp_frame.specs.declared.frame.Frame.{Frame}
 use Rattle.session_run.specs.declared.run.Run.{Run}
 use Rattle.session_core.specs.declared.session.Session.{Session}
 use Rattle.session_core.specs.Sessions.{frame_number}
-use Rattle.session_core.specs.Replies.{stage_of}
+use Rattle.session_core.specs.Replies.{stage_in}
 use Rattle.session_run.specs.Machine.{World}
 use Rattle.session_run.specs.Runs.{Stream}
 
@@ -60,7 +60,7 @@ AddUp = (old mid new : List FrameText) (stream piece rest left : List ℕ) → F
 -- the stream, where session, decoder and piece are as they were
 pub stream_same : (run run' : Run) (pending : List FrameText) (w v : World) → v.stage ≡ w.stage → v.frames ≡ w.frames → v.taken ≡ w.taken → run'.session ≡ run.session → run'.decoder ≡ run.decoder → run'.piece.list ≡ run.piece.list → Stream run pending w → Stream run' pending v
 stream_same run run' pending w v stage frames taken session decoder piece st = record {
-  stage_is = stage ∙ st.stage_is ∙ ap (λ (x : Session). stage_of x.stage) (sym session);
+  stage_is = stage ∙ st.stage_is ∙ ap stage_in (sym session);
   number_is = ap (λ (x : Session). x.frames) session ∙ st.number_is ∙ ap frame_number (sym frames);
   fed = st.fed;
   whole = taken ∙ st.whole ∙ ap (λ (x : List ℕ). st.fed ++ x) (sym piece);

@@ -4,7 +4,7 @@ use Rattle.node_model.specs.Desks.{DeskPart}
 use Rattle.node_model.specs.Images.{Stand}
 use Rattle.binkp_link.specs.Lines.{LineState, shut}
 use Rattle.session_core.specs.Ends.{end_text}
-use Rattle.session_core.specs.Replies.{Sits, told_of, stage_of}
+use Rattle.session_core.specs.Replies.{Sits, told_of, stage_in}
 use Rattle.session_core.specs.Stages.{Setting}
 use Rattle.session_run.specs.declared.run.Run.{Run}
 use Rattle.session_run.specs.declared.turns.Going.{Going}
@@ -43,7 +43,7 @@ IsFree broken part = broken ≡ None → part.open_now ≡ false
 abbrev pub MayTurn : (ready : Type 0) (part : DeskPart) (broken : Option ℕ) (calm : ℕ) (run : Run) → Going → Type 0
 MayTurn ready part broken calm run G.Starting =
     IsNew run × (part ≡ record { open_now = false; claim = None; held = None }) × (0 < run.session.setting.limit) × (calm ≡ 0)
-MayTurn ready part broken calm run G.Talking = Sits ready part (stage_of run.session.stage) × InLimit run.session.setting.limit run calm
+MayTurn ready part broken calm run G.Talking = Sits ready part (stage_in run.session) × InLimit run.session.setting.limit run calm
 MayTurn ready part broken calm run (G.Draining mute end) = IsFree broken part
 MayTurn ready part broken calm run G.Closed = ⊥
 

@@ -1,5 +1,5 @@
 -- What holds of every session, in the subject's own words (own, after FTS-1026).
-use Rattle.std.specs.Prelude.{◌≡◌, ◌⊎◌, ℕ, ◌+◌, ◌≤◌, Bool, true, false, List, [], ◌∷◌, ◌++◌, length, Some, Ok, codes}
+use Rattle.std.specs.Prelude.{◌≡◌, ◌⊎◌, ℕ, ◌+◌, ◌≤◌, Bool, true, false, List, [], ◌∷◌, ◌++◌, length, Some, Ok}
 use Rattle.ftn_addr.specs.Address.{Address}
 use Rattle.ftn_addr.specs.Counts.{Increased, CountGrew, next_count}
 use Rattle.ftn_addr.specs.Frames.{FrameText, Command}
@@ -9,13 +9,16 @@ use Rattle.node_model.specs.Calls.{Leave_call, Disk, Read, Full, Answer, Busy, R
 use Rattle.node_model.specs.Images.{Stand, Drifted, RanAt}
 use Rattle.node_model.specs.Lists.{Each}
 use Rattle.node_model.specs.Talk.{is_finished}
+use Rattle.cram_md5.specs.Answer.{answer, is_answer}
+use Rattle.session_auth.specs.Login.{Awaits_password}
+use Rattle.session_auth.specs.Passwords.{wanted_password}
 use Rattle.session_core.specs.declared.ending.Cause.{Cause}
 use Rattle.session_core.specs.Ends.{End}
 use Rattle.session_core.specs.Ends as E
 use Rattle.session_core.specs.Takings as T
 use Rattle.binkp_link.specs.Lines.{LineState, Moves, shut}
-use Rattle.session_core.specs.Stages.{Answers, Setting, Stage, Awaits_login, Talks}
-use Rattle.session_core.specs.Sessions.{Reply, Row, frame_number, is_none, fault_end}
+use Rattle.session_core.specs.Stages.{Setting, Stage, Logs_in, Talks}
+use Rattle.session_core.specs.Sessions.{Reply, Row, frame_number, fault_end}
 use Rattle.session_run.specs.Acknowledged.{Written}
 use Rattle.session_run.specs.Reports.{ReportText, Reports}
 use Rattle.session_run.specs.Resumption.{LeavesMarked}
@@ -163,13 +166,15 @@ pub record Says (said : CommandText) (setting : Setting) (frames : List FrameTex
   pub last : frames ≡ earlier ++ Command number args ∷ []
   pub says : command_of setting.home number args ≡ Ok said
 
--- The answering side was waiting for a password, wanted none, and was given that one.
+-- The login was waiting for the password of these peers' first address that has one. The answer to the challenge was wanted,
+-- and what was given is no answer.
 pub record Refuses_password (wanted given : List ℕ) (setting : Setting) (frames : List FrameText) (met : Stage) (taken : List ℕ) : Type 0 where
-  pub side : setting.side ≡ Answers
   pub peers : List Address
-  pub waits : met ≡ Awaits_login peers
-  pub none : wanted ≡ codes "-"
-  pub other : is_none given ≡ false
+  pub waits : met ≡ Logs_in (Awaits_password peers)
+  pub password : List ℕ
+  pub has : wanted_password setting.conf peers ≡ Some password
+  pub answers : wanted ≡ answer password setting.challenge
+  pub other : is_answer password setting.challenge given ≡ false
   pub says : Says (Pwd given) setting frames taken
 
 -- both sides have said that they are done, and no file is held
@@ -178,7 +183,7 @@ IsDone (Talks talk held) = is_finished talk held ≡ true
 IsDone stage = ⊥
 
 -- Finished comes only once both sides are done; PeerError and PeerBusy only where the peer's last frame taken is an M_ERR
--- with that text, or an M_BSY; BadPassword only where that frame is an M_PWD with what was given, where nothing was wanted;
+-- with that text, or an M_BSY; BadPassword only where that frame is an M_PWD with what was given, which is no answer that was wanted;
 -- Broke only where that frame was refused so; Endless only where the bytes taken and sent reach the limit
 abbrev pub OwnCause : End → Setting → Stage → List FrameText → (met : Stage) (made : List Turned) (taken sent : List ℕ) → Type 0
 OwnCause E.Finished setting stage frames met made taken sent = IsDone stage

@@ -15,7 +15,7 @@ use Rattle.session_core.specs.Takings as T
 use Rattle.session_core.specs.Givings.{Gave}
 use Rattle.session_core.specs.Givings as G
 use Rattle.binkp_link.specs.Lines.{LineState, IsRead, IsWrite, came, went}
-use Rattle.session_core.specs.Stages.{Setting, role_of, Stage, Awaits_address}
+use Rattle.session_core.specs.Stages.{Setting, role_of, Stage, at_first}
 use Rattle.session_core.specs.Sessions.{Reply, Row, AfterKnock, Turn, GiveRow, Said, Gives, frame_number}
 
 -- where a session is: before its first turn; taking the frames that are whole, and then making the own turn; writing,
@@ -84,7 +84,7 @@ after_leave end _ = end
 -- this side knocks at its desk with its role, and greets its peer or turns it away
 pub record Greets (alone : Bool) (w v : World) : Type 0 where
   pub phase : w.phase ≡ Starting
-  pub new : w.stage ≡ Awaits_address
+  pub new : w.stage ≡ at_first
   pub role : Role
   pub side : role ≡ role_of w.setting.side
   pub answer : Answer
@@ -122,7 +122,7 @@ pub record MakesTurn (alone : Bool) (w v : World) : Type 0 where
   pub none : Splits w.taken w.frames rest
   pub events : List Turned
   pub turn : Turn
-  pub row : GiveRow w.setting w.stage (asked_of events) turn
+  pub row : GiveRow w.setting.block w.stage (asked_of events) turn
   pub desk : DeskState
   pub chain : Turns alone w.desk events desk
   pub output : List ℕ
@@ -240,4 +240,4 @@ Throughout alone P w v (next {u} r s) = Throughout alone P w u r × P v
 -- nothing has happened yet
 abbrev pub opening : Setting → LineState → DeskState → World
 opening setting line desk =
-    record { setting = setting; line = line; desk = desk; stage = Awaits_address; phase = Starting; pieces = []; taken = []; frames = []; last_stage = Awaits_address; last_calls = []; output = []; sent = []; events = [] }
+    record { setting = setting; line = line; desk = desk; stage = at_first; phase = Starting; pieces = []; taken = []; frames = []; last_stage = at_first; last_calls = []; output = []; sent = []; events = [] }

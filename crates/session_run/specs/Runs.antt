@@ -9,9 +9,9 @@ use Rattle.session_core.specs.Ends.{End, end_text}
 use Rattle.session_run.specs.declared.run.Run.{Run}
 use Rattle.binkp_link.specs.Lines.{LineState}
 use Rattle.session_core.specs.declared.session.Session.{Session}
-use Rattle.session_core.specs.Stages.{Setting, Awaits_address, untold, told_along}
+use Rattle.session_core.specs.Stages.{Setting, at_first, untold, told_along}
 use Rattle.session_core.specs.Sessions.{frame_number}
-use Rattle.session_core.specs.Replies.{told_of, stage_of}
+use Rattle.session_core.specs.Replies.{told_of, stage_in}
 use Rattle.session_run.specs.Machine.{World, Phase, Over, Draining, Closed, Reach}
 
 -- the code's run, where its line and its desk stand, the frames that were read and not yet taken, and the phase
@@ -27,7 +27,7 @@ spot run line desk pending phase = record { run = run; line = line; desk = desk;
 
 -- what was taken, the frames and the stage, as the code has them
 pub record Stream (run : Run) (pending : List FrameText) (w : World) : Type 0 where
-  pub stage_is : w.stage ≡ stage_of run.session.stage
+  pub stage_is : w.stage ≡ stage_in run.session
   pub number_is : run.session.frames ≡ frame_number w.frames
   pub fed : List ℕ
   pub whole : w.taken ≡ fed ++ run.piece.list
@@ -81,7 +81,7 @@ pub record Went (alone : Bool) (setting : Setting) (old : Stand) (a : Spot) (new
 
 -- nothing has happened yet
 pub record IsNew (run : Run) : Type 0 where
-  pub stage : stage_of run.session.stage ≡ Awaits_address
+  pub stage : stage_in run.session ≡ at_first
   pub told : told_of run.session ≡ untold
   pub frames : run.session.frames ≡ 0
   pub decoder : run.decoder ≡ []

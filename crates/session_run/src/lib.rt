@@ -6,7 +6,7 @@
 //!
 //! ```
 //! let mut desk = HubDesk { hub, seat };         // of `hub_core`
-//! let report = run_session(alloc, Side::Calls(peer), &mut line, &mut desk, setting);
+//! let report = run_session(alloc, Side::Calls(peer), &mut line, &mut desk, &conf, challenge, now);
 //! let end = report.end;                        // `End::Finished`, or why not
 //! ```
 //!

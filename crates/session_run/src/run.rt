@@ -3,8 +3,12 @@ ghost use Rattle.std.specs.Prelude.{◌≡◌, ◌+◌, ◌^◌, ◌<◌, ◌≤
 ghost use Rattle.binkp_frame.specs.Views.{frame_texts};
 ghost use Rattle.node_model.specs.Calls.{DeskState};
 ghost use Rattle.binkp_link.specs.Lines.{LineState, LineBytes, MayRead, MayWrite, came, went};
-ghost use Rattle.session_core.specs.Replies.{Sits, SitsOn, SitsStill, setting_in, setting_of, stage_of};
-ghost use Rattle.session_core.specs.Stages.{Setting as Lent};
+ghost use Rattle.session_core.specs.Replies.{Sits, SitsOn, SitsStill, lent_in, setting_in, stage_in};
+ghost use Rattle.binkp_args.specs.Limits.{AreAddresses};
+ghost use Rattle.mail_conf.specs.Conf.{ConfText};
+ghost use Rattle.mail_conf.specs.ConfView.{conf_text};
+ghost use Rattle.session_auth.specs.Sides.{side_of};
+ghost use Rattle.session_core.specs.Stages.{Setting as Lent, setting_of};
 ghost use Rattle.session_run.specs.Runs.{over_or};
 ghost use Rattle.session_run.specs.Machine.{Phase, Starting, Taking, Writing, Reading, Over, Draining, after_gave, after_read, after_took, after_write, moved, quieted};
 ghost use Rattle.session_core.specs.Ends.{End as Ending};
@@ -17,8 +21,9 @@ ghost use Rattle.session_core.specs.Givings as G;
 use binkp_frame::{Decoder, Frame, pieces_add_up};
 use binkp_link::{Line, ReadAnswer, WriteAnswer};
 use ftn_addr::{Bytes, NoMemory};
+use mail_conf::Conf;
 use node_model::{Desk, Knock};
-use session_core::{End, Gave, Session, Setting, Side, Took, refuse, say_greeting, turn_away};
+use session_core::{End, Gave, Session, Side, Took, refuse, turn_away};
 use std::alloc::Global;
 
 /// A session that goes on: what it knows, the bytes of a frame that isn't whole, the piece that was read and
@@ -37,12 +42,14 @@ impl Run {
     ghost use Rattle.session_run.specs.Runs.{Goes, Went, IsNew, Wrote, Came, SameCounts, Advances, InLimit, drain_room, drained, room, spot};
 
     /// Before the first turn. This takes no memory.
-    pub fn new(alloc: Global, side: Side, setting: Setting) -> Run
+    pub fn new(alloc: Global, side: Side, conf: &Conf, challenge: [u8; 16], now: u64) -> Run
+        requires some { 0 < (conf_text conf.now).block }
+        requires fits { (conf_text conf.now).block ≤ 32767 }
         ensures new { IsNew result }
-        ensures setting { setting_in result.session ≡ setting_of side setting }
+        ensures setting { setting_in result.session (conf_text conf.now) ≡ setting_of (side_of side) (conf_text conf.now) challenge now }
     {
         Run {
-            session: Session::new(side, setting),
+            session: Session::new(side, conf, challenge, now),
             decoder: Decoder::new(alloc),
             piece: Bytes::new(alloc),
             out: Bytes::new(alloc),
@@ -73,17 +80,24 @@ impl Run {
     }
 
     /// Takes frames in order, up to one that ends the session.
-    fn take_each<K: Desk>(&mut self, alloc: Global, frames: &[Frame], desk: &mut K) -> Took
-        requires sits { Sits (K.ready desk.old) (K.part desk.old) (stage_of self.old.session.stage) }
+    fn take_each<K: Desk>(
+        &mut self,
+        alloc: Global,
+        frames: &[Frame],
+        conf: &Conf,
+        desk: &mut K,
+    ) -> Took
+        requires own { AreAddresses (conf_text conf.now).addresses }
+        requires sits { Sits (K.ready desk.old) (K.part desk.old) (stage_in self.old.session) }
         requires piece { self.old.piece.list ≡ [] }
-        ensures went { (line : LineState) → Went K.alone (setting_in self.old.session) (K.stand desk.old) (spot self.old line (K.stand desk.old).state (frame_texts frames.now) Taking) (K.stand desk.new) (spot self.new line (K.stand desk.new).state [] (after_took (took_text result))) }
-        ensures sits { SitsStill (K.ready desk.new) (K.part desk.new) (stage_of self.new.session.stage) (took_text result) }
+        ensures went { (line : LineState) → Went K.alone (setting_in self.old.session (conf_text conf.now)) (K.stand desk.old) (spot self.old line (K.stand desk.old).state (frame_texts frames.now) Taking) (K.stand desk.new) (spot self.new line (K.stand desk.new).state [] (after_took (took_text result))) }
+        ensures sits { SitsStill (K.ready desk.new) (K.part desk.new) (stage_in self.new.session) (took_text result) }
         ensures piece { self.new.piece.list ≡ [] }
-        ensures setting { setting_in self.new.session ≡ setting_in self.old.session }
+        ensures lent { lent_in self.new.session ≡ lent_in self.old.session }
         ensures counts { SameCounts self.old self.new }
     {
         for frame in frames {
-            match self.session.take(alloc, frame, desk, &mut self.out) {
+            match self.session.take(alloc, frame, conf, desk, &mut self.out) {
                 Took::More => {}
                 Took::Ended(end) => return Took::Ended(end),
             }
@@ -92,29 +106,30 @@ impl Run {
     }
 
     /// Takes each frame that is whole, up to one that ends the session.
-    fn take_all<K: Desk>(&mut self, alloc: Global, desk: &mut K) -> Took
-        requires sits { Sits (K.ready desk.old) (K.part desk.old) (stage_of self.old.session.stage) }
-        ensures went { (line : LineState) → Went K.alone (setting_in self.old.session) (K.stand desk.old) (spot self.old line (K.stand desk.old).state [] Taking) (K.stand desk.new) (spot self.new line (K.stand desk.new).state [] (after_took (took_text result))) }
-        ensures sits { SitsStill (K.ready desk.new) (K.part desk.new) (stage_of self.new.session.stage) (took_text result) }
+    fn take_all<K: Desk>(&mut self, alloc: Global, conf: &Conf, desk: &mut K) -> Took
+        requires own { AreAddresses (conf_text conf.now).addresses }
+        requires sits { Sits (K.ready desk.old) (K.part desk.old) (stage_in self.old.session) }
+        ensures went { (line : LineState) → Went K.alone (setting_in self.old.session (conf_text conf.now)) (K.stand desk.old) (spot self.old line (K.stand desk.old).state [] Taking) (K.stand desk.new) (spot self.new line (K.stand desk.new).state [] (after_took (took_text result))) }
+        ensures sits { SitsStill (K.ready desk.new) (K.part desk.new) (stage_in self.new.session) (took_text result) }
         ensures piece { took_text result ≡ T.More → self.new.piece.list ≡ [] }
-        ensures setting { setting_in self.new.session ≡ setting_in self.old.session }
+        ensures lent { lent_in self.new.session ≡ lent_in self.old.session }
         ensures counts { SameCounts self.old self.new }
     {
         match self.feed(alloc) {
-            Ok(frames) => self.take_each(alloc, frames.as_slice(), desk),
+            Ok(frames) => self.take_each(alloc, frames.as_slice(), conf, desk),
             Err(_) => Took::Ended(End::NoMemory),
         }
     }
 
     /// The own turn.
     fn give<K: Desk>(&mut self, alloc: Global, desk: &mut K) -> Gave
-        requires sits { Sits (K.ready desk.old) (K.part desk.old) (stage_of self.old.session.stage) }
+        requires sits { Sits (K.ready desk.old) (K.part desk.old) (stage_in self.old.session) }
         requires piece { self.old.piece.list ≡ [] }
-        ensures went { (line : LineState) → Went K.alone (setting_in self.old.session) (K.stand desk.old) (spot self.old line (K.stand desk.old).state [] Taking) (K.stand desk.new) (spot self.new line (K.stand desk.new).state [] (after_gave (gave_text result))) }
-        ensures sits { SitsOn (K.ready desk.new) (K.part desk.new) (stage_of self.new.session.stage) (gave_text result) }
+        ensures went { (conf : ConfText) (line : LineState) → Went K.alone (setting_in self.old.session conf) (K.stand desk.old) (spot self.old line (K.stand desk.old).state [] Taking) (K.stand desk.new) (spot self.new line (K.stand desk.new).state [] (after_gave (gave_text result))) }
+        ensures sits { SitsOn (K.ready desk.new) (K.part desk.new) (stage_in self.new.session) (gave_text result) }
         ensures sent { gave_text result ≡ G.Sent → 0 < length self.new.out.list }
         ensures piece { self.new.piece.list ≡ self.old.piece.list }
-        ensures setting { setting_in self.new.session ≡ setting_in self.old.session }
+        ensures lent { lent_in self.new.session ≡ lent_in self.old.session }
         ensures counts { SameCounts self.old self.new }
     {
         self.session.give(alloc, desk, &mut self.out)
@@ -211,22 +226,24 @@ impl Run {
         &mut self,
         alloc: Global,
         line: &mut L,
+        conf: &Conf,
         desk: &mut K,
     ) -> Option<End>
-        requires sits { Sits (K.ready desk.old) (K.part desk.old) (stage_of self.old.session.stage) }
+        requires own { AreAddresses (conf_text conf.now).addresses }
+        requires sits { Sits (K.ready desk.old) (K.part desk.old) (stage_in self.old.session) }
         requires within { InLimit self.old.session.setting.limit self.old (L.state line.old).calm }
         requires limit { self.old.session.setting.limit ≤ 2 ^ 62 }
         requires open { (L.state line.old).closed ≡ false }
-        ensures went { Went K.alone (setting_in self.old.session) (K.stand desk.old) (spot self.old (L.state line.old) (K.stand desk.old).state [] Taking) (K.stand desk.new) (spot self.new (L.state line.new) (K.stand desk.new).state [] (over_or result Taking)) }
+        ensures went { Went K.alone (setting_in self.old.session (conf_text conf.now)) (K.stand desk.old) (spot self.old (L.state line.old) (K.stand desk.old).state [] Taking) (K.stand desk.new) (spot self.new (L.state line.new) (K.stand desk.new).state [] (over_or result Taking)) }
         ensures ready { K.ready desk.new }
-        ensures sits { IfNone result (Sits (K.ready desk.new) (K.part desk.new) (stage_of self.new.session.stage)) }
+        ensures sits { IfNone result (Sits (K.ready desk.new) (K.part desk.new) (stage_in self.new.session)) }
         ensures open { (L.state line.new).closed ≡ false }
-        ensures setting { setting_in self.new.session ≡ setting_in self.old.session }
+        ensures lent { lent_in self.new.session ≡ lent_in self.old.session }
         ensures goes_on { IfNone result (InLimit self.old.session.setting.limit self.new (L.state line.new).calm) }
         ensures progress { IfNone result (room self.old.session.setting.limit self.new (L.state line.new).calm < room self.old.session.setting.limit self.old (L.state line.old).calm) }
     {
         let limit = self.session.setting.limit;
-        match self.take_all(alloc, desk) {
+        match self.take_all(alloc, conf, desk) {
             Took::More => {}
             Took::Ended(end) => return Some(end),
         }
@@ -243,21 +260,19 @@ impl Run {
     }
 
     /// The first turn: this side knocks at its desk, and greets its peer or turns it away.
-    fn greet<K: Desk>(&mut self, alloc: Global, desk: &mut K) -> Took
+    fn greet<K: Desk>(&mut self, alloc: Global, conf: &Conf, desk: &mut K) -> Took
+        requires own { AreAddresses (conf_text conf.now).addresses }
         requires new { IsNew self.old }
         requires ready { K.ready desk.old }
         requires part { K.part desk.old ≡ record { open_now = false; claim = None; held = None } }
-        ensures went { (line : LineState) → Went K.alone (setting_in self.old.session) (K.stand desk.old) (spot self.old line (K.stand desk.old).state [] Starting) (K.stand desk.new) (spot self.new line (K.stand desk.new).state [] (after_took (took_text result))) }
-        ensures sits { SitsStill (K.ready desk.new) (K.part desk.new) (stage_of self.new.session.stage) (took_text result) }
-        ensures setting { setting_in self.new.session ≡ setting_in self.old.session }
+        ensures went { (line : LineState) → Went K.alone (setting_in self.old.session (conf_text conf.now)) (K.stand desk.old) (spot self.old line (K.stand desk.old).state [] Starting) (K.stand desk.new) (spot self.new line (K.stand desk.new).state [] (after_took (took_text result))) }
+        ensures sits { SitsStill (K.ready desk.new) (K.part desk.new) (stage_in self.new.session) (took_text result) }
+        ensures lent { lent_in self.new.session ≡ lent_in self.old.session }
         ensures counts { SameCounts self.old self.new }
     {
         let session = &self.session;
-        match desk.knock(session.side.role()) {
-            Ok(Knock::Come) => {
-                let setting = &session.setting;
-                say_greeting(alloc, &setting.home, &mut self.out)
-            }
+        match desk.knock(session.role()) {
+            Ok(Knock::Come) => session.greet(alloc, conf, &mut self.out),
             Ok(Knock::Busy) => turn_away(alloc, &mut self.out),
             Err(fault) => refuse(alloc, fault, &mut self.out),
         }
@@ -268,8 +283,10 @@ impl Run {
         &mut self,
         alloc: Global,
         line: &mut L,
+        conf: &Conf,
         desk: &mut K,
     ) -> Option<End>
+        requires own { AreAddresses (conf_text conf.now).addresses }
         requires new { IsNew self.old }
         requires ready { K.ready desk.old }
         requires part { K.part desk.old ≡ record { open_now = false; claim = None; held = None } }
@@ -277,15 +294,15 @@ impl Run {
         requires limit { self.old.session.setting.limit ≤ 2 ^ 62 }
         requires calm { (L.state line.old).calm ≡ 0 }
         requires open { (L.state line.old).closed ≡ false }
-        ensures went { Went K.alone (setting_in self.old.session) (K.stand desk.old) (spot self.old (L.state line.old) (K.stand desk.old).state [] Starting) (K.stand desk.new) (spot self.new (L.state line.new) (K.stand desk.new).state [] (over_or result Taking)) }
+        ensures went { Went K.alone (setting_in self.old.session (conf_text conf.now)) (K.stand desk.old) (spot self.old (L.state line.old) (K.stand desk.old).state [] Starting) (K.stand desk.new) (spot self.new (L.state line.new) (K.stand desk.new).state [] (over_or result Taking)) }
         ensures ready { K.ready desk.new }
-        ensures sits { IfNone result (Sits (K.ready desk.new) (K.part desk.new) (stage_of self.new.session.stage)) }
+        ensures sits { IfNone result (Sits (K.ready desk.new) (K.part desk.new) (stage_in self.new.session)) }
         ensures open { (L.state line.new).closed ≡ false }
-        ensures setting { setting_in self.new.session ≡ setting_in self.old.session }
+        ensures lent { lent_in self.new.session ≡ lent_in self.old.session }
         ensures goes_on { IfNone result (InLimit self.old.session.setting.limit self.new (L.state line.new).calm) }
     {
-        match self.greet(alloc, desk) {
-            Took::More => self.go_on(alloc, line, desk),
+        match self.greet(alloc, conf, desk) {
+            Took::More => self.go_on(alloc, line, conf, desk),
             Took::Ended(end) => Some(end),
         }
     }

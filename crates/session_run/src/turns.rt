@@ -4,8 +4,11 @@ ghost use Rattle.node_model.specs.Calls.{DeskState, counts_of};
 ghost use Rattle.node_model.specs.Desks.{settled_answer};
 ghost use Rattle.binkp_link.specs.Lines.{LineState, shut};
 ghost use Rattle.session_core.specs.Ends.{end_text};
-ghost use Rattle.session_core.specs.Replies.{setting_in, setting_of};
-ghost use Rattle.session_core.specs.Stages.{Setting as Lent};
+ghost use Rattle.binkp_args.specs.Limits.{AreAddresses};
+ghost use Rattle.mail_conf.specs.ConfView.{conf_text};
+ghost use Rattle.session_auth.specs.Sides.{side_of};
+ghost use Rattle.session_core.specs.Replies.{lent_in, setting_in};
+ghost use Rattle.session_core.specs.Stages.{Setting as Lent, setting_of};
 ghost use Rattle.session_run.specs.Laws.{IsSession};
 ghost use Rattle.session_run.specs.Machine.{Draining, Taking, is_mute, after_leave};
 ghost use Rattle.session_run.specs.Runs.{IsNew, Went, drain_room, over_or, spot};
@@ -17,8 +20,9 @@ ghost use Rattle.session_run.specs.declared.turns.Turn.TheVariants as T;
 
 use crate::{Report, Run};
 use binkp_link::Line;
+use mail_conf::Conf;
 use node_model::{Desk, DeskFault};
-use session_core::{End, Setting, Side};
+use session_core::{End, Side};
 use std::alloc::Global;
 use std::mem;
 
@@ -70,14 +74,17 @@ pub struct Course {
 }
 
 impl Course {
-    /// Before the first turn. This takes no memory.
-    pub fn new(alloc: Global, side: Side, setting: Setting) -> Course
+    /// Before the first turn, with the settings' limit and block. The challenge is offered at the answering side alone. This
+    /// takes no memory.
+    pub fn new(alloc: Global, side: Side, conf: &Conf, challenge: [u8; 16], now: u64) -> Course
+        requires some { 0 < (conf_text conf.now).block }
+        requires fits { (conf_text conf.now).block ≤ 32767 }
         ensures run { IsNew result.run }
-        ensures setting { setting_in result.run.session ≡ setting_of side setting }
+        ensures setting { setting_in result.run.session (conf_text conf.now) ≡ setting_of (side_of side) (conf_text conf.now) challenge now }
         ensures going { result.going ≡ G.Starting }
     {
         Course {
-            run: Run::new(alloc, side, setting),
+            run: Run::new(alloc, side, conf, challenge, now),
             going: Going::Starting,
         }
     }
@@ -134,7 +141,7 @@ impl Course {
         ensures went { (alone : Bool) (s : Lent) (desk : DeskState) →
             TurnGoes alone s (spot self.old.run (L.state line.old) desk [] (Draining mute (end_text end))) self.new (L.state line.new) result }
         ensures going { IfMore result (self.new.going ≡ G.Draining mute end) }
-        ensures setting { IfMore result (setting_in self.new.run.session ≡ setting_in self.old.run.session) }
+        ensures lent { IfMore result (lent_in self.new.run.session ≡ lent_in self.old.run.session) }
         ensures open { IfMore result ((L.state line.new).closed ≡ false) }
         ensures less { IfMore result (drain_room self.new.run (L.state line.new).calm < drain_room self.old.run (L.state line.old).calm) }
     {
@@ -150,14 +157,23 @@ impl Course {
 
     /// A turn. At its first one the caller knocks. Once the end is there, the desk is left in that same turn, and each
     /// turn that follows makes one write of what is left; the line is closed in the one that leaves nothing to write.
-    pub fn turn<L: Line, K: Desk>(&mut self, alloc: Global, line: &mut L, desk: &mut K) -> Turn
+    ///
+    /// The settings are the same at each turn.
+    pub fn turn<L: Line, K: Desk>(
+        &mut self,
+        alloc: Global,
+        line: &mut L,
+        conf: &Conf,
+        desk: &mut K,
+    ) -> Turn
+        requires own { AreAddresses (conf_text conf.now).addresses }
         requires ready { K.ready desk.old }
         requires may { MayTurn (K.ready desk.old) (K.part desk.old) (counts_of (K.stand desk.old).state.knows).broken (L.state line.old).calm self.old.run self.old.going }
         requires limit { self.old.run.session.setting.limit ≤ 2 ^ 62 }
         requires open { (L.state line.old).closed ≡ false }
-        ensures went { TurnWent K.alone (setting_in self.old.run.session) (K.stand desk.old) (spot self.old.run (L.state line.old) (K.stand desk.old).state [] (phase_of self.old.going)) (K.stand desk.new) self.new (L.state line.new) result }
+        ensures went { TurnWent K.alone (setting_in self.old.run.session (conf_text conf.now)) (K.stand desk.old) (spot self.old.run (L.state line.old) (K.stand desk.old).state [] (phase_of self.old.going)) (K.stand desk.new) self.new (L.state line.new) result }
         ensures ready { K.ready desk.new }
-        ensures setting { IfMore result (setting_in self.new.run.session ≡ setting_in self.old.run.session) }
+        ensures lent { IfMore result (lent_in self.new.run.session ≡ lent_in self.old.run.session) }
         ensures may { IfMore result (MayTurn (K.ready desk.new) (K.part desk.new) (counts_of (K.stand desk.new).state.knows).broken (L.state line.new).calm self.new.run self.new.going) }
         ensures open { IfMore result ((L.state line.new).closed ≡ false) }
         ensures nearer { IfMore result (Nearer self.old.run.session.setting.limit self.old (L.state line.old).calm self.new (L.state line.new).calm self.old.going) }
@@ -165,12 +181,12 @@ impl Course {
     {
         match mem::replace(&mut self.going, Going::Closed) {
             Going::Starting => {
-                let end = self.run.open(alloc, line, desk);
+                let end = self.run.open(alloc, line, conf, desk);
                 self.settle(end, desk);
                 Turn::More
             }
             Going::Talking => {
-                let end = self.run.go_on(alloc, line, desk);
+                let end = self.run.go_on(alloc, line, conf, desk);
                 self.settle(end, desk);
                 Turn::More
             }
@@ -186,27 +202,32 @@ pub fn run_session<L: Line, K: Desk>(
     side: Side,
     line: &mut L,
     desk: &mut K,
-    setting: Setting,
+    conf: &Conf,
+    challenge: [u8; 16],
+    now: u64,
 ) -> Report
+    requires own { AreAddresses (conf_text conf.now).addresses }
+    requires block { 0 < (conf_text conf.now).block }
+    requires fits { (conf_text conf.now).block ≤ 32767 }
     requires ready { K.ready desk.old }
     requires part { K.part desk.old ≡ record { open_now = false; claim = None; held = None } }
-    requires some { 0 < setting.limit }
-    requires limit { setting.limit ≤ 2 ^ 62 }
+    requires some { 0 < (conf_text conf.now).session_limit }
+    requires limit { (conf_text conf.now).session_limit ≤ 2 ^ 62 }
     requires calm { (L.state line.old).calm ≡ 0 }
     requires open { (L.state line.old).closed ≡ false }
-    ensures session { IsSession K.alone (setting_of side setting) (L.state line.old) (K.stand desk.old) (report_text result) (L.state line.new) (K.stand desk.new) }
+    ensures session { IsSession K.alone (setting_of (side_of side) (conf_text conf.now) challenge now) (L.state line.old) (K.stand desk.old) (report_text result) (L.state line.new) (K.stand desk.new) }
     ensures ready { K.ready desk.new }
     ensures left { IsFree (counts_of (K.stand desk.new).state.knows).broken (K.part desk.new) }
 {
-    let mut course = Course::new(alloc, side, setting);
+    let mut course = Course::new(alloc, side, conf, challenge, now);
     while course.talks() {
-        match course.turn(alloc, line, desk) {
+        match course.turn(alloc, line, conf, desk) {
             Turn::More => {}
             Turn::Ended(report) => return report,
         }
     }
     loop {
-        match course.turn(alloc, line, desk) {
+        match course.turn(alloc, line, conf, desk) {
             Turn::More => {}
             Turn::Ended(report) => return report,
         }

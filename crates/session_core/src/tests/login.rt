@@ -1,13 +1,18 @@
 //! Logins, of both sides.
 use crate::tests::small_desk::Next;
 use crate::tests::{
-    ADR, BROKEN, EOB, FILE, GET, GOT, NUL, OK, PEER, PWD, SKIP, answered, answering, called,
-    calling, ends, gives, goes_on, text, wrote,
+    ADR, BROKEN, EOB, FILE, GET, GOT, NUL, OK, PEER, PWD, SKIP, answered, answering,
+    answering_with, called, calling, calling_with, ends, gives, goes_on, text, wrote,
 };
 use crate::{Cause, End, Gave};
 use binkp_args::ArgFault;
 use node_model::Role;
 use std::test::Fail;
+
+/// Settings with the password of the example of FTS-1027.
+const GUARDED: &[u8] = b"node 2:5047/13 - tanstaaftanstaaf\n";
+
+const ANSWER: &[u8] = b"CRAM-MD5-56be002162a4a15ba7a9064f0c93fd00";
 
 #[test]
 fn answering_side_lets_a_caller_in(rt: HostRuntime) -> Result<(), Fail> {
@@ -159,31 +164,72 @@ fn password_before_the_address_is_out_of_turn(rt: HostRuntime) -> Result<(), Fai
 }
 
 #[test]
-fn password_that_nobody_wanted_is_bad(rt: HostRuntime) -> Result<(), Fail> {
+fn any_password_will_do_where_none_is_set(rt: HostRuntime) -> Result<(), Fail> {
     let alloc = rt.alloc();
-    let mut rig = answering(alloc)?;
-    goes_on(&rt, rig.hear(alloc, ADR, PEER)?);
-    ends(
-        &rt,
-        rig.hear(alloc, PWD, b"secret")?,
-        End::BadPassword(text(alloc, b"-")?, text(alloc, b"secret")?),
-    );
-    wrote(&rt, &mut rig, b"\x80\x0d\x07bad password");
-    assert_eq!(&rt; rig.desk.role, None);
+    for given in [b"secret".as_slice(), b"".as_slice()] {
+        let mut rig = answering(alloc)?;
+        goes_on(&rt, rig.hear(alloc, ADR, PEER)?);
+        goes_on(&rt, rig.hear(alloc, PWD, given)?);
+        wrote(&rt, &mut rig, b"\x80\x0b\x04non-secure");
+        assert_eq!(&rt; rig.desk.secure, Some(false));
+    }
     Ok(())
 }
 
 #[test]
-fn empty_password_is_bad(rt: HostRuntime) -> Result<(), Fail> {
+fn answer_of_fts_1027_is_secure(rt: HostRuntime) -> Result<(), Fail> {
     let alloc = rt.alloc();
-    let mut rig = answering(alloc)?;
+    let mut rig = answering_with(alloc, GUARDED)?;
     goes_on(&rt, rig.hear(alloc, ADR, PEER)?);
-    ends(
+    goes_on(&rt, rig.hear(alloc, PWD, ANSWER)?);
+    wrote(&rt, &mut rig, b"\x80\x07\x04secure");
+    assert_eq!(&rt; rig.desk.secure, Some(true));
+    assert_eq!(&rt; rig.desk.role, Some(Role::Answers));
+    Ok(())
+}
+
+#[test]
+fn another_answer_is_bad(rt: HostRuntime) -> Result<(), Fail> {
+    let alloc = rt.alloc();
+    for given in [
+        b"CRAM-MD5-56be002162a4a15ba7a9064f0c93fd01".as_slice(),
+        b"-".as_slice(),
+    ] {
+        let mut rig = answering_with(alloc, GUARDED)?;
+        goes_on(&rt, rig.hear(alloc, ADR, PEER)?);
+        ends(
+            &rt,
+            rig.hear(alloc, PWD, given)?,
+            End::BadPassword(text(alloc, ANSWER)?, text(alloc, given)?),
+        );
+        wrote(&rt, &mut rig, b"\x80\x0d\x07bad password");
+        assert_eq!(&rt; rig.desk.role, None);
+        assert!(&rt; rig.session.login.is_none());
+    }
+    Ok(())
+}
+
+/// The second example of RFC 2104.
+#[test]
+fn offer_is_answered(rt: HostRuntime) -> Result<(), Fail> {
+    let alloc = rt.alloc();
+    let mut rig = calling_with(alloc, b"node 2:5047/13 - Jefe\n")?;
+    goes_on(
         &rt,
-        rig.hear(alloc, PWD, b"")?,
-        End::BadPassword(text(alloc, b"-")?, text(alloc, b"")?),
+        rig.hear(
+            alloc,
+            NUL,
+            b"OPT CRAM-MD5-7768617420646f2079612077616e7420666f72206e6f7468696e673f",
+        )?,
     );
-    wrote(&rt, &mut rig, b"\x80\x0d\x07bad password");
+    goes_on(&rt, rig.hear(alloc, ADR, PEER)?);
+    goes_on(&rt, rig.hear(alloc, OK, b"secure")?);
+    wrote(
+        &rt,
+        &mut rig,
+        b"\x80\x2a\x02CRAM-MD5-750c783e6ab0b503eaa86e310a5db738",
+    );
+    assert_eq!(&rt; rig.desk.secure, Some(true));
     Ok(())
 }
 
@@ -261,6 +307,12 @@ fn refused_login_of_a_call_is_told_alone(rt: HostRuntime) -> Result<(), Fail> {
     goes_on(&rt, rig.hear(alloc, ADR, PEER)?);
     ends(&rt, rig.hear(alloc, OK, b"")?, End::DiskFault(1));
     wrote(&rt, &mut rig, b"\x80\x02\x02-\x80\x0b\x07disk fault");
+    Ok(())
+}
+
+#[test]
+fn call_without_memory_is_told_nothing(rt: HostRuntime) -> Result<(), Fail> {
+    let alloc = rt.alloc();
     let mut rig = calling(alloc)?;
     rig.desk.next = Next::NoMemory;
     goes_on(&rt, rig.hear(alloc, ADR, PEER)?);

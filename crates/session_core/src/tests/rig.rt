@@ -1,49 +1,53 @@
 //! A session at a small desk, with what it has written.
-ghost use Rattle.std.specs.Prelude.{◌≡◌, true};
+ghost use Rattle.std.specs.Prelude.{◌≡◌, true, map};
+ghost use Rattle.binkp_args.specs.Limits.{AreAddresses};
+ghost use Rattle.ftn_addr.specs.Address.{address};
 ghost use Rattle.session_recv.specs.Replies.{held_in};
 ghost use Rattle.session_send.specs.Counted.{claimed};
-ghost use Rattle.session_core.specs.Replies.{stage_of};
+ghost use Rattle.session_core.specs.Replies.{stage_in};
 ghost use Rattle.session_core.specs.Stages.{desk_part};
 
 use crate::tests::small_desk::SmallDesk;
-use crate::{Gave, Session, Setting, Side, Took};
+use crate::tests::{CHALLENGE, NOW};
+use crate::{Gave, Session, Side, Took};
 use binkp_frame::Frame;
-use ftn_addr::{Addr, Bytes, FileKey, NoMemory};
+use ftn_addr::{Bytes, FileKey, NoMemory};
+use mail_conf::Conf;
 use std::alloc::Global;
 
 #[derive(Debug, Drop)]
 pub struct Rig {
     pub session: Session,
+    pub conf: Conf,
     pub desk: SmallDesk,
     pub out: Bytes,
     /// Whether the session goes on.
     pub on: bool,
-    ghost sits: { on ≡ true → record { open_now = desk.in_session; claim = claimed desk.claim; held = held_in desk.held } ≡ desk_part (stage_of session.stage) },
+    ghost sits: { on ≡ true → record { open_now = desk.in_session; claim = claimed desk.claim; held = held_in desk.held } ≡ desk_part (stage_in session) },
+    ghost own: { AreAddresses (map address conf.addresses.items) },
 }
 
 impl Rig {
     ghost use Rattle.std.specs.Prelude.{◌≤◌, ◌<◌};
-    ghost use Rattle.ftn_addr.specs.Address.{address};
-    ghost use Rattle.ftn_addr.specs.Limits.{IsAddress};
 
-    /// A session of that side and that address, whose frames have at most `block` bytes of data.
-    pub fn new(alloc: Global, side: Side, home: Addr, block: u16) -> Rig
-        requires home { IsAddress (address home) }
-        requires some { 0 < block }
-        requires fits { block ≤ 32767 }
+    /// A session of that side with these settings, and the challenge of the example of FTS-1027.
+    pub fn new(alloc: Global, side: Side, conf: Conf) -> Rig
+        requires own { AreAddresses (map address conf.addresses.items) }
+        requires some { 0 < conf.block }
+        requires fits { conf.block ≤ 32767 }
     {
-        let setting = Setting {
-            home,
-            moment: 1_000_000_000,
-            limit: 1_000_000,
-            block,
-        };
         Rig {
-            session: Session::new(side, setting),
+            session: Session::new(side, &conf, CHALLENGE, NOW),
+            conf,
             desk: SmallDesk::new(),
             out: Bytes::new(alloc),
             on: true,
         }
+    }
+
+    /// The greeting.
+    pub fn greet(&mut self, alloc: Global) -> Took {
+        self.session.greet(alloc, &self.conf, &mut self.out)
     }
 
     /// Entry 7 waits for the peer: a file of that size.
@@ -81,7 +85,7 @@ impl Rig {
         self.on = false;
         let took = self
             .session
-            .take(alloc, frame, &mut self.desk, &mut self.out);
+            .take(alloc, frame, &self.conf, &mut self.desk, &mut self.out);
         match took {
             Took::More => {
                 self.on = true;

@@ -32,9 +32,10 @@ pub struct SmallDesk {
     pub next: Next,
     /// What becomes of the next file that the peer offers.
     pub answer: FileIn,
-    /// As what the session began, with how many addresses of the peer's.
+    /// As what the session began, with how many addresses of the peer's, and whether it is secure.
     pub role: Option<Role>,
     pub peers: usize,
+    pub secure: Option<bool>,
     /// The number of the entry that was settled last, and of the one that was skipped last; 0 where there is none.
     pub settled: u32,
     pub skipped: u32,
@@ -69,6 +70,7 @@ impl SmallDesk {
             answer: FileIn::Go,
             role: None,
             peers: 0,
+            secure: None,
             settled: 0,
             skipped: 0,
             taken: 0,
@@ -132,7 +134,7 @@ impl Desk for SmallDesk {
         _alloc: Global,
         role: Role,
         peers: &[Addr],
-        _secure: bool,
+        secure: bool,
         _now: u64,
     ) -> Result<u32, DeskFault> {
         if let Some(count) = self.broken {
@@ -150,6 +152,7 @@ impl Desk for SmallDesk {
         self.in_session = true;
         self.role = Some(role);
         self.peers = peers.len();
+        self.secure = Some(secure);
         Ok(9)
     }
 

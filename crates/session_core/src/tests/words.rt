@@ -1,20 +1,39 @@
 //! What is said outside of the rows.
-use crate::tests::own;
-use crate::{End, Took, refuse, say_greeting, turn_away};
+use crate::tests::{answering_with, calling_with, wrote};
+use crate::{End, Took, refuse, turn_away};
 use ftn_addr::Bytes;
 use node_model::DeskFault;
 use std::test::Fail;
 
+const TIME: &[u8] = b"\x80\x25\x00TIME Sun, 09 Sep 2001 01:46:40 +0000";
+
 #[test]
-fn greeting_has_the_version_and_the_address(rt: HostRuntime) -> Result<(), Fail> {
+fn answering_side_greets_with_its_challenge(rt: HostRuntime) -> Result<(), Fail> {
     let alloc = rt.alloc();
-    let home = own(alloc)?;
-    let mut out = Bytes::new(alloc);
-    assert_eq!(&rt; say_greeting(alloc, &home, &mut out), Took::More);
-    assert_eq!(&rt;
-        out.as_slice(),
-        b"\x80\x1f\x00VER binkp_mailer/1.0 binkp/1.0\x80\x14\x012:5020/1042@fidonet".as_slice()
-    );
+    let mut rig = answering_with(alloc, b"sysop Joe Doe\n")?;
+    assert_eq!(&rt; rig.greet(alloc), Took::More);
+    let mut wanted = Bytes::from_slice(
+        alloc,
+        b"\x80\x2e\x00OPT CRAM-MD5-f0315b074d728d483d6887d0182fc328\x80\x0c\x00ZYZ Joe Doe",
+    )?;
+    wanted.push_slice(TIME)?;
+    wanted.push_slice(
+        b"\x80\x1f\x00VER binkp_mailer/1.0 binkp/1.0\x80\x14\x012:5020/1042@fidonet",
+    )?;
+    wrote(&rt, &mut rig, wanted.as_slice());
+    Ok(())
+}
+
+#[test]
+fn calling_side_greets_without_a_challenge(rt: HostRuntime) -> Result<(), Fail> {
+    let alloc = rt.alloc();
+    let mut rig = calling_with(alloc, b"")?;
+    assert_eq!(&rt; rig.greet(alloc), Took::More);
+    let mut wanted = Bytes::from_slice(alloc, TIME)?;
+    wanted.push_slice(
+        b"\x80\x1f\x00VER binkp_mailer/1.0 binkp/1.0\x80\x14\x012:5020/1042@fidonet",
+    )?;
+    wrote(&rt, &mut rig, wanted.as_slice());
     Ok(())
 }
 

@@ -1,6 +1,6 @@
 //! Two sessions between two nodes at one time, each called by one of them.
 use super::{Counts, FAR, NEAR, Outcome, call, has_each, queue, tally_of, what_came};
-use crate::{Leg, Node, Offered, Plan, Post, Told, address, cross};
+use crate::{Leg, Node, Offered, Plan, Post, Told, Who, address, cross, cross_and_cut};
 use ftn_addr::NoMemory;
 use session_core::{End, Side};
 use std::alloc::Global;
@@ -60,8 +60,8 @@ fn all_came(post: &Post) -> [Option<Came>; 2] {
 }
 
 fn plan(alloc: Global, home: u16, side: Side) -> Result<Plan, NoMemory> {
-    let home = address(alloc, home)?;
-    Ok(Plan { home, side })
+    let who = Who::new(alloc, home)?;
+    Ok(Plan { who, side })
 }
 
 // A node that holds these two sessions, and is a blank one meanwhile.
@@ -90,13 +90,28 @@ fn give_back(post: Post, node: &mut Node) {
     drop(mem::replace(node, post.into_node()));
 }
 
+// Whether the first of the two sessions is cut.
+#[derive(Clone, Copy, PartialEq, Eq)]
+enum Cut {
+    Neither,
+    First,
+}
+
+fn cross_posts(alloc: Global, near: &mut Post, far: &mut Post, cut: Cut) -> Result<(), NoMemory> {
+    match cut {
+        Cut::Neither => cross(alloc, near, far),
+        Cut::First => cross_and_cut(alloc, near, far),
+    }
+}
+
 fn cross_with(
     alloc: Global,
     near: &mut Post,
     far: &mut Node,
+    cut: Cut,
 ) -> Result<[Option<Came>; 2], NoMemory> {
     let mut post = far_post(alloc, far)?;
-    let crossed = cross(alloc, near, &mut post);
+    let crossed = cross_posts(alloc, near, &mut post, cut);
     let came = all_came(&post);
     give_back(post, far);
     crossed?;
@@ -108,9 +123,10 @@ fn cross_both(
     alloc: Global,
     near: &mut Node,
     far: &mut Node,
+    cut: Cut,
 ) -> Result<[[Option<Came>; 2]; 2], NoMemory> {
     let mut post = near_post(alloc, near)?;
-    let at_far = cross_with(alloc, &mut post, far);
+    let at_far = cross_with(alloc, &mut post, far, cut);
     let at_near = all_came(&post);
     give_back(post, near);
     Ok([at_near, at_far?])
@@ -120,7 +136,7 @@ fn cross_queued(alloc: Global, near: &mut Node, far: &mut Node) -> Result<Crosse
     queue(alloc, near, FAR, TWICE)?;
     queue(alloc, near, OTHER, TWICE)?;
     queue(alloc, far, NEAR, BACK)?;
-    let [at_near, at_far] = cross_both(alloc, near, far)?;
+    let [at_near, at_far] = cross_both(alloc, near, far, Cut::Neither)?;
     let received = has_each(alloc, near, far, &[BACK], &[TWICE])?;
     Ok(Crossed {
         near: at_near,
@@ -173,14 +189,14 @@ fn call_again(alloc: Global, near: &mut Node, far: &mut Node) -> Result<Option<O
     let Some(ends) = call(alloc, near, far, u64::MAX)? else {
         return Ok(None);
     };
-    let received = far.has_each(alloc, &near.who.home, &[TWICE])?;
+    let received = far.has_each(alloc, near.who.home(), &[TWICE])?;
     Ok(Some(what_came(&ends, near, far, received)))
 }
 
 // What comes of that behind two sessions that crossed: the entry that was skipped is settled.
 fn cross_and_call(alloc: Global, near: &mut Node, far: &mut Node) -> Result<Option<Outcome>, Fail> {
     cross_queued(alloc, near, far)?;
-    far.who.home = address(alloc, OTHER)?;
+    far.who = Who::new(alloc, OTHER)?;
     call_again(alloc, near, far)
 }
 
@@ -214,5 +230,91 @@ fn the_entry_that_was_skipped_is_settled_by_a_later_session(rt: HostRuntime) -> 
         refused: [0, 0],
     };
     assert_eq!(rt; called_again(rt.alloc())?, Some(wanted));
+    Ok(())
+}
+
+// Of five bytes, queued for both addresses of the far node.
+const SHORT: Offered = Offered { index: 3, size: 5 };
+
+const NOTHING: Counts = Counts {
+    sent: 0,
+    received: 0,
+    skipped: 0,
+};
+
+// What came of two sessions of which the first was cut.
+#[derive(Clone, Copy, Debug, PartialEq, Eq)]
+struct CutShort {
+    near: [Option<Came>; 2],
+    far: [Option<Came>; 2],
+    // How many records the far node has, and how many entries the near node has left.
+    recorded: usize,
+    live: usize,
+}
+
+fn cut_queued(alloc: Global, near: &mut Node, far: &mut Node) -> Result<CutShort, Fail> {
+    queue(alloc, near, FAR, SHORT)?;
+    queue(alloc, near, OTHER, SHORT)?;
+    let [at_near, at_far] = cross_both(alloc, near, far, Cut::First)?;
+    Ok(CutShort {
+        near: at_near,
+        far: at_far,
+        recorded: far.store.records().len(),
+        live: near.live(),
+    })
+}
+
+// What comes of that, and then of a third session.
+fn cut_and_call(
+    alloc: Global,
+    near: &mut Node,
+    far: &mut Node,
+) -> Result<(CutShort, Option<Outcome>), Fail> {
+    let first = cut_queued(alloc, near, far)?;
+    let Some(ends) = call(alloc, near, far, u64::MAX)? else {
+        return Ok((first, None));
+    };
+    let received = far.has_each(alloc, near.who.home(), &[SHORT])?;
+    Ok((first, Some(what_came(&ends, near, far, received))))
+}
+
+fn cut_with(alloc: Global, near: &mut Node) -> Result<(CutShort, Option<Outcome>), Fail> {
+    let mut far = Node::new(alloc, FAR)?;
+    let outcome = cut_and_call(alloc, near, &mut far);
+    drop(far);
+    outcome
+}
+
+fn cut_then_called(alloc: Global) -> Result<(CutShort, Option<Outcome>), Fail> {
+    let mut near = Node::new(alloc, NEAR)?;
+    let outcome = cut_with(alloc, &mut near);
+    drop(near);
+    outcome
+}
+
+#[test]
+fn a_file_of_a_session_that_was_cut_is_left_to_a_third(rt: HostRuntime) -> Result<(), Fail> {
+    let cut = Some(Came {
+        finished: false,
+        counts: NOTHING,
+    });
+    let short = CutShort {
+        near: [cut, finished(0, 0, 1)],
+        far: [cut, finished(0, 0, 0)],
+        recorded: 0,
+        live: 2,
+    };
+    let third = Outcome {
+        finished: true,
+        called: Counts { sent: 1, ..NOTHING },
+        answered: Counts {
+            received: 1,
+            ..NOTHING
+        },
+        received: true,
+        settled: false,
+        refused: [0, 0],
+    };
+    assert_eq!(rt; cut_then_called(rt.alloc())?, (short, Some(third)));
     Ok(())
 }

@@ -32,10 +32,11 @@ const OTHER_REFUSED: Offered = Offered {
     size: 1,
 };
 
-// Calls once, and cuts the line: the called node keeps the front of the long file. Whether both sides ended.
+// Calls once, and cuts the line: the called node keeps the front of the long file. Whether both sides ended. The greetings
+// are 230 bytes, the login is 17, M_FILE 29, and the first frame of data 4,098: of the second one, of 3 bytes, two come.
 fn break_off(alloc: Global, near: &mut Node, far: &mut Node) -> Result<bool, Fail> {
     queue(alloc, near, FAR, LONG)?;
-    Ok(call(alloc, near, far, 4250)?.is_some())
+    Ok(call(alloc, near, far, 4376)?.is_some())
 }
 
 // Queues two files more for the called node and three for the caller.
@@ -76,7 +77,7 @@ fn is_mended(alloc: Global, most: u64) -> Result<bool, Fail> {
 // How much the called node keeps of the long file once the line was cut.
 fn keep(alloc: Global, near: &mut Node, far: &mut Node) -> Result<u64, Fail> {
     break_off(alloc, near, far)?;
-    Ok(far.kept(alloc, &near.who.home, LONG)?)
+    Ok(far.kept(alloc, near.who.home(), LONG)?)
 }
 
 fn kept(alloc: Global) -> Result<u64, Fail> {
@@ -138,6 +139,6 @@ fn first_unmended_later(alloc: Global, count: u64) -> Result<Option<u64>, Fail> 
 
 #[test]
 fn a_line_that_is_cut_later_is_mended(rt: HostRuntime) -> Result<(), Fail> {
-    assert_eq!(rt; first_unmended_later(rt.alloc(), 400)?, None);
+    assert_eq!(rt; first_unmended_later(rt.alloc(), 414)?, None);
     Ok(())
 }

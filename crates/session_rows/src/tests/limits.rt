@@ -3,15 +3,12 @@
 
 ghost use Rattle.std.specs.Prelude.{◌<◌, ◌≤◌, ◌^◌};
 
-use super::{FAR, NEAR, files};
+use super::{FAR, GREETING, NEAR, files};
 use crate::{Half, Holding, Node, Offered, Peer, Words, address};
 use ftn_addr::NoMemory;
 use session_core::{End, Side};
 use std::alloc::Global;
 use std::test::Fail;
-
-// What a session says first, in 52 bytes.
-const GREETING: &[u8] = b"\x80\x1f\x00VER binkp_mailer/1.0 binkp/1.0\x80\x11\x012:5020/1@fidonet";
 
 // M_OK `non-secure`, 13 bytes.
 const WELCOME: &[u8] = b"\x80\x0b\x04non-secure";
@@ -84,7 +81,7 @@ fn came_behind(alloc: Global, limit: u64, bytes: &[u8]) -> Result<Came, Fail>
 #[test]
 #[tactic(auto)]
 fn a_greeting_below_the_limit_goes_on(rt: HostRuntime) -> Result<(), Fail> {
-    assert_eq!(rt; came_behind(rt.alloc(), 53, b"")?, Came::GoesOn);
+    assert_eq!(rt; came_behind(rt.alloc(), 140, b"")?, Came::GoesOn);
     Ok(())
 }
 
@@ -93,9 +90,9 @@ fn a_greeting_below_the_limit_goes_on(rt: HostRuntime) -> Result<(), Fail> {
 fn a_greeting_that_reaches_the_limit_is_endless(rt: HostRuntime) -> Result<(), Fail> {
     let wanted = Came::Endless {
         taken: 0,
-        wrote: 52,
+        wrote: 139,
     };
-    assert_eq!(rt; came_behind(rt.alloc(), 52, b"")?, wanted);
+    assert_eq!(rt; came_behind(rt.alloc(), 139, b"")?, wanted);
     Ok(())
 }
 
@@ -103,7 +100,7 @@ fn a_greeting_that_reaches_the_limit_is_endless(rt: HostRuntime) -> Result<(), F
 #[tactic(auto)]
 fn a_byte_below_the_limit_the_session_goes_on(rt: HostRuntime) -> Result<(), Fail> {
     assert_eq!(rt;
-        came_behind(rt.alloc(), 60, b"\x80\x12\x012:50")?,
+        came_behind(rt.alloc(), 147, b"\x80\x12\x012:50")?,
         Came::GoesOn
     );
     Ok(())
@@ -114,9 +111,9 @@ fn a_byte_below_the_limit_the_session_goes_on(rt: HostRuntime) -> Result<(), Fai
 fn the_byte_that_reaches_the_limit_ends_the_session(rt: HostRuntime) -> Result<(), Fail> {
     let wanted = Came::Endless {
         taken: 8,
-        wrote: 52,
+        wrote: 139,
     };
-    assert_eq!(rt; came_behind(rt.alloc(), 60, b"\x80\x12\x012:504")?, wanted);
+    assert_eq!(rt; came_behind(rt.alloc(), 147, b"\x80\x12\x012:504")?, wanted);
     Ok(())
 }
 
@@ -199,8 +196,8 @@ fn flooded(
     }
 }
 
-// Behind the greeting and the login there are 88 bytes, and each file takes 33 and is acknowledged by 24: at the sixth one
-// 406 have moved.
+// Behind the greeting and the login there are 175 bytes, and each file takes 33 and is acknowledged by 24: at the sixth one
+// 493 have moved.
 #[test]
 #[tactic(auto)]
 fn a_flood_ends_at_the_limit(rt: HostRuntime) -> Result<(), Fail> {
@@ -210,10 +207,10 @@ fn a_flood_ends_at_the_limit(rt: HostRuntime) -> Result<(), Fail> {
     let wanted = acknowledging(alloc, kept.as_slice())?;
     let end = Came::Endless {
         taken: 221,
-        wrote: 185,
+        wrote: 272,
     };
     assert_eq!(rt;
-        flooded(alloc, 400, offered.as_slice(), kept.as_slice(), &wanted)?,
+        flooded(alloc, 487, offered.as_slice(), kept.as_slice(), &wanted)?,
         Some([end, end])
     );
     Ok(())

@@ -158,7 +158,7 @@ fn break_off(alloc: Global, near: &mut Node, far: &mut Node) -> Result<bool, Fai
 // How much the called node keeps of the long file once the line was cut.
 fn keep(alloc: Global, near: &mut Node, far: &mut Node) -> Result<u64, Fail> {
     break_off(alloc, near, far)?;
-    Ok(far.kept(alloc, &near.who.home, LONG)?)
+    Ok(far.kept(alloc, near.who.home(), LONG)?)
 }
 
 fn kept(alloc: Global) -> Result<u64, Fail> {

@@ -21,7 +21,7 @@ const LONG: Offered = Offered {
 // A node that refuses files above the largest size.
 fn refusing_large(alloc: Global, number: u16) -> Result<Node, NoMemory> {
     let mut node = Node::new(alloc, number)?;
-    node.who.refuse_over = LARGEST;
+    node.who.conf.refuse_over = LARGEST;
     Ok(node)
 }
 
@@ -45,7 +45,7 @@ fn break_off(alloc: Global, near: &mut Node, far: &mut Node) -> Result<bool, Fai
 // How much the called node keeps of the long file once the line was cut.
 fn keep(alloc: Global, near: &mut Node, far: &mut Node) -> Result<u64, Fail> {
     break_off(alloc, near, far)?;
-    Ok(far.kept(alloc, &near.who.home, LONG)?)
+    Ok(far.kept(alloc, near.who.home(), LONG)?)
 }
 
 fn kept(alloc: Global) -> Result<u64, Fail> {

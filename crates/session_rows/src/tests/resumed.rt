@@ -1,15 +1,13 @@
 //! A file that came in part, and what the next session makes of it.
 #![tactic(none)]
 
-use super::{FAR, NEAR, begin, end};
+use super::{FAR, GREETING, NEAR, begin, end};
 use crate::{Half, Node, Peer, Words};
 use ftn_addr::{Bytes, NoMemory};
 use list_store::LogRecord;
 use session_core::{Cause, End, Side};
 use std::alloc::Global;
 use std::test::Fail;
-
-const GREETING: &[u8] = b"\x80\x1f\x00VER binkp_mailer/1.0 binkp/1.0\x80\x11\x012:5020/1@fidonet";
 
 const WELCOME: &[u8] = b"\x80\x0b\x04non-secure";
 
