@@ -1,21 +1,24 @@
 //! `binkp DIR WORDS` is the mailer over the folder DIR: it answers a caller on standard input and output, as under inetd, or calls
 //! the node whose line they are. What came of it goes to standard error.
 //!
-//! All that it does is [`run_program`](binkp_mailer::run_program)'s, with the system's folder, line and clock. `main` hands them
-//! on, and holds the system's lock on the folder, so that one program at a time works on it.
+//! All that it does is [`run_program`](binkp_mailer::run_program)'s, with the system's folder, line and clock, and a challenge of
+//! the system's randomness. `main` hands them on, and holds the system's lock on the folder, so that one program at a time works
+//! on it.
 #![tactic(auto)]
 
 mod lock;
 
-use binkp_link::{StdLine, StdSink};
+use binkp_link::Dice;
 use binkp_mailer::{Ended, refuse_for_memory, run_program};
 use ftn_addr::{Bytes, NoMemory};
 use lock::lock;
-use real_edge::RealFolder;
+use real_edge::{RealFolder, StdLine, StdSink, SystemClock, SystemDice};
 use std::process::ExitCode;
-use std::rt::{Clock, Env};
-use std::time::{SystemTime, UNIX_EPOCH};
+use std::rt::Env;
 use std::{env, io};
+
+/// What the exit status is where nothing was done, since the system gives no random bytes for a challenge.
+const NO_CHALLENGE: u8 = 100;
 
 /// What the exit status is where nothing was done, since the folder is another program's or the system refused it.
 const NOT_STARTED: u8 = 101;
@@ -41,22 +44,25 @@ fn read_given<R: Env + AllocGlobal>(rt: &R) -> Result<Given, NoMemory> {
     Ok(Given { folder, words })
 }
 
-/// Seconds since the start of 1970; 0 where the clock can't be read or stands before.
-fn moment<R: Clock>(rt: &R) -> u64 {
-    let Ok(now) = SystemTime::now(rt) else {
-        return 0;
-    };
-    match now.duration_since(UNIX_EPOCH) {
-        Ok(since) => since.as_secs(),
-        Err(_) => 0,
-    }
-}
-
 /// Makes the call over the folder of that path, and says why the system refused a call, where one was refused.
-fn call(rt: &HostRuntime, folder: RealFolder<HostRuntime>, words: &[Bytes]) -> Ended {
+fn call(
+    rt: &HostRuntime,
+    folder: RealFolder<HostRuntime>,
+    words: &[Bytes],
+    challenge: [u8; 16],
+) -> Ended {
     let mut line = StdLine::new(rt.reader(), io::writer(rt));
     let mut out = StdSink::new(rt.stderr());
-    let (ended, folder) = run_program(rt.alloc(), words, folder, &mut line, moment(rt), &mut out);
+    let moment = SystemClock::new(rt).seconds();
+    let (ended, folder) = run_program(
+        rt.alloc(),
+        words,
+        folder,
+        &mut line,
+        moment,
+        challenge,
+        &mut out,
+    );
     if let Some(error) = folder.last_error() {
         // Where nobody can be told, the exit status tells.
         let _ = eprintln!(rt; "binkp: {error}");
@@ -65,12 +71,12 @@ fn call(rt: &HostRuntime, folder: RealFolder<HostRuntime>, words: &[Bytes]) -> E
 }
 
 /// Makes the call that the words ask for over the folder of that path, or says that there is no memory for it.
-fn call_in(rt: &HostRuntime, path: &str, words: &[Bytes]) -> Ended {
+fn call_in(rt: &HostRuntime, path: &str, words: &[Bytes], challenge: [u8; 16]) -> Ended {
     let Ok(runtime) = rt.clone() else {
         return refuse_for_memory(rt.alloc(), &mut StdSink::new(rt.stderr()));
     };
     match RealFolder::new(runtime, path) {
-        Ok(folder) => call(rt, folder, words),
+        Ok(folder) => call(rt, folder, words, challenge),
         Err(NoMemory) => refuse_for_memory(rt.alloc(), &mut StdSink::new(rt.stderr())),
     }
 }
@@ -78,6 +84,13 @@ fn call_in(rt: &HostRuntime, path: &str, words: &[Bytes]) -> Ended {
 /// The exit status of a call over the folder, which is locked as long as that lasts.
 fn program(rt: &HostRuntime, given: &Given) -> u8 {
     let path = given.folder.as_deref().unwrap_or(".");
+    let challenge = match SystemDice::new(rt) {
+        Ok(mut dice) => dice.sixteen(),
+        Err(error) => {
+            let _ = eprintln!(rt; "binkp: {error}");
+            return NO_CHALLENGE;
+        }
+    };
     let _held = match lock(rt, path) {
         Ok(held) => held,
         Err(fault) => {
@@ -85,7 +98,7 @@ fn program(rt: &HostRuntime, given: &Given) -> u8 {
             return NOT_STARTED;
         }
     };
-    let ended = call_in(rt, path, given.words.as_slice());
+    let ended = call_in(rt, path, given.words.as_slice(), challenge);
     if let Some(told) = ended.told {
         let _ = eprintln!(rt; "{told}");
     }

@@ -12,10 +12,12 @@ use Rattle.node_model.specs.Node.{Settings}
 use Rattle.node_model.specs.Receipts.{HasOnce, SettledStays}
 use Rattle.node_model.specs.StoreStates.{Shelf, Stored, shelf_of, IfTold}
 use Rattle.node_model.specs.Stores.{IsShelf, OpensShelf}
-use Rattle.node_model.proofs.ReceiptsStay.{stays_same}
+use Rattle.inbound_files.specs.Giving.{StillHas, KeepsReceived}
+use Rattle.inbound_files.proofs.Kept.{none_keeps, round_keeps, still_same, still_then}
 use Rattle.hub_core.specs.Hubs.{state_of as durable_of, Fitted, IsSettled}
 use Rattle.hub_core.specs.Opening.{no_seats, IsWhole}
 use Rattle.hub_core.proofs.Closing.{no_sitting, not_some}
+use Rattle.mail_conf.specs.Conf.{ConfText}
 use Rattle.binkp_link.specs.Lines.{LineState}
 use Rattle.node_store.specs.Finding.{IsNewMemory}
 use Rattle.node_store.specs.Opening.{Recovers}
@@ -24,9 +26,11 @@ use Rattle.node_store.specs.Stored.{Holding, Memory, state_of, stand_of, stored_
 use Rattle.node_store.specs.Worlds.{OpensAs, Opens}
 use Rattle.node_store.proofs.Openings.{one_shelf, opens_to}
 use Rattle.session_run.specs.Reports.{ReportText}
-use Rattle.binkp_mailer.specs.DiskCall.{StillHas, OpensTo, KeepsReceipts, HasOpened, Serves, Over_disk, Not_asked, Not_opened, Over_store}
+use Rattle.binkp_mailer.specs.DiskCall.{OpensTo, KeepsReceipts, HasOpened, Serves, Over_disk, Not_asked, Not_set, No_call, Not_opened, Over_store}
+use Rattle.binkp_mailer.specs.Inbound.{Gives_behind, Gives_none, Gives_round}
+use Rattle.binkp_mailer.specs.Settings.{OnlyRead}
 use Rattle.binkp_mailer.specs.Statuses.{Status}
-use Rattle.binkp_mailer.specs.TopCall.{Answers_line, Turned_away, Held_one, StopsOf, IsCall, EachStop}
+use Rattle.binkp_mailer.specs.TopCall.{Given, Answers_line, Turned_away, Held_one, StopsOf, IsCall, EachStop, OnceAfter, StaysTold}
 
 -- A store that was just opened fits a hub without seats.
 
@@ -65,9 +69,6 @@ module _ {D : Type 0} (tells : Bool) (content : D → World) (faults : D → ℕ
 
 -- What is received stays so.
 
-still_same : (d e : Durable) → e ≡ d → StillHas d e
-still_same d e is = record { stays = stays_same d e is; once = λ before. subst HasOnce (sym is) before }
-
 same_state : (Q : Durable → Type 0) (e o : Option Shelf) → option_map durable_of e ≡ option_map durable_of o → OpensShelf (λ s. Q s.state) o → OpensShelf (λ s. Q s.state) e
 same_state Q e None is holds = absurd holds
 same_state Q None (Some o) is holds = absurd (let clash : None ≡ Some o.state = is in cc)
@@ -98,17 +99,17 @@ module _ {D : Type 0} (tells : Bool) (content : D → World) (faults : D → ℕ
       recovers_still d was.0 w (all was.0 was.1) was.2 e op
 
   -- a moment before a call over a store began, seen after it
-  earlier : (words : List (List ℕ)) (now : ℕ) (line : LineState) (opened left : Holding D) (told : Option ReportText) (had : Status) (line' : LineState)
-      → IsCall words now line (stand_of tells content faults moment images opened) told had line' (stand_of tells content faults moment images left)
+  earlier : (words : List (List ℕ)) (given : Given) (line : LineState) (opened left : Holding D) (told : Option ReportText) (had : Status) (line' : LineState)
+      → IsCall words given line (stand_of tells content faults moment images opened) told had line' (stand_of tells content faults moment images left)
       → (k : ℕ) (e : Option Shelf) → k ≤ moment opened.disk → (stand_of tells content faults moment images left).images k e
       → (o : Option Shelf) × (stand_of tells content faults moment images opened).images k o × (option_map durable_of e ≡ option_map durable_of o)
-  earlier words now line opened left told had line' call k e until image = go call.answers call.stops
+  earlier words given line opened left told had line' call k e until image = go call.answers call.stops
     where
-      go : (a : Answers_line words now line (stand_of tells content faults moment images opened).state told had line' (stand_of tells content faults moment images left).state)
-          → StopsOf words now line (stand_of tells content faults moment images opened) told had line' (stand_of tells content faults moment images left) a
+      go : (a : Answers_line words given line (stand_of tells content faults moment images opened).state told had line' (stand_of tells content faults moment images left).state)
+          → StopsOf words given line (stand_of tells content faults moment images opened) told had line' (stand_of tells content faults moment images left) a
           → (o : Option Shelf) × (stand_of tells content faults moment images opened).images k o × (option_map durable_of e ≡ option_map durable_of o)
       go (Turned_away none why line_is store_is) same = (e, same.images k e image, refl)
-      go (Held_one side home are held) stops = stops.ran.before k (option_map durable_of e) until (e, image, refl)
+      go (Held_one side are hosted held) stops = stops.ran.before k (option_map durable_of e) until (e, image, refl)
 
   -- what the store tells that was opened
   opened_state : (d : Durable) (disk : D) (opened : Holding D) → tells ≡ true → HasOpened tells content faults moment images disk opened → OpensTo d (content disk) → (stored_in (content opened.disk) opened.memory).stock.state ≡ d
@@ -116,11 +117,11 @@ module _ {D : Type 0} (tells : Bool) (content : D → World) (faults : D → ℕ
       let is = h.told telling in
       is.tidied.state ∙ ap (λ (s : Shelf). s.state) (one_shelf (content disk) before.0 is.shelf before.1 is.opens) ∙ before.2
 
-  later : (d : Durable) (words : List (List ℕ)) (now : ℕ) (line : LineState) (opened left : Holding D) (told : Option ReportText) (had : Status) (line' : LineState)
+  later : (d : Durable) (words : List (List ℕ)) (given : Given) (line : LineState) (opened left : Holding D) (told : Option ReportText) (had : Status) (line' : LineState)
       → tells ≡ true → (stored_in (content opened.disk) opened.memory).stock.state ≡ d
-      → Serves words now line (stand_of tells content faults moment images opened) told had line' (stand_of tells content faults moment images left)
+      → Serves words given line (stand_of tells content faults moment images opened) told had line' (stand_of tells content faults moment images left)
       → (k : ℕ) (e : Option Shelf) → moment opened.disk < k → k ≤ moment left.disk → (stand_of tells content faults moment images left).images k e → OpensShelf (λ s. StillHas d s.state) e
-  later d words now line opened left told had line' telling is serves k e after until image =
+  later d words given line opened left told had line' telling is serves k e after until image =
       let store = stand_of tells content faults moment images opened in
       let store' = stand_of tells content faults moment images left in
       let kept = stored_in (content opened.disk) opened.memory in
@@ -128,22 +129,71 @@ module _ {D : Type 0} (tells : Bool) (content : D → World) (faults : D → ℕ
       let once : EachStop store store' HasOnce = subst (λ (c : Option Stored). IfTold c (λ a. EachStop store store' HasOnce)) (told_is tells kept telling) serves.stop_once in
       both_hold d e (subst (λ (x : Durable). OpensShelf (λ s. SettledStays x s.state) e) is (stays k e after until image)) (once k e after until image)
 
-  pub keeps_receipts : (words : List (List ℕ)) (now : ℕ) (line : LineState) (disk : D) (told : Option ReportText) (had : Status) (line' : LineState) (disk' : D)
-      → tells ≡ true → Over_disk tells content faults moment images words now line disk told had line' disk' → KeepsReceipts content moment images disk disk'
-  keeps_receipts words now line disk told had line' disk' telling (Not_asked none why line_is disk_is) = λ d reads all k w e from to image op.
+  -- what the store tells when the session is over
+  served_state : (d : Durable) (words : List (List ℕ)) (given : Given) (line : LineState) (opened held : Holding D) (told : Option ReportText) (had : Status) (line' : LineState)
+      → tells ≡ true → (stored_in (content opened.disk) opened.memory).stock.state ≡ d
+      → Serves words given line (stand_of tells content faults moment images opened) told had line' (stand_of tells content faults moment images held)
+      → StillHas d (stored_in (content held.disk) held.memory).stock.state
+  served_state d words given line opened held told had line' telling is serves =
+      let old = stored_in (content opened.disk) opened.memory in
+      let new = stored_in (content held.disk) held.memory in
+      let stays : SettledStays old.stock.state new.stock.state = subst (λ (c : Option Stored). StaysTold (Some old) c) (told_is tells new telling) (subst (λ (c : Option Stored). StaysTold c (if tells then Some new else None)) (told_is tells old telling) serves.stays) in
+      let once : HasOnce new.stock.state = subst (λ (c : Option Stored). OnceAfter (Some old) c) (told_is tells new telling) (subst (λ (c : Option Stored). OnceAfter c (if tells then Some new else None)) (told_is tells old telling) serves.once) in
+      subst (λ (x : Durable). StillHas x new.stock.state) is (record { stays = stays; once = λ before. once })
+
+  -- nothing, or a round of giving
+  behind_keeps : (conf : ConfText) (told : Option ReportText) (was had : Status) (held left : Holding D) → Gives_behind tells content faults moment images conf told was had held left
+      → KeepsReceived (stand_of tells content faults moment images held) (stand_of tells content faults moment images left)
+  behind_keeps conf told was had held left (Gives_none why had_is left_is) = subst (λ (x : Holding D). KeepsReceived (stand_of tells content faults moment images held) (stand_of tells content faults moment images x)) (sym left_is) (none_keeps (stand_of tells content faults moment images held))
+  behind_keeps conf told was had held left (Gives_round some result gives had_is) = round_keeps (stand_of tells content faults moment images) conf.inbound conf.inbound_nonsecure _ held result left gives
+
+  then_opens : (a b : Durable) (e : Option Shelf) → StillHas a b → OpensShelf (λ s. StillHas b s.state) e → OpensShelf (λ s. StillHas a s.state) e
+  then_opens a b None still opens = absurd opens
+  then_opens a b (Some s) still opens = still_then a b s.state still opens
+
+  given_later : (d : Durable) (held left : Holding D) → tells ≡ true → KeepsReceived (stand_of tells content faults moment images held) (stand_of tells content faults moment images left) → StillHas d (stored_in (content held.disk) held.memory).stock.state
+      → (k : ℕ) (e : Option Shelf) → moment held.disk < k → k ≤ moment left.disk → (stand_of tells content faults moment images left).images k e → OpensShelf (λ s. StillHas d s.state) e
+  given_later d held left telling kept still k e behind until image =
+      let old = stand_of tells content faults moment images held in
+      let new = stand_of tells content faults moment images left in
+      let told = stored_in (content held.disk) held.memory in
+      let since : (k : ℕ) (e : Option Shelf) → old.moment < k → k ≤ new.moment → new.images k e → OpensShelf (λ s. StillHas told.stock.state s.state) e
+      = subst (λ (c : Option Stored). IfTold c (λ a. (k : ℕ) (e : Option Shelf) → old.moment < k → k ≤ new.moment → new.images k e → OpensShelf (λ s. StillHas a.stock.state s.state) e)) (told_is tells told telling) kept.since in
+      then_opens d told.stock.state e still (since k e behind until image)
+
+  -- a disk that was read only
+  read_still : (disk disk' : D) → OnlyRead tells content faults moment images disk disk' → KeepsReceipts content moment images disk disk'
+  read_still disk disk' only = λ d reads all k w e from to image op.
+      let was = only.stop.each k w from to image in
+      let opens = all was.0 was.1 in
+      opens_still d w (opens.0) (subst (λ (x : World). OpensAs x opens.0) (sym was.2) opens.1) opens.2 e op
+
+  pub keeps_receipts : (words : List (List ℕ)) (challenge : List ℕ) (now : ℕ) (line : LineState) (disk : D) (told : Option ReportText) (had : Status) (line' : LineState) (disk' : D)
+      → tells ≡ true → Over_disk tells content faults moment images words challenge now line disk told had line' disk' → KeepsReceipts content moment images disk disk'
+  keeps_receipts words challenge now line disk told had line' disk' telling (Not_asked none why form line_is disk_is) = λ d reads all k w e from to image op.
       let here : images disk k w = subst (λ (x : D). images x k w) disk_is image in
       let until : k ≤ moment disk = subst (λ (x : D). k ≤ moment x) disk_is to in
       let now_is : images disk (moment disk) w = subst (λ (m : ℕ). images disk m w) (omega (arith, from, until)) here in
       let opens = all w now_is in
       opens_still d w opens.0 opens.1 opens.2 e op
-  keeps_receipts words now line disk told had line' disk' telling (Not_opened side home are fault none had_is line_is refused) = λ d reads all k w e from to image op.
+  keeps_receipts words challenge now line disk told had line' disk' telling (Not_set none form why only line_is) = read_still disk disk' only
+  keeps_receipts words challenge now line disk told had line' disk' telling (No_call conf settings none why only line_is) = read_still disk disk' only
+  keeps_receipts words challenge now line disk told had line' disk' telling (Not_opened conf settings side are fault none had_is line_is refused) = λ d reads all k w e from to image op.
       leaves_still d disk disk' (refused.stop telling) all k w e from to image op
-  keeps_receipts words now line disk told had line' disk' telling (Over_store opened left h serves disk_is) = λ d reads all k w e from to image op.
+  keeps_receipts words challenge now line disk told had line' disk' telling (Over_store conf settings opened held left h was serves gives disk_is) = λ d reads all k w e from to image op.
       let here : images left.disk k w = subst (λ (x : D). images x k w) disk_is image in
       let until : k ≤ moment left.disk = subst (λ (x : D). k ≤ moment x) disk_is to in
+      let given : Given = record { conf = conf; challenge = challenge; moment = now } in
+      let kept = behind_keeps conf told was had held left gives in
+      let is = opened_state d disk opened telling h reads in
+      ⊎_elim
+      (λ (behind : moment held.disk < k). given_later d held left telling kept (served_state d words given line opened held told was line' telling is serves) k e behind until (telling, w, here, op))
+      (λ (within : k ≤ moment held.disk).
+      let seen = kept.before k e within (telling, w, here, op) in
       ⊎_elim
       (λ (before : k ≤ moment opened.disk).
-      let was = earlier words now line opened left told had line' serves.call k e before (telling, w, here, op) in
-      same_state (StillHas d) e was.0 was.2 (leaves_still d disk opened.disk (h.stop telling) all k was.1.1 was.0 from before was.1.2 was.1.3))
-      (λ (after : moment opened.disk < k). later d words now line opened left told had line' telling (opened_state d disk opened telling h reads) serves k e after until (telling, w, here, op))
-      (either k (moment opened.disk))
+      let was_then = earlier words given line opened held told was line' serves.call k e before seen in
+      same_state (StillHas d) e was_then.0 was_then.2 (leaves_still d disk opened.disk (h.stop telling) all k was_then.1.1 was_then.0 from before was_then.1.2 was_then.1.3))
+      (λ (after : moment opened.disk < k). later d words given line opened held told was line' telling is serves k e after within seen)
+      (either k (moment opened.disk)))
+      (cases_lt (moment held.disk) k)

@@ -1,8 +1,14 @@
 -- What the status of a call over a disk tells of the disk.
-use Rattle.std.proofs.Common.{◌≡◌, ◌⊎◌, ℕ, Bool, List, Option, refl, sym, subst, inl, inr}
-use Rattle.ftn_addr.specs.Counts.{Increased}
-use Rattle.ftn_addr.proofs.CountsGrow.{count_grew-refl}
+use Rattle.std.proofs.Common.{◌≡◌, ◌⊎◌, ℕ, Bool, List, Option, Result, Err, refl, sym, subst, inl, inr}
+use Rattle.binkp_mailer.proofs.TopCalls.{answers_grow}
+use Rattle.ftn_addr.specs.Counts.{Increased, CountGrew}
+use Rattle.ftn_addr.proofs.CountsGrow.{count_grew-refl, count_grew-then, then-increased}
+use Rattle.inbound_files.specs.Giving.{GivesFiles}
+use Rattle.inbound_files.proofs.Kept.{round_keeps, round_failed}
+use Rattle.node_model.specs.declared.store.StoreFault.{StoreFault}
+use Rattle.node_model.specs.declared.store.StoreFault.TheVariants.{Disk}
 use Rattle.disk_model.specs.World.{World}
+use Rattle.mail_conf.specs.Conf.{ConfText}
 use Rattle.node_model.specs.Stores.{StoreState}
 use Rattle.node_store.specs.Stored.{Holding, stand_of}
 use Rattle.node_store.specs.declared.opening.fault.StoreOpenFault.{StoreOpenFault}
@@ -11,14 +17,17 @@ use Rattle.binkp_link.specs.Lines.{LineState, SinkState}
 use Rattle.session_core.specs.Ends.{End}
 use Rattle.session_core.specs.Ends as E
 use Rattle.session_run.specs.Reports.{ReportText}
-use Rattle.binkp_mailer.specs.DiskCall.{DiskCause, HasRefused, Over_disk, Not_asked, Not_opened, Over_store}
+use Rattle.binkp_mailer.specs.DiskCall.{DiskCause, HasRefused, IsNoCall, Over_disk, Not_asked, Not_set, No_call, Not_opened, Over_store}
+use Rattle.binkp_mailer.specs.Settings.{NoSettings, Is_refused, Has_failed, Had_no_memory}
+use Rattle.binkp_mailer.specs.Inbound.{Gives_behind, Gives_none, Gives_round, status_behind}
 use Rattle.binkp_mailer.specs.Reports.{Prints, lines_put, no_room, all_put, put_failed}
 use Rattle.binkp_mailer.specs.Statuses as S
 use Rattle.binkp_mailer.specs.Statuses.{Status, status_after, status_unopened}
-use Rattle.binkp_mailer.specs.TopCall.{Answers_line, Turned_away, Held_one, StatusCause}
+use Rattle.binkp_mailer.specs.TopCall.{Given, Asks_nothing, Has_no_host, Has_no_memory, Answers_line, Turned_away, Held_one, StatusCause}
 
 -- a status of a call over a store that is there
 abbrev OfSession : Status → Type 0
+OfSession (S.ConfBad fault) = ⊥
 OfSession (S.LedgerBad place) = ⊥
 OfSession (S.FileBad name) = ⊥
 OfSession status = Unit {0}
@@ -38,15 +47,27 @@ ends_so E.Endless = tt
 ends_so E.TurnedAway = tt
 ends_so E.NoMemory = tt
 
-answers_so : (words : List (List ℕ)) (now : ℕ) (line : LineState) (store : StoreState) (told : Option ReportText) (had : Status) (line' : LineState) (store' : StoreState) → Answers_line words now line store told had line' store' → OfSession had
-answers_so words now line store told had line' store' (Turned_away none (inl is) line_is store_is) = subst OfSession (sym is) tt
-answers_so words now line store told had line' store' (Turned_away none (inr is) line_is store_is) = subst OfSession (sym is) tt
-answers_so words now line store told had line' store' (Held_one side home are held) = subst OfSession (sym held.status_is) (ends_so held.report.end)
+answers_so : (words : List (List ℕ)) (given : Given) (line : LineState) (store : StoreState) (told : Option ReportText) (had : Status) (line' : LineState) (store' : StoreState) → Answers_line words given line store told had line' store' → OfSession had
+answers_so words given line store told had line' store' (Turned_away none (Asks_nothing is nothing) line_is store_is) = subst OfSession (sym is) tt
+answers_so words given line store told had line' store' (Turned_away none (Has_no_host is side are no_host) line_is store_is) = subst OfSession (sym is) tt
+answers_so words given line store told had line' store' (Turned_away none (Has_no_memory is) line_is store_is) = subst OfSession (sym is) tt
+answers_so words given line store told had line' store' (Held_one side are hosted held) = subst OfSession (sym held.status_is) (ends_so held.report.end)
 
 module _ {D : Type 0} (tells : Bool) (content : D → World) (faults : D → ℕ) (moment : D → ℕ) (images : D → ℕ → World → Type 0) where
-  asked_not : (disk disk' : D) (had : Status) → (had ≡ S.Usage) ⊎ (had ≡ S.NoMemory) → DiskCause tells content faults had disk disk'
-  asked_not disk disk' had (inl is) = subst (λ (x : Status). DiskCause tells content faults x disk disk') (sym is) tt
-  asked_not disk disk' had (inr is) = subst (λ (x : Status). DiskCause tells content faults x disk disk') (sym is) tt
+  said_none : (disk disk' : D) (had : Status) → had ≡ S.Usage → DiskCause tells content faults had disk disk'
+  said_none disk disk' had is = subst (λ (x : Status). DiskCause tells content faults x disk disk') (sym is) tt
+
+  had_no_memory : (disk disk' : D) (had : Status) → had ≡ S.NoMemory → DiskCause tells content faults had disk disk'
+  had_no_memory disk disk' had is = subst (λ (x : Status). DiskCause tells content faults x disk disk') (sym is) tt
+
+  unset_so : (disk disk' : D) (had : Status) → NoSettings tells content faults moment images disk disk' had → DiskCause tells content faults had disk disk'
+  unset_so disk disk' had (Is_refused fault is own why) = subst (λ (x : Status). DiskCause tells content faults x disk disk') (sym is) why
+  unset_so disk disk' had (Has_failed is rose) = subst (λ (x : Status). DiskCause tells content faults x disk disk') (sym is) (rose, count_grew-refl (faults disk'))
+  unset_so disk disk' had (Had_no_memory is) = had_no_memory disk disk' had is
+
+  no_call_so : (words : List (List ℕ)) (conf : ConfText) (disk disk' : D) (had : Status) → IsNoCall words conf had → DiskCause tells content faults had disk disk'
+  no_call_so words conf disk disk' had (inl none) = said_none disk disk' had none.0
+  no_call_so words conf disk disk' had (inr is) = had_no_memory disk disk' had is
 
   why_not : {A : Type 0} (fault : StoreOpenFault) → (fault ≡ F.Disk → ⊥) → (fault ≡ F.NoMemory → ⊥) → (fault ≡ F.Disk) ⊎ ((fault ≡ F.NoMemory) ⊎ A) → A
   why_not fault disk memory (inl is) = absurd (disk is)
@@ -59,37 +80,83 @@ module _ {D : Type 0} (tells : Bool) (content : D → World) (faults : D → ℕ
   refused_so (F.FileBad name) disk disk' r = why_not (F.FileBad name) (λ is. let clash : F.FileBad name ≡ F.Disk = is in cc) (λ is. let clash : F.FileBad name ≡ F.NoMemory = is in cc) r.why
   refused_so F.NoMemory disk disk' r = tt
 
-  served_so : (had : Status) (line line' : LineState) (opened left : Holding D) (disk : D) → faults opened.disk ≡ faults disk → OfSession had
-      → StatusCause had line line' (stand_of tells content faults moment images opened).state.counts (stand_of tells content faults moment images left).state.counts → DiskCause tells content faults had disk left.disk
-  served_so (S.DiskFault count) line line' opened left disk calm of cause = (subst (λ (n : ℕ). Increased n count) calm cause.0, cause.1)
-  served_so (S.LedgerBad place) line line' opened left disk calm of cause = absurd of
-  served_so (S.FileBad name) line line' opened left disk calm of cause = absurd of
-  served_so S.Done line line' opened left disk calm of cause = tt
-  served_so S.Usage line line' opened left disk calm of cause = tt
-  served_so S.LedgerFull line line' opened left disk calm of cause = tt
-  served_so S.LineFault line line' opened left disk calm of cause = tt
-  served_so S.Dropped line line' opened left disk calm of cause = tt
-  served_so S.Quiet line line' opened left disk calm of cause = tt
-  served_so (S.PeerError text) line line' opened left disk calm of cause = tt
-  served_so S.PeerBusy line line' opened left disk calm of cause = tt
-  served_so S.BadPassword line line' opened left disk calm of cause = tt
-  served_so (S.Broke why n) line line' opened left disk calm of cause = tt
-  served_so S.Endless line line' opened left disk calm of cause = tt
-  served_so S.OutFault line line' opened left disk calm of cause = tt
-  served_so S.NoMemory line line' opened left disk calm of cause = tt
-  served_so S.TurnedAway line line' opened left disk calm of cause = tt
+  served_so : (limit : ℕ) (had : Status) (line line' : LineState) (opened left : Holding D) (disk : D) → faults opened.disk ≡ faults disk → OfSession had
+      → StatusCause limit had line line' (stand_of tells content faults moment images opened).state.counts (stand_of tells content faults moment images left).state.counts → DiskCause tells content faults had disk left.disk
+  served_so limit (S.DiskFault count) line line' opened left disk calm of cause = (subst (λ (n : ℕ). Increased n count) calm cause.0, cause.1)
+  served_so limit (S.ConfBad fault) line line' opened left disk calm of cause = absurd of
+  served_so limit (S.LedgerBad place) line line' opened left disk calm of cause = absurd of
+  served_so limit (S.FileBad name) line line' opened left disk calm of cause = absurd of
+  served_so limit S.Done line line' opened left disk calm of cause = tt
+  served_so limit S.Usage line line' opened left disk calm of cause = tt
+  served_so limit S.LedgerFull line line' opened left disk calm of cause = tt
+  served_so limit S.LineFault line line' opened left disk calm of cause = tt
+  served_so limit S.Dropped line line' opened left disk calm of cause = tt
+  served_so limit S.Quiet line line' opened left disk calm of cause = tt
+  served_so limit (S.PeerError text) line line' opened left disk calm of cause = tt
+  served_so limit S.PeerBusy line line' opened left disk calm of cause = tt
+  served_so limit S.BadPassword line line' opened left disk calm of cause = tt
+  served_so limit (S.Broke why n) line line' opened left disk calm of cause = tt
+  served_so limit S.Endless line line' opened left disk calm of cause = tt
+  served_so limit S.OutFault line line' opened left disk calm of cause = tt
+  served_so limit S.NoMemory line line' opened left disk calm of cause = tt
+  served_so limit S.NotFound line line' opened left disk calm of cause = tt
+  served_so limit S.TurnedAway line line' opened left disk calm of cause = tt
 
-  had_so : (words : List (List ℕ)) (now : ℕ) (line : LineState) (disk : D) (told : Option ReportText) (had : Status) (line' : LineState) (disk' : D) → Over_disk tells content faults moment images words now line disk told had line' disk' → DiskCause tells content faults had disk disk'
-  had_so words now line disk told had line' disk' (Not_asked none why line_is disk_is) = asked_not disk disk' had why
-  had_so words now line disk told had line' disk' (Not_opened side home are fault none had_is line_is refused) = subst (λ (x : Status). DiskCause tells content faults x disk disk') (sym had_is) (refused_so fault disk disk' refused)
-  had_so words now line disk told had line' disk' (Over_store opened left h serves disk_is) =
+  -- behind a session
+
+  still_so : (had : Status) (disk held left : D) → OfSession had → CountGrew (faults held) (faults left) → DiskCause tells content faults had disk held → DiskCause tells content faults had disk left
+  still_so (S.DiskFault count) disk held left of grew cause = (cause.0, count_grew-then count (faults held) (faults left) cause.1 grew)
+  still_so (S.ConfBad fault) disk held left of grew cause = absurd of
+  still_so (S.LedgerBad place) disk held left of grew cause = absurd of
+  still_so (S.FileBad name) disk held left of grew cause = absurd of
+  still_so S.Done disk held left of grew cause = tt
+  still_so S.Usage disk held left of grew cause = tt
+  still_so S.LedgerFull disk held left of grew cause = tt
+  still_so S.LineFault disk held left of grew cause = tt
+  still_so S.Dropped disk held left of grew cause = tt
+  still_so S.Quiet disk held left of grew cause = tt
+  still_so (S.PeerError text) disk held left of grew cause = tt
+  still_so S.PeerBusy disk held left of grew cause = tt
+  still_so S.BadPassword disk held left of grew cause = tt
+  still_so (S.Broke why n) disk held left of grew cause = tt
+  still_so S.Endless disk held left of grew cause = tt
+  still_so S.OutFault disk held left of grew cause = tt
+  still_so S.NoMemory disk held left of grew cause = tt
+  still_so S.NotFound disk held left of grew cause = tt
+  still_so S.TurnedAway disk held left of grew cause = tt
+
+  round_so : (conf : ConfText) (was : Status) (held left : Holding D) (disk : D) (files : ℕ) (result : Result (Unit {0}) StoreFault)
+      → OfSession was → DiskCause tells content faults was disk held.disk → CountGrew (faults disk) (faults held.disk)
+      → GivesFiles (stand_of tells content faults moment images) conf.inbound conf.inbound_nonsecure files held result left → DiskCause tells content faults (status_behind result was (faults left.disk)) disk left.disk
+  round_so conf was held left disk files (Err Disk) of cause grew gives =
+      (then-increased (faults disk) (faults held.disk) (faults left.disk) grew (round_failed (stand_of tells content faults moment images) conf.inbound conf.inbound_nonsecure files held left gives), count_grew-refl (faults left.disk))
+  round_so conf was held left disk files result of cause grew gives = still_so was disk held.disk left.disk of (round_keeps (stand_of tells content faults moment images) conf.inbound conf.inbound_nonsecure files held result left gives).faults cause
+
+  behind_so : (conf : ConfText) (told : Option ReportText) (was had : Status) (held left : Holding D) (disk : D)
+      → OfSession was → DiskCause tells content faults was disk held.disk → CountGrew (faults disk) (faults held.disk)
+      → Gives_behind tells content faults moment images conf told was had held left → DiskCause tells content faults had disk left.disk
+  behind_so conf told was had held left disk of cause grew (Gives_none why had_is left_is) =
+      subst (λ (x : Holding D). DiskCause tells content faults had disk x.disk) (sym left_is) (subst (λ (x : Status). DiskCause tells content faults x disk held.disk) (sym had_is) cause)
+  behind_so conf told was had held left disk of cause grew (Gives_round some result gives had_is) =
+      subst (λ (x : Status). DiskCause tells content faults x disk left.disk) (sym had_is) (round_so conf was held left disk _ result of cause grew gives)
+
+  had_so : (words : List (List ℕ)) (challenge : List ℕ) (now : ℕ) (line : LineState) (disk : D) (told : Option ReportText) (had : Status) (line' : LineState) (disk' : D) → Over_disk tells content faults moment images words challenge now line disk told had line' disk' → DiskCause tells content faults had disk disk'
+  had_so words challenge now line disk told had line' disk' (Not_asked none is form line_is disk_is) = said_none disk disk' had is
+  had_so words challenge now line disk told had line' disk' (Not_set none form why only line_is) = unset_so disk disk' had why
+  had_so words challenge now line disk told had line' disk' (No_call conf settings none why only line_is) = no_call_so words conf disk disk' had why
+  had_so words challenge now line disk told had line' disk' (Not_opened conf settings side are fault none had_is line_is refused) = subst (λ (x : Status). DiskCause tells content faults x disk disk') (sym had_is) (refused_so fault disk disk' refused)
+  had_so words challenge now line disk told had line' disk' (Over_store conf settings opened held left h was serves gives disk_is) =
       subst (λ (x : D). DiskCause tells content faults had disk x) (sym disk_is)
-      (served_so had line line' opened left disk h.calm (answers_so words now line _ told had line' _ serves.call.answers) serves.cause)
+      (behind_so conf told was had held left disk
+      (answers_so words (record { conf = conf; challenge = challenge; moment = now }) line _ told was line' _ serves.call.answers)
+      (served_so conf.session_limit was line line' opened held disk h.calm (answers_so words (record { conf = conf; challenge = challenge; moment = now }) line _ told was line' _ serves.call.answers) serves.cause)
+      (subst (λ (n : ℕ). CountGrew n (faults held.disk)) h.calm (answers_grow words (record { conf = conf; challenge = challenge; moment = now }) line _ told was line' _ serves.call.answers))
+      gives)
 
   -- a status that is told is the one that was had, or one that says nothing of the disk
-  pub told_cause : (words : List (List ℕ)) (now : ℕ) (line : LineState) (disk : D) (told : Option ReportText) (had status : Status) (line' : LineState) (disk' : D) (out out' : SinkState)
-      → Over_disk tells content faults moment images words now line disk told had line' disk' → Prints told had status out out' → DiskCause tells content faults status disk disk'
-  told_cause words now line disk told had status line' disk' out out' call (lines_put (all_put is puts)) = subst (λ (x : Status). DiskCause tells content faults x disk disk') (sym is) (had_so words now line disk told had line' disk' call)
-  told_cause words now line disk told had status line' disk' out out' call (lines_put (put_failed is puts)) = subst (λ (x : Status). DiskCause tells content faults x disk disk') (sym is) tt
-  told_cause words now line disk told had status line' disk' out out' call (no_room (all_put is puts)) = subst (λ (x : Status). DiskCause tells content faults x disk disk') (sym is) tt
-  told_cause words now line disk told had status line' disk' out out' call (no_room (put_failed is puts)) = subst (λ (x : Status). DiskCause tells content faults x disk disk') (sym is) tt
+  pub told_cause : (words : List (List ℕ)) (challenge : List ℕ) (now : ℕ) (line : LineState) (disk : D) (told : Option ReportText) (had status : Status) (line' : LineState) (disk' : D) (out out' : SinkState)
+      → Over_disk tells content faults moment images words challenge now line disk told had line' disk' → Prints told had status out out' → DiskCause tells content faults status disk disk'
+  told_cause words challenge now line disk told had status line' disk' out out' call (lines_put (all_put is puts)) = subst (λ (x : Status). DiskCause tells content faults x disk disk') (sym is) (had_so words challenge now line disk told had line' disk' call)
+  told_cause words challenge now line disk told had status line' disk' out out' call (lines_put (put_failed is puts)) = subst (λ (x : Status). DiskCause tells content faults x disk disk') (sym is) tt
+  told_cause words challenge now line disk told had status line' disk' out out' call (no_room (all_put is puts)) = subst (λ (x : Status). DiskCause tells content faults x disk disk') (sym is) tt
+  told_cause words challenge now line disk told had status line' disk' out out' call (no_room (put_failed is puts)) = subst (λ (x : Status). DiskCause tells content faults x disk disk') (sym is) tt

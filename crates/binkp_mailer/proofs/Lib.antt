@@ -1,8 +1,15 @@
 pub mod Completing
 pub mod DiskCalls
 pub mod DiskCauses
-pub mod NewStore
+pub mod Failing
+pub mod GiveSteps
+pub mod HeldParts
+pub mod NodeOpenings
+pub mod OneNode
+pub mod ReadOnly
 pub mod ReservedStore
 pub mod TopCalls
+pub mod TakenRows
+pub mod ToldCalls
 pub mod TopPrints
 pub mod WordLists

@@ -1,7 +1,7 @@
 -- A store whose places are reserved fits a new hub still.
 use Rattle.std.proofs.Common.{◌≡◌, ◌+◌, ◌≤◌, ℕ, None, sym, ap, ◌∙◌, subst, arith}
 use Rattle.node_model.specs.declared.words.TheConstants.{MOST_RECORDS}
-use Rattle.node_model.specs.Node.{Node, plain_settings}
+use Rattle.node_model.specs.Node.{Node, Settings}
 use Rattle.node_model.specs.Sound.{Sound}
 use Rattle.node_model.specs.Stores.{Stored, StoreState, StoreStand, StoreKept, Reserve, Well}
 use Rattle.hub_core.specs.Hubs.{HubFits, Fitted, node_with}
@@ -36,20 +36,20 @@ reserved_sound n places room s =
       places = record { claims = s.places.claims; holds = s.places.holds; all = omega (arith, all); room = omega (arith, room) };
     }
 
-reserved_fits : (a : Stored) (s : StoreState) (places : ℕ) → s.records + s.reserved + places ≤ MOST_RECORDS → HubFits a s (no_seats plain_settings) → HubFits a (record s { reserved = s.reserved + places }) (no_seats plain_settings)
-reserved_fits a s places room f = record {
+reserved_fits : (settings : Settings) (a : Stored) (s : StoreState) (places : ℕ) → s.records + s.reserved + places ≤ MOST_RECORDS → HubFits a s (no_seats settings) → HubFits a (record s { reserved = s.reserved + places }) (no_seats settings)
+reserved_fits settings a s places room f = record {
   stock = f.stock;
-  sittings = λ k x at. not_some _ x (no_sitting plain_settings k) at;
+  sittings = λ k x at. not_some _ x (no_sitting settings k) at;
   parts = f.parts;
-  sound = reserved_sound (node_with a s (no_seats plain_settings)) places room f.sound;
+  sound = reserved_sound (node_with a s (no_seats settings)) places room f.sound;
 }
 
-pub reserved_whole : (v w : StoreStand) (places : ℕ) → v.state.counts.broken ≡ None → StoreKept v (Reserve places) Well w → IsWhole v (no_seats plain_settings) → IsWhole w (no_seats plain_settings)
-reserved_whole v w places unbroken k whole =
+pub reserved_whole : (settings : Settings) (v w : StoreStand) (places : ℕ) → v.state.counts.broken ≡ None → StoreKept v (Reserve places) Well w → IsWhole v (no_seats settings) → IsWhole w (no_seats settings)
+reserved_whole settings v w places unbroken k whole =
     let f = whole.fitted unbroken in
-    let more : Fitted (record v.state { reserved = v.state.reserved + places }) (no_seats plain_settings) = record { keeps = f.keeps; tells = f.tells; fits = reserved_fits f.keeps v.state places k.made.0 f.fits } in
+    let more : Fitted (record v.state { reserved = v.state.reserved + places }) (no_seats settings) = record { keeps = f.keeps; tells = f.tells; fits = reserved_fits settings f.keeps v.state places k.made.0 f.fits } in
     record {
-      fitted = λ still. subst (λ (s : StoreState). Fitted s (no_seats plain_settings)) (sym k.made.1) more;
+      fitted = λ still. subst (λ (s : StoreState). Fitted s (no_seats settings)) (sym k.made.1) more;
       settled = k.now;
     }
 

@@ -1,10 +1,10 @@
 -- Which calls are Done (own).
-use Rattle.std.specs.Prelude.{◌≡◌, ◌⊎◌, Option, Some, None}
+use Rattle.std.specs.Prelude.{◌≡◌, ◌⊎◌, ℕ, Option, Some, None}
 use Rattle.ftn_addr.specs.Counts.{next_count}
 use Rattle.binkp_link.specs.Lines.{SinkState}
 use Rattle.session_core.specs.Ends as E
 use Rattle.session_run.specs.Reports.{ReportText}
-use Rattle.binkp_mailer.specs.Statuses.{Status, Done, NoMemory, OutFault}
+use Rattle.binkp_mailer.specs.Statuses.{Status, Done, DiskFault, NoMemory, OutFault}
 
 -- a session was held, and it finished
 abbrev pub HasFinished : Option ReportText → Type 0
@@ -16,3 +16,8 @@ HasFinished (Some report) = report.end ≡ E.Finished
 pub record IsDoneWhere (told : Option ReportText) (status : Status) (out out' : SinkState) : Type 0 where
   pub only : status ≡ Done → HasFinished told
   pub always : HasFinished told → (status ≡ Done) ⊎ ((status ≡ NoMemory) ⊎ ((status ≡ OutFault) × (out'.faults ≡ next_count out.faults)))
+
+-- The same of a call that gives received files behind its session: there the disk may have failed.
+pub record IsDoneBehind (told : Option ReportText) (status : Status) (out out' : SinkState) : Type 0 where
+  pub only : status ≡ Done → HasFinished told
+  pub always : HasFinished told → (status ≡ Done) ⊎ (((count : ℕ) × (status ≡ DiskFault count)) ⊎ ((status ≡ NoMemory) ⊎ ((status ≡ OutFault) × (out'.faults ≡ next_count out.faults))))

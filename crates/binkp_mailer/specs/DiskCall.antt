@@ -1,10 +1,10 @@
 -- What the program's call does over a disk (own).
-use Rattle.std.specs.Prelude.{◌≡◌, ◌⊎◌, ℕ, ◌≤◌, Bool, true, List, Option, None}
+use Rattle.std.specs.Prelude.{◌≡◌, ◌⊎◌, ℕ, ◌≤◌, Bool, true, List, Option, None, Err}
 use Rattle.disk_model.specs.Changes.{Every}
 use Rattle.disk_model.specs.Moments.{Now, Leaves}
 use Rattle.disk_model.specs.World.{World}
-use Rattle.ftn_addr.specs.Address.{Address}
 use Rattle.ftn_addr.specs.Counts.{Increased, CountGrew}
+use Rattle.inbound_files.specs.Giving.{StillHas}
 use Rattle.node_model.specs.Durable.{Durable}
 use Rattle.node_model.specs.Receipts.{HasOnce, SettledStays}
 use Rattle.node_model.specs.Stores.{Shelf, StoreStand, OpensShelf}
@@ -15,29 +15,32 @@ use Rattle.node_store.specs.Stored.{Holding, stand_of}
 use Rattle.node_store.specs.Worlds.{OpensAs, Opens}
 use Rattle.node_store.specs.declared.opening.fault.StoreOpenFault.{StoreOpenFault}
 use Rattle.node_store.specs.declared.opening.fault.StoreOpenFault.TheVariants as F
-use Rattle.session_core.specs.Stages.{Side}
+use Rattle.mail_conf.specs.Conf.{ConfText}
+use Rattle.session_auth.specs.Sides.{Side}
+use Rattle.session_core.specs.Stages.{home_of}
 use Rattle.session_run.specs.Reports.{ReportText}
-use Rattle.binkp_mailer.specs.Completeness.{IsDoneWhere}
+use Rattle.binkp_mailer.specs.Completeness.{IsDoneBehind}
+use Rattle.binkp_mailer.specs.Inbound.{Gives_behind}
 use Rattle.binkp_mailer.specs.Reports.{Prints}
+use Rattle.binkp_mailer.specs.Settings.{HasSettings, NoSettings, OnlyRead, settings_in}
 use Rattle.binkp_mailer.specs.Statuses as S
 use Rattle.binkp_mailer.specs.Statuses.{Status, status_unopened}
-use Rattle.binkp_mailer.specs.TopCall.{IsCall, StatusCause, OnceAfter, StaysTold, IfTells}
-use Rattle.binkp_mailer.specs.Words.{AreWords}
+use Rattle.binkp_mailer.specs.TopCall.{Given, IsCall, StatusCause, OnceAfter, StaysTold, IfTells}
+use Rattle.binkp_mailer.specs.Words.{AreWords, HaveForm}
 
 -- A call over a store that is there, with the cause of its status. What was received stays so, each sender and key once, at
 -- each stop too.
-pub record Serves (words : List (List ℕ)) (now : ℕ) (line : LineState) (store : StoreStand) (told : Option ReportText) (had : Status) (line' : LineState) (store' : StoreStand) : Type 0 where
-  pub call : IsCall words now line store told had line' store'
-  pub cause : StatusCause had line line' store.state.counts store'.state.counts
+pub record Serves (words : List (List ℕ)) (given : Given) (line : LineState) (store : StoreStand) (told : Option ReportText) (had : Status) (line' : LineState) (store' : StoreStand) : Type 0 where
+  pub call : IsCall words given line store told had line' store'
+  pub cause : StatusCause given.conf.session_limit had line line' store.state.counts store'.state.counts
   pub once : OnceAfter store.state.content store'.state.content
   pub stays : StaysTold store.state.content store'.state.content
   pub stop_once : IfTells store store' (λ old. HasOnce)
   pub stop_stays : IfTells store store' SettledStays
 
--- this has each receipt and each refusal of that, and two receipts of a sender and key only where that has
-pub record StillHas (old new : Durable) : Type 0 where
-  pub stays : SettledStays old new
-  pub once : HasOnce old → HasOnce new
+-- the words ask for nothing at that home, or there was no memory to read them
+abbrev pub IsNoCall : List (List ℕ) → ConfText → Status → Type 0
+IsNoCall words conf had = ((had ≡ S.Usage) × ((side : Side) → AreWords words (home_of conf.addresses) side → ⊥)) ⊎ (had ≡ S.NoMemory)
 
 -- an opening of this world finds that durable state
 abbrev pub OpensTo : Durable → World → Type 0
@@ -53,10 +56,11 @@ module _ {D : Type 0} (content : D → World) (moment : D → ℕ) (images : D �
       → OpensShelf (λ s. StillHas d s.state) e
 
 module _ {D : Type 0} (tells : Bool) (content : D → World) (faults : D → ℕ) where
-  -- What a status tells of the disk. The number of a DiskFault is a count to which its faults rose; LedgerBad and FileBad come
-  -- only where the world that it reads is refused so.
+  -- What a status tells of the disk. The number of a DiskFault is a count to which its faults rose; ConfBad, LedgerBad and
+  -- FileBad come only where the settings, or the world that it reads, are refused so.
   abbrev pub DiskCause : Status → D → D → Type 0
   DiskCause (S.DiskFault count) disk disk' = Increased (faults disk) count × CountGrew count (faults disk')
+  DiskCause (S.ConfBad fault) disk disk' = tells ≡ true → settings_in (content disk) ≡ Err fault
   DiskCause (S.LedgerBad place) disk disk' = tells ≡ true → IsBadLedger place (content disk)
   DiskCause (S.FileBad name) disk disk' = tells ≡ true → HasBadFile name (content disk)
   DiskCause status disk disk' = Unit {0}
@@ -77,18 +81,23 @@ module _ {D : Type 0} (tells : Bool) (content : D → World) (faults : D → ℕ
     pub stop : tells ≡ true → Leaves moment images Recovers disk disk'
     pub read : tells ≡ true → Recovers (content disk) (content disk')
 
-  -- Nothing was done, for the words or for want of memory; or no store was opened; or a call was made over the store of the
-  -- disk.
-  pub data Over_disk (words : List (List ℕ)) (now : ℕ) (line : LineState) (disk : D) (told : Option ReportText) (had : Status) (line' : LineState) (disk' : D) : Type 0 where
-    Not_asked : told ≡ None → (had ≡ S.Usage) ⊎ (had ≡ S.NoMemory) → line' ≡ line → disk' ≡ disk → Over_disk words now line disk told had line' disk'
-    Not_opened : (side : Side) (home : Address) → AreWords words side home → (fault : StoreOpenFault) → told ≡ None → had ≡ status_unopened fault (faults disk') → line' ≡ line → HasRefused fault disk disk' → Over_disk words now line disk told had line' disk'
-    Over_store : (opened left : Holding D) → HasOpened disk opened → Serves words now line (stand_of tells content faults moment images opened) told had line' (stand_of tells content faults moment images left) → disk' ≡ left.disk → Over_disk words now line disk told had line' disk'
+  -- The words have no form of a call, and nothing was done; or the settings weren't read, or ask for no session by these words,
+  -- and the disk was read only; or no store was opened; or a call was made over the store of the disk,
+  -- and then received files were given.
+  pub data Over_disk (words : List (List ℕ)) (challenge : List ℕ) (now : ℕ) (line : LineState) (disk : D) (told : Option ReportText) (had : Status) (line' : LineState) (disk' : D) : Type 0 where
+    Not_asked : told ≡ None → had ≡ S.Usage → (HaveForm words → ⊥) → line' ≡ line → disk' ≡ disk → Over_disk words challenge now line disk told had line' disk'
+    Not_set : told ≡ None → HaveForm words → NoSettings tells content faults moment images disk disk' had → OnlyRead tells content faults moment images disk disk' → line' ≡ line → Over_disk words challenge now line disk told had line' disk'
+    No_call : (conf : ConfText) → HasSettings tells content faults moment images disk conf → told ≡ None → IsNoCall words conf had → OnlyRead tells content faults moment images disk disk' → line' ≡ line → Over_disk words challenge now line disk told had line' disk'
+    Not_opened : (conf : ConfText) → HasSettings tells content faults moment images disk conf → (side : Side) → AreWords words (home_of conf.addresses) side → (fault : StoreOpenFault) → told ≡ None → had ≡ status_unopened fault (faults disk') → line' ≡ line → HasRefused fault disk disk' → Over_disk words challenge now line disk told had line' disk'
+    Over_store : (conf : ConfText) → HasSettings tells content faults moment images disk conf → (opened held left : Holding D) → HasOpened disk opened
+        → (was : Status) → Serves words (record { conf = conf; challenge = challenge; moment = now }) line (stand_of tells content faults moment images opened) told was line' (stand_of tells content faults moment images held)
+        → Gives_behind tells content faults moment images conf told was had held left → disk' ≡ left.disk → Over_disk words challenge now line disk told had line' disk'
 
   -- The whole call, and then what was printed of it: the session's report where one was held, and the status that it had.
-  -- It is Done where that session finished, and nowhere else.
-  pub record DiskCall (words : List (List ℕ)) (now : ℕ) (line : LineState) (disk : D) (out : SinkState) (status : Status) (line' : LineState) (disk' : D) (out' : SinkState) : Type 0 where
+  -- It is Done where that session finished and no disk failed behind it, and nowhere else.
+  pub record DiskCall (words : List (List ℕ)) (challenge : List ℕ) (now : ℕ) (line : LineState) (disk : D) (out : SinkState) (status : Status) (line' : LineState) (disk' : D) (out' : SinkState) : Type 0 where
     pub told : Option ReportText
     pub had : Status
-    pub call : Over_disk words now line disk told had line' disk'
+    pub call : Over_disk words challenge now line disk told had line' disk'
     pub prints : Prints told had status out out'
-    pub done : IsDoneWhere told status out out'
+    pub done : IsDoneBehind told status out out'

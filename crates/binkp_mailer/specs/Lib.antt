@@ -1,7 +1,11 @@
 pub mod Completeness
 pub mod DiskCall
+pub mod GiveSteps
+pub mod Inbound
+pub mod OneNode
 pub mod Programs
 pub mod Reports
+pub mod Settings
 pub mod Statuses
 pub mod TopCall
 pub mod Words

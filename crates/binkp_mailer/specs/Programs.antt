@@ -1,30 +1,26 @@
 -- The whole program (own).
 use Rattle.std.specs.Prelude.{◌≡◌, ◌↔◌, ℕ, Bool, true, List, None, IsSome}
 use Rattle.disk_model.specs.World.{World}
-use Rattle.ftn_addr.specs.Address.{Address}
 use Rattle.binkp_link.specs.Lines.{LineState, SinkState}
-use Rattle.session_core.specs.Stages.{Side}
 use Rattle.binkp_mailer.specs.declared.program.Ended.{Ended}
 use Rattle.binkp_mailer.specs.DiskCall.{DiskCall, DiskCause, KeepsReceipts}
 use Rattle.binkp_mailer.specs.Reports.{Prints}
 use Rattle.binkp_mailer.specs.Statuses.{Status, Usage, NoMemory, number_of_status}
 use Rattle.binkp_mailer.specs.TopCall.{OutCause}
-use Rattle.binkp_mailer.specs.Words.{AreWords}
 
 module _ {D : Type 0} (tells : Bool) (content : D → World) (faults : D → ℕ) (moment : D → ℕ) (images : D → ℕ → World → Type 0) where
-  -- one call over a disk: what it did and printed, that its words are no command where it says so, the causes of its status in
-  -- the disk and in the sink, and that what was received stays so
-  pub record CallsOver (words : List (List ℕ)) (now : ℕ) (line : LineState) (disk : D) (out : SinkState) (status : Status) (line' : LineState) (disk' : D) (out' : SinkState) : Type 0 where
-    pub call : DiskCall tells content faults moment images words now line disk out status line' disk' out'
-    pub usage : status ≡ Usage → (side : Side) (home : Address) → AreWords words side home → ⊥
+  -- one call over a disk: what it did and printed, the causes of its status in the disk and in the sink, and that what was
+  -- received stays so
+  pub record CallsOver (words : List (List ℕ)) (challenge : List ℕ) (now : ℕ) (line : LineState) (disk : D) (out : SinkState) (status : Status) (line' : LineState) (disk' : D) (out' : SinkState) : Type 0 where
+    pub call : DiskCall tells content faults moment images words challenge now line disk out status line' disk' out'
     pub cause : DiskCause tells content faults status disk disk'
     pub out_cause : OutCause status out out'
     pub stays : tells ≡ true → KeepsReceipts content moment images disk disk'
 
   -- the same, told by the exit status
-  abbrev pub IsProgramCall : List (List ℕ) → ℕ → LineState → D → SinkState → (exit : ℕ) → LineState → D → SinkState → Type 0
-  IsProgramCall words now line disk out exit line' disk' out' =
-      (status : Status) × CallsOver words now line disk out status line' disk' out' × (exit ≡ number_of_status status)
+  abbrev pub IsProgramCall : List (List ℕ) → List ℕ → ℕ → LineState → D → SinkState → (exit : ℕ) → LineState → D → SinkState → Type 0
+  IsProgramCall words challenge now line disk out exit line' disk' out' =
+      (status : Status) × CallsOver words challenge now line disk out status line' disk' out' × (exit ≡ number_of_status status)
 
 -- no memory was left for the words, and that is told
 abbrev pub HadNoWords : SinkState → (exit : ℕ) → SinkState → Type 0

@@ -9,7 +9,7 @@ use Rattle.session_core.specs.Ends as E
 use Rattle.session_run.specs.Reports.{ReportText, report_text}
 use Rattle.binkp_mailer.specs.declared.report.Outcome.{Outcome}
 use Rattle.binkp_mailer.specs.declared.report.Outcome.TheVariants as O
-use Rattle.binkp_mailer.specs.Statuses.{Status, Usage, OutFault, NoMemory, status_after, status_line, status_unopened}
+use Rattle.binkp_mailer.specs.Statuses.{Status, DiskFault, Usage, NotFound, OutFault, NoMemory, status_after, status_line, status_unopened, status_unset}
 
 -- the variant's name alone
 abbrev pub end_word : End → List ℕ
@@ -57,12 +57,23 @@ pub data Prints (report : Option ReportText) (status result : Status) (old new :
 abbrev pub told_of : Outcome → Option ReportText
 told_of O.Usage = None
 told_of O.NoMemory = None
+told_of O.NotFound = None
+told_of (O.Unset fault faults) = None
 told_of (O.Unopened fault faults) = None
 told_of (O.Held report) = Some (report_text report)
+told_of (O.Ungiven report faults) = Some (report_text report)
+
+-- it isn't that a received file couldn't be given
+abbrev pub NoneUngiven : Outcome → Type 0
+NoneUngiven (O.Ungiven report faults) = ⊥
+NoneUngiven outcome = Unit {0}
 
 -- the status that a call has, before its lines are put
 abbrev pub had_of : Outcome → Status
 had_of O.Usage = Usage
 had_of O.NoMemory = NoMemory
+had_of O.NotFound = NotFound
+had_of (O.Unset fault faults) = status_unset fault faults
 had_of (O.Unopened fault faults) = status_unopened fault faults
 had_of (O.Held report) = status_after (report_text report).end
+had_of (O.Ungiven report faults) = DiskFault faults

@@ -4,12 +4,17 @@ use Rattle.std.specs.Fmt.{decimal}
 use Rattle.binkp_args.specs.Escape.{escaped}
 use Rattle.binkp_args.specs.declared.fault.ArgFault.{ArgFault}
 use Rattle.binkp_args.specs.declared.fault.ArgFault.TheVariants as A
+use Rattle.mail_conf.specs.declared.cause.ConfCause.{ConfCause}
+use Rattle.mail_conf.specs.declared.cause.ConfCause.TheVariants as K
+use Rattle.mail_conf.specs.declared.cause.ConfFault.{ConfFault}
 use Rattle.session_core.specs.declared.ending.Cause.{Cause}
 use Rattle.session_core.specs.declared.ending.Cause.TheVariants as C
 use Rattle.session_core.specs.Ends.{End}
 use Rattle.session_core.specs.Ends as E
 use Rattle.node_store.specs.declared.opening.fault.StoreOpenFault.{StoreOpenFault}
 use Rattle.node_store.specs.declared.opening.fault.StoreOpenFault.TheVariants as F
+use Rattle.binkp_mailer.specs.declared.settings.SettingsFault.{SettingsFault}
+use Rattle.binkp_mailer.specs.declared.settings.SettingsFault.TheVariants as U
 use Rattle.binkp_mailer.specs.declared.status.Status.{Status as StatusCode}
 use Rattle.binkp_mailer.specs.declared.status.Status.TheVariants as V
 
@@ -17,6 +22,7 @@ use Rattle.binkp_mailer.specs.declared.status.Status.TheVariants as V
 pub data Status : Type 0 where
   Done : Status
   Usage : Status
+  ConfBad : (fault : ConfFault) → Status
   DiskFault : (count : ℕ) → Status
   LedgerBad : (place : ℕ) → Status
   LedgerFull : Status
@@ -28,6 +34,7 @@ pub data Status : Type 0 where
   BadPassword : Status
   Broke : (cause : Cause) (frame : ℕ) → Status
   Endless : Status
+  NotFound : Status
   OutFault : Status
   NoMemory : Status
   FileBad : (name : List ℕ) → Status
@@ -36,6 +43,7 @@ pub data Status : Type 0 where
 abbrev pub status_text : StatusCode → Status
 status_text V.Done = Done
 status_text V.Usage = Usage
+status_text (V.ConfBad fault) = ConfBad fault
 status_text (V.DiskFault count) = DiskFault count
 status_text (V.LedgerBad place) = LedgerBad place
 status_text V.LedgerFull = LedgerFull
@@ -47,6 +55,7 @@ status_text V.PeerBusy = PeerBusy
 status_text V.BadPassword = BadPassword
 status_text (V.Broke cause frame) = Broke cause frame
 status_text V.Endless = Endless
+status_text V.NotFound = NotFound
 status_text V.OutFault = OutFault
 status_text V.NoMemory = NoMemory
 status_text (V.FileBad name) = FileBad name
@@ -56,6 +65,7 @@ status_text V.TurnedAway = TurnedAway
 abbrev pub number_of_status : Status → ℕ
 number_of_status Done = 0
 number_of_status Usage = 1
+number_of_status (ConfBad fault) = 2
 number_of_status (DiskFault count) = 3
 number_of_status (LedgerBad place) = 4
 number_of_status LedgerFull = 5
@@ -67,6 +77,7 @@ number_of_status PeerBusy = 10
 number_of_status BadPassword = 11
 number_of_status (Broke cause frame) = 12
 number_of_status Endless = 13
+number_of_status NotFound = 15
 number_of_status OutFault = 16
 number_of_status NoMemory = 17
 number_of_status (FileBad name) = 18
@@ -95,9 +106,16 @@ status_unopened (F.LedgerBad place) faults = LedgerBad place
 status_unopened (F.FileBad name) faults = FileBad name
 status_unopened F.NoMemory faults = NoMemory
 
+-- the status of a command whose settings weren't read, where the disk's count of faults is that
+abbrev pub status_unset : SettingsFault → (faults : ℕ) → Status
+status_unset (U.Refused fault) faults = ConfBad fault
+status_unset U.Disk faults = DiskFault faults
+status_unset U.NoMemory faults = NoMemory
+
 abbrev pub status_word : Status → List ℕ
 status_word Done = codes "Done"
 status_word Usage = codes "Usage"
+status_word (ConfBad fault) = codes "ConfBad"
 status_word (DiskFault count) = codes "DiskFault"
 status_word (LedgerBad place) = codes "LedgerBad"
 status_word LedgerFull = codes "LedgerFull"
@@ -109,10 +127,23 @@ status_word PeerBusy = codes "PeerBusy"
 status_word BadPassword = codes "BadPassword"
 status_word (Broke cause frame) = codes "Broke"
 status_word Endless = codes "Endless"
+status_word NotFound = codes "NotFound"
 status_word OutFault = codes "OutFault"
 status_word NoMemory = codes "NoMemory"
 status_word (FileBad name) = codes "FileBad"
 status_word TurnedAway = codes "TurnedAway"
+
+-- the name of what is wrong with settings
+abbrev pub conf_word : ConfCause → List ℕ
+conf_word K.UnknownWord = codes "UnknownWord"
+conf_word K.MissingWord = codes "MissingWord"
+conf_word K.BadAddress = codes "BadAddress"
+conf_word K.BadNumber = codes "BadNumber"
+conf_word K.Twice = codes "Twice"
+conf_word K.NoAddress = codes "NoAddress"
+conf_word K.NoText = codes "NoText"
+conf_word K.TooLong = codes "TooLong"
+conf_word K.NoMemory = codes "NoMemory"
 
 abbrev pub fault_word : ArgFault → List ℕ
 fault_word (A.MissingWord n) = codes "MissingWord"
@@ -131,9 +162,10 @@ cause_word C.NotCalled = codes "NotCalled"
 cause_word C.Late = codes "Late"
 cause_word C.TooMuch = codes "TooMuch"
 
--- what follows the word, each behind a space: the count; the place; the name or the text, escaped; the cause and the frame's
--- number
+-- what follows the word, each behind a space: the line and the cause; the count; the place; the name or the text, escaped; the
+-- cause and the frame's number
 abbrev pub status_rest : Status → List ℕ
+status_rest (ConfBad fault) = 32 ∷ decimal fault.line ++ 32 ∷ conf_word fault.cause
 status_rest (DiskFault count) = 32 ∷ decimal count
 status_rest (LedgerBad place) = 32 ∷ decimal place
 status_rest (FileBad name) = 32 ∷ escaped name

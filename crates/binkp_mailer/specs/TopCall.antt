@@ -1,49 +1,64 @@
--- What the program's call does (own, after FTS-1026).
-use Rattle.std.specs.Prelude.{◌≡◌, ◌⊎◌, ℕ, ◌+◌, ◌-◌, ◌≤◌, ◌<◌, true, List, length, Option, Some, None}
-use Rattle.ftn_addr.specs.Address.{Address}
+-- What a call over a store does (own, after FTS-1026).
+use Rattle.std.specs.Prelude.{◌≡◌, ◌⊎◌, ℕ, ◌+◌, ◌-◌, ◌≤◌, ◌<◌, true, false, List, length, Option, Some, None}
 use Rattle.ftn_addr.specs.Counts.{Increased, CountGrew, next_count}
 use Rattle.node_model.specs.Calls.{Counts, DeskState}
 use Rattle.node_model.specs.Durable.{Durable}
 use Rattle.node_model.specs.Images.{RanAt}
-use Rattle.node_model.specs.Node.{plain_settings}
+use Rattle.node_model.specs.Node.{Settings}
 use Rattle.node_model.specs.Receipts.{HasOnce, SettledStays, HasAt}
 use Rattle.node_model.specs.Stores.{Shelf, Stored, StoreState, StoreStand, IfTold, OpensShelf}
 use Rattle.binkp_link.specs.Lines.{LineBytes, LineState, SinkState}
-use Rattle.session_core.specs.Stages.{Side, Setting}
+use Rattle.mail_conf.specs.Conf.{ConfText}
+use Rattle.session_auth.specs.Sides.{Side}
+use Rattle.session_core.specs.Stages.{Setting, setting_of, home_of}
 use Rattle.session_run.specs.Laws.{WholeRun}
 use Rattle.session_run.specs.Reports.{ReportText}
 use Rattle.hub_core.specs.Hubs.{HubState, Fitted, knows_over, hub_stand}
 use Rattle.hub_core.specs.Opening.{no_seats, with_seat}
 use Rattle.binkp_mailer.specs.Completeness.{IsDoneWhere}
 use Rattle.binkp_mailer.specs.Reports.{Prints}
+use Rattle.binkp_mailer.specs.Settings.{has_host, hub_settings}
 use Rattle.binkp_mailer.specs.Statuses as S
 use Rattle.binkp_mailer.specs.Statuses.{Status, status_after}
 use Rattle.binkp_mailer.specs.Words.{AreWords}
 
--- what a session is lent: its side, the own address, the moment, 16 TiB to take and write, and 4,096 bytes for a frame
-abbrev pub lent : Side → Address → ℕ → Setting
-lent side home moment = record { side = side; home = home; moment = moment; limit = 17592186044416; block = 4096 }
+-- what a call is lent: the settings, the challenge that it offers, and the moment
+pub record Given : Type 0 where
+  pub conf : ConfText
+  pub challenge : List ℕ
+  pub moment : ℕ
 
--- a hub that refuses nothing, with one seat
-abbrev pub new_hub : HubState
-new_hub = with_seat (no_seats plain_settings)
+-- what its session is lent
+abbrev pub lent : Side → Given → Setting
+lent side g = setting_of side g.conf g.challenge g.moment
+
+-- a hub of these settings, with one seat
+abbrev pub new_hub : ConfText → HubState
+new_hub conf = with_seat (no_seats (hub_settings conf))
 
 -- that seat, over a store
 abbrev pub first_seat : StoreState → HubState → DeskState
 first_seat store hub = record { seat = 0; knows = knows_over store.content store hub 0 }
 
 -- a whole session over the line, at the seat of a new hub over the store; it is told so, and the status is by its end
-pub record HeldSession (side : Side) (home : Address) (moment : ℕ) (line : LineState) (store : StoreState) (told : Option ReportText) (status : Status) (line' : LineState) (store' : StoreState) : Type 0 where
+pub record HeldSession (side : Side) (given : Given) (line : LineState) (store : StoreState) (told : Option ReportText) (status : Status) (line' : LineState) (store' : StoreState) : Type 0 where
   pub report : ReportText
   pub told_is : told ≡ Some report
   pub status_is : status ≡ status_after report.end
   pub hub : HubState
-  pub session : WholeRun true (lent side home moment) line (first_seat store new_hub) report line' (first_seat store' hub)
+  pub session : WholeRun true (lent side given) line (first_seat store (new_hub given.conf)) report line' (first_seat store' hub)
 
--- A session was held, where the words are those of a call; else nothing was done.
-pub data Answers_line (words : List (List ℕ)) (moment : ℕ) (line : LineState) (store : StoreState) (told : Option ReportText) (status : Status) (line' : LineState) (store' : StoreState) : Type 0 where
-  Turned_away : told ≡ None → (status ≡ S.Usage) ⊎ (status ≡ S.NoMemory) → line' ≡ line → store' ≡ store → Answers_line words moment line store told status line' store'
-  Held_one : (side : Side) (home : Address) → AreWords words side home → HeldSession side home moment line store told status line' store' → Answers_line words moment line store told status line' store'
+-- Why no session is held: the words ask for nothing, or to call a node of which the settings have no host, or there was no
+-- memory.
+pub data Declines (words : List (List ℕ)) (conf : ConfText) (had : Status) : Type 0 where
+  Asks_nothing : had ≡ S.Usage → ((side : Side) → AreWords words (home_of conf.addresses) side → ⊥) → Declines words conf had
+  Has_no_host : had ≡ S.NotFound → (side : Side) → AreWords words (home_of conf.addresses) side → has_host conf side ≡ false → Declines words conf had
+  Has_no_memory : had ≡ S.NoMemory → Declines words conf had
+
+-- A session was held, where the words ask for one, and not to call a node without a host; else nothing was done.
+pub data Answers_line (words : List (List ℕ)) (given : Given) (line : LineState) (store : StoreState) (told : Option ReportText) (status : Status) (line' : LineState) (store' : StoreState) : Type 0 where
+  Turned_away : told ≡ None → Declines words given.conf status → line' ≡ line → store' ≡ store → Answers_line words given line store told status line' store'
+  Held_one : (side : Side) → AreWords words (home_of given.conf.addresses) side → has_host given.conf side ≡ true → HeldSession side given line store told status line' store' → Answers_line words given line store told status line' store'
 
 -- What a stop may leave of a store that was only handed back: what it might have left before.
 pub record SameImages (store store' : StoreStand) : Type 0 where
@@ -51,18 +66,18 @@ pub record SameImages (store store' : StoreStand) : Type 0 where
   pub images : (k : ℕ) (e : Option Shelf) → store'.images k e → store.images k e
 
 -- What a stop may leave of a session's calls, and that each image has what was received when any call before it ended.
-pub record HeldImages (side : Side) (home : Address) (moment : ℕ) (line : LineState) (store : StoreStand) (told : Option ReportText) (status : Status) (line' : LineState) (store' : StoreStand) (held : HeldSession side home moment line store.state told status line' store'.state) : Type 0 where
-  pub ran : RanAt true (hub_stand store new_hub 0) held.session.last.events (hub_stand store' held.hub 0)
-  pub kept : (k : ℕ) (e : Shelf) → store.moment < k → k ≤ store'.moment → store'.images k (Some e) → HasAt true (first_seat store.state new_hub) held.session.last.events ran.last ran.chain ran.times k e.state
+pub record HeldImages (side : Side) (given : Given) (line : LineState) (store : StoreStand) (told : Option ReportText) (status : Status) (line' : LineState) (store' : StoreStand) (held : HeldSession side given line store.state told status line' store'.state) : Type 0 where
+  pub ran : RanAt true (hub_stand store (new_hub given.conf) 0) held.session.last.events (hub_stand store' held.hub 0)
+  pub kept : (k : ℕ) (e : Shelf) → store.moment < k → k ≤ store'.moment → store'.images k (Some e) → HasAt true (first_seat store.state (new_hub given.conf)) held.session.last.events ran.last ran.chain ran.times k e.state
 
-abbrev pub StopsOf : (words : List (List ℕ)) (moment : ℕ) (line : LineState) (store : StoreStand) (told : Option ReportText) (status : Status) (line' : LineState) (store' : StoreStand) → Answers_line words moment line store.state told status line' store'.state → Type 0
-StopsOf words moment line store told status line' store' (Turned_away none why line_is store_is) = SameImages store store'
-StopsOf words moment line store told status line' store' (Held_one side home are held) = HeldImages side home moment line store told status line' store' held
+abbrev pub StopsOf : (words : List (List ℕ)) (given : Given) (line : LineState) (store : StoreStand) (told : Option ReportText) (status : Status) (line' : LineState) (store' : StoreStand) → Answers_line words given line store.state told status line' store'.state → Type 0
+StopsOf words given line store told status line' store' (Turned_away none why line_is store_is) = SameImages store store'
+StopsOf words given line store told status line' store' (Held_one side are hosted held) = HeldImages side given line store told status line' store' held
 
 -- the whole call: what it did, and what a stop at each moment since may leave of it
-pub record IsCall (words : List (List ℕ)) (moment : ℕ) (line : LineState) (store : StoreStand) (told : Option ReportText) (status : Status) (line' : LineState) (store' : StoreStand) : Type 0 where
-  pub answers : Answers_line words moment line store.state told status line' store'.state
-  pub stops : StopsOf words moment line store told status line' store' answers
+pub record IsCall (words : List (List ℕ)) (given : Given) (line : LineState) (store : StoreStand) (told : Option ReportText) (status : Status) (line' : LineState) (store' : StoreStand) : Type 0 where
+  pub answers : Answers_line words given line store.state told status line' store'.state
+  pub stops : StopsOf words given line store told status line' store' answers
 
 -- a stop at any moment since leaves a durable state of which this holds
 abbrev pub EachStop : StoreStand → StoreStand → (Durable → Type 0) → Type 0
@@ -73,29 +88,29 @@ EachStop store store' P =
 abbrev pub IfTells : StoreStand → StoreStand → (Durable → Durable → Type 0) → Type 0
 IfTells store store' P = IfTold store.state.content (λ kept. EachStop store store' (P kept.stock.state))
 
--- the bytes taken from a line and sent on it reached 16 TiB, where it tells them
-abbrev pub ReachesLimit : Option LineBytes → Option LineBytes → Type 0
-ReachesLimit (Some old) (Some new) = 17592186044416 ≤ (length new.taken - length old.taken) + (length new.sent - length old.sent)
-ReachesLimit (Some old) None = Unit {0}
-ReachesLimit None new = Unit {0}
+-- the bytes taken from a line and sent on it reached the limit, where it tells them
+abbrev pub ReachesLimit : ℕ → Option LineBytes → Option LineBytes → Type 0
+ReachesLimit limit (Some old) (Some new) = limit ≤ (length new.taken - length old.taken) + (length new.sent - length old.sent)
+ReachesLimit limit (Some old) None = Unit {0}
+ReachesLimit limit None new = Unit {0}
 
--- What a status tells of the counts of line and store. The number of a DiskFault is a count to which the store's faults
+-- What a status tells of the counts of line and store, where that is the most that a session takes and writes. The number of a DiskFault is a count to which the store's faults
 -- rose. The line's count of ends rose exactly at Dropped, and at a DiskFault that came after.
-abbrev pub StatusCause : Status → (line line' : LineState) → (counts counts' : Counts) → Type 0
-StatusCause S.Dropped line line' counts counts' = line'.ends ≡ next_count line.ends
-StatusCause (S.DiskFault count) line line' counts counts' =
+abbrev pub StatusCause : (limit : ℕ) → Status → (line line' : LineState) → (counts counts' : Counts) → Type 0
+StatusCause limit S.Dropped line line' counts counts' = line'.ends ≡ next_count line.ends
+StatusCause limit (S.DiskFault count) line line' counts counts' =
     Increased counts.faults count × CountGrew count counts'.faults × ((line'.ends ≡ line.ends) ⊎ (line'.ends ≡ next_count line.ends))
-StatusCause S.LedgerFull line line' counts counts' = Increased counts.fulls counts'.fulls × (line'.ends ≡ line.ends)
-StatusCause S.LineFault line line' counts counts' = Increased line.faults line'.faults × (line'.ends ≡ line.ends)
-StatusCause S.Quiet line line' counts counts' = (60 ≤ line'.calm) × (line'.ends ≡ line.ends)
-StatusCause S.Endless line line' counts counts' = ReachesLimit line.bytes line'.bytes × (line'.ends ≡ line.ends)
-StatusCause status line line' counts counts' = line'.ends ≡ line.ends
+StatusCause limit S.LedgerFull line line' counts counts' = Increased counts.fulls counts'.fulls × (line'.ends ≡ line.ends)
+StatusCause limit S.LineFault line line' counts counts' = Increased line.faults line'.faults × (line'.ends ≡ line.ends)
+StatusCause limit S.Quiet line line' counts counts' = (60 ≤ line'.calm) × (line'.ends ≡ line.ends)
+StatusCause limit S.Endless line line' counts counts' = ReachesLimit limit line.bytes line'.bytes × (line'.ends ≡ line.ends)
+StatusCause limit status line line' counts counts' = line'.ends ≡ line.ends
 
 -- the same of a status that want of memory for the lines, or a put that fails, may have turned into NoMemory or OutFault
-abbrev pub TurnedCause : Status → (line line' : LineState) → (counts counts' : Counts) → Type 0
-TurnedCause S.NoMemory line line' counts counts' = Unit {0}
-TurnedCause S.OutFault line line' counts counts' = Unit {0}
-TurnedCause status line line' counts counts' = StatusCause status line line' counts counts'
+abbrev pub TurnedCause : (limit : ℕ) → Status → (line line' : LineState) → (counts counts' : Counts) → Type 0
+TurnedCause limit S.NoMemory line line' counts counts' = Unit {0}
+TurnedCause limit S.OutFault line line' counts counts' = Unit {0}
+TurnedCause limit status line line' counts counts' = StatusCause limit status line line' counts counts'
 
 -- A put failed exactly at OutFault.
 abbrev pub OutCause : Status → SinkState → SinkState → Type 0
@@ -104,11 +119,11 @@ OutCause status out out' = out'.faults ≡ out.faults
 
 -- The whole call, and then what was printed of it: the session's report where one was held, and the status that it had.
 -- It is Done where that session finished, and nowhere else.
-pub record TopCall (words : List (List ℕ)) (moment : ℕ) (line : LineState) (store : StoreStand) (out : SinkState) (status : Status) (line' : LineState) (store' : StoreStand) (out' : SinkState) : Type 0 where
+pub record TopCall (words : List (List ℕ)) (given : Given) (line : LineState) (store : StoreStand) (out : SinkState) (status : Status) (line' : LineState) (store' : StoreStand) (out' : SinkState) : Type 0 where
   pub told : Option ReportText
   pub had : Status
-  pub call : IsCall words moment line store told had line' store'
-  pub cause : StatusCause had line line' store.state.counts store'.state.counts
+  pub call : IsCall words given line store told had line' store'
+  pub cause : StatusCause given.conf.session_limit had line line' store.state.counts store'.state.counts
   pub prints : Prints told had status out out'
   pub done : IsDoneWhere told status out out'
 
@@ -130,9 +145,9 @@ StaysTold (Some old) (Some new) = SettledStays old.stock.state new.stock.state
 -- a store that isn't broken and fits a new hub: what a call asks of it
 pub record MayServe (store : StoreState) : Type 0 where
   pub whole : store.counts.broken ≡ None
-  pub fits : Fitted store (no_seats plain_settings)
+  pub fits : (settings : Settings) → Fitted store (no_seats settings)
 
 -- calls of the program over one store, one after another: each begins with what the one before it left
 pub data Calls_in_turn (store : StoreState) : StoreState → Type 0 where
   none_yet : Calls_in_turn store store
-  one_more : {old new : StoreState} → Calls_in_turn store old → MayServe old → (words : List (List ℕ)) (moment : ℕ) (told : Option ReportText) (status : Status) (line line' : LineState) → Answers_line words moment line old told status line' new → Calls_in_turn store new
+  one_more : {old new : StoreState} → Calls_in_turn store old → MayServe old → (words : List (List ℕ)) (given : Given) (told : Option ReportText) (status : Status) (line line' : LineState) → Answers_line words given line old told status line' new → Calls_in_turn store new

@@ -1,30 +1,28 @@
 -- The words that the program is given (own).
-use Rattle.std.specs.Prelude.{◌≡◌, ℕ, List, [], ◌∷◌, codes, map}
+use Rattle.std.specs.Prelude.{◌≡◌, ℕ, List, [], ◌∷◌, codes, map, Ok}
 use Rattle.ftn_addr.specs.Address.{Address}
 use Rattle.ftn_addr.specs.Content.{Content}
-use Rattle.ftn_addr.specs.Limits.{IsAddress}
-use Rattle.ftn_addr.specs.Writing.{canonical}
-use Rattle.session_core.specs.Stages.{Side, Answers, Calls}
+use Rattle.ftn_addr.specs.Reading.{reading}
+use Rattle.session_auth.specs.Sides.{Side, Answers, Calls}
 
 abbrev pub texts : List Content → List (List ℕ)
 texts words = map (λ word. word.list) words
 
--- `answer`, and the canonical text of the own address
-pub record AsksAnswer (words : List (List ℕ)) (home : Address) : Type 0 where
-  pub limits : IsAddress home
-  pub are : words ≡ codes "answer" ∷ canonical home ∷ []
+-- the forms of a call: `answer`, and `call` with one word behind
+pub data HaveForm (words : List (List ℕ)) : Type 0 where
+  form_of_answer : words ≡ codes "answer" ∷ [] → HaveForm words
+  form_of_call : (text : List ℕ) → words ≡ codes "call" ∷ text ∷ [] → HaveForm words
 
--- `call`, and the canonical texts of the address that is called and of the own one
-pub record AsksCall (words : List (List ℕ)) (peer home : Address) : Type 0 where
-  pub peer_limits : IsAddress peer
-  pub limits : IsAddress home
-  pub are : words ≡ codes "call" ∷ canonical peer ∷ canonical home ∷ []
+-- a text spells the address of a node in the home's domain
+pub record Spells (home : Address) (text : List ℕ) (peer : Address) : Type 0 where
+  pub read : reading text home ≡ Ok peer
+  pub domain : peer.domain ≡ home.domain
 
--- what the words ask for: at which side of a line, and under which own address
-pub data AreWords (words : List (List ℕ)) (side : Side) (home : Address) : Type 0 where
-  to_answer : side ≡ Answers → AsksAnswer words home → AreWords words side home
-  to_call : (peer : Address) → side ≡ Calls peer → AsksCall words peer home → AreWords words side home
+-- what the words ask for at a node with that home: at which side of a line
+pub data AreWords (words : List (List ℕ)) (home : Address) (side : Side) : Type 0 where
+  to_answer : side ≡ Answers → words ≡ codes "answer" ∷ [] → AreWords words home side
+  to_call : (text : List ℕ) (peer : Address) → side ≡ Calls peer → words ≡ codes "call" ∷ text ∷ [] → Spells home text peer → AreWords words home side
 
 -- some words ask for this
-abbrev pub IsAsked : Side → Address → Type 0
-IsAsked side home = (words : List (List ℕ)) × AreWords words side home
+abbrev pub IsAsked : Address → Side → Type 0
+IsAsked home side = (words : List (List ℕ)) × AreWords words home side

@@ -2,48 +2,52 @@
 ghost use Rattle.std.specs.Prelude.{◌≡◌, false, true};
 ghost use Rattle.disk_model.specs.Changes.{Every};
 ghost use Rattle.disk_model.specs.Moments.{Now};
-ghost use Rattle.ftn_addr.specs.Address.{Address};
+ghost use Rattle.mail_conf.specs.ConfView.{conf_text};
+ghost use Rattle.mail_conf.specs.Limits.{KeepsLimits};
 ghost use Rattle.node_store.specs.Opening.{IsReady};
-ghost use Rattle.session_core.specs.Stages.{Side};
 ghost use Rattle.binkp_mailer.specs.DiskCall.{DiskCall, DiskCause, KeepsReceipts, Over_disk};
 ghost use Rattle.binkp_mailer.specs.Reports.{had_of, told_of};
-ghost use Rattle.binkp_mailer.specs.Statuses.{Usage, status_text};
+ghost use Rattle.binkp_mailer.specs.Settings.{HasSettings};
+ghost use Rattle.binkp_mailer.specs.Statuses.{status_text};
 ghost use Rattle.binkp_mailer.specs.TopCall.{OutCause};
-ghost use Rattle.binkp_mailer.specs.Words.{AreWords, texts};
-ghost use Rattle.binkp_mailer.specs.declared.report.Outcome.TheVariants as O;
+ghost use Rattle.binkp_mailer.specs.Words.{HaveForm, texts};
 
-use crate::{Outcome, Status, WordsFault, hold_session, print, read_words};
+use crate::{
+    Outcome, Status, WordsFault, give_behind, have_form, hold_session, print, read_settings,
+    read_words,
+};
 use binkp_link::{Line, Sink};
 use disk_model::{Disk, Yard};
 use ftn_addr::Bytes;
+use mail_conf::{Conf, what_is_read_keeps_limits};
 use node_store::NodeStore;
+use session_core::home_of;
 use std::alloc::Global;
 
-/// Opens the store of a disk and holds one session over the line, where the words are a call, prints what came of it, and gives
-/// the disk back: it answers the caller where they are `answer` and the own address, and is the caller where they are `call`,
-/// the called address and the own one. The line was not used yet; a session closes it at its end.
+/// Reads the settings of a disk, opens its store and holds one session over the line, where the words are a call, prints what
+/// came of it, and gives the disk back: it answers the caller where they are `answer`, and is the caller where they are `call`
+/// and the called address. The line was not used yet; a session closes it at its end. A caller is offered the challenge.
 ///
-/// What is received stays received, at each stop since the call began too. What came of a file that isn't whole is marked on the
-/// disk, and the next call takes it from there. Nothing is random yet: `random` is for later.
+/// What is received stays received, at each stop since the call began too, and behind the session it is given to the inbound
+/// folders of the settings. What came of a file that isn't whole is marked on the disk, and the next call takes it from there.
 pub fn run_line<D: Yard, L: Line, O: Sink>(
     alloc: Global,
     words: &[Bytes],
     disk: D,
     line: &mut L,
     now: u64,
-    _random: [u8; 16],
+    random: [u8; 16],
     out: &mut O,
 ) -> (Status, D)
     requires ready { D.tells ≡ true → Every (Now D.moment D.images disk) (IsReady (D.content disk)) }
     requires calm { (L.state line.old).calm ≡ 0 }
     requires open { (L.state line.old).closed ≡ false }
-    ensures usage { status_text result.0 ≡ Usage → (side : Side) (home : Address) → AreWords (texts words.now) side home → ⊥ }
-    ensures call { DiskCall D.tells D.content D.fault_count D.moment D.images (texts words.now) now (L.state line.old) disk (O.state out.old) (status_text result.0) (L.state line.new) result.1 (O.state out.new) }
+    ensures call { DiskCall D.tells D.content D.fault_count D.moment D.images (texts words.now) random now (L.state line.old) disk (O.state out.old) (status_text result.0) (L.state line.new) result.1 (O.state out.new) }
     ensures cause { DiskCause D.tells D.content D.fault_count (status_text result.0) disk result.1 }
     ensures out_cause { OutCause (status_text result.0) (O.state out.old) (O.state out.new) }
     ensures stays { D.tells ≡ true → KeepsReceipts D.content D.moment D.images disk result.1 }
 {
-    let (outcome, disk) = serve_disk(alloc, words, disk, line, now);
+    let (outcome, disk) = serve_disk(alloc, words, disk, line, now, random);
     (print(alloc, outcome, out), disk)
 }
 
@@ -54,19 +58,54 @@ fn serve_disk<D: Yard, L: Line>(
     disk: D,
     line: &mut L,
     now: u64,
+    random: [u8; 16],
 ) -> (Outcome, D)
     requires ready { D.tells ≡ true → Every (Now D.moment D.images disk) (IsReady (D.content disk)) }
     requires calm { (L.state line.old).calm ≡ 0 }
     requires open { (L.state line.old).closed ≡ false }
-    ensures usage { result.0 ≡ O.Usage → (side : Side) (home : Address) → AreWords (texts words.now) side home → ⊥ }
-    ensures call { Over_disk D.tells D.content D.fault_count D.moment D.images (texts words.now) now (L.state line.old) disk (told_of result.0) (had_of result.0) (L.state line.new) result.1 }
+    ensures { Over_disk D.tells D.content D.fault_count D.moment D.images (texts words.now) random now (L.state line.old) disk (told_of result.0) (had_of result.0) (L.state line.new) result.1 }
 {
-    let asked = match read_words(alloc, words) {
-        Ok(asked) => asked,
+    if !have_form(words) {
+        return (Outcome::Usage, disk);
+    }
+    let mut disk = disk;
+    match read_settings(alloc, &mut disk) {
+        Ok(conf) => {
+            what_is_read_keeps_limits();
+            serve_by(alloc, words, &conf, disk, line, now, random)
+        }
+        Err(fault) => {
+            let faults = disk.faults();
+            (Outcome::Unset(fault, faults), disk)
+        }
+    }
+}
+
+// The call by the settings of the disk.
+fn serve_by<D: Yard, L: Line>(
+    alloc: Global,
+    words: &[Bytes],
+    conf: &Conf,
+    disk: D,
+    line: &mut L,
+    now: u64,
+    random: [u8; 16],
+) -> (Outcome, D)
+    requires settings { HasSettings D.tells D.content D.fault_count D.moment D.images disk (conf_text conf.now) }
+    requires keeps { KeepsLimits (conf_text conf.now) }
+    requires form { HaveForm (texts words.now) }
+    requires ready { D.tells ≡ true → Every (Now D.moment D.images disk) (IsReady (D.content disk)) }
+    requires calm { (L.state line.old).calm ≡ 0 }
+    requires open { (L.state line.old).closed ≡ false }
+    ensures { Over_disk D.tells D.content D.fault_count D.moment D.images (texts words.now) random now (L.state line.old) disk (told_of result.0) (had_of result.0) (L.state line.new) result.1 }
+{
+    let home = home_of(conf);
+    let side = match read_words(alloc, words, home) {
+        Ok(side) => side,
         Err(WordsFault::Usage) => return (Outcome::Usage, disk),
         Err(WordsFault::NoMemory) => return (Outcome::NoMemory, disk),
     };
-    let store = match NodeStore::open(alloc, disk, &asked.home) {
+    let store = match NodeStore::open(alloc, disk, home) {
         Ok((store, _recovery)) => store,
         Err((disk, fault)) => {
             let faults = disk.faults();
@@ -75,6 +114,7 @@ fn serve_disk<D: Yard, L: Line>(
     };
     store.opens_as_told();
     store.opens_soundly();
-    let (outcome, store) = hold_session(alloc, asked, store, line, now);
+    let (outcome, store) = hold_session(alloc, side, conf, random, store, line, now);
+    let (outcome, store) = give_behind(alloc, conf, outcome, store);
     (outcome, store.into_disk())
 }

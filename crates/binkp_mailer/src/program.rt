@@ -27,9 +27,10 @@ pub fn explanation(status: &Status) -> Option<&'static str>
 {
     match status {
         Status::Usage => Some(
-            "binkp: the words are `DIR answer HOME` or `DIR call PEER HOME`, as in `. call 2:5047/13@fidonet 2:5020/1042@fidonet`",
+            "binkp: the words are `DIR answer` or `DIR call ADDR`, as in `. call 2:5047/13`; DIR has the settings, `binkp.conf`",
         ),
         Status::Done
+        | Status::ConfBad(_)
         | Status::DiskFault(_)
         | Status::LedgerBad(_)
         | Status::LedgerFull
@@ -41,6 +42,7 @@ pub fn explanation(status: &Status) -> Option<&'static str>
         | Status::BadPassword
         | Status::Broke(_, _)
         | Status::Endless
+        | Status::NotFound
         | Status::OutFault
         | Status::TurnedAway
         | Status::NoMemory
@@ -66,15 +68,16 @@ pub fn run_program<D: Yard, L: Line, O: Sink>(
     disk: D,
     line: &mut L,
     now: u64,
+    random: [u8; 16],
     out: &mut O,
 ) -> (Ended, D)
     requires ready { D.tells ≡ true → Every (Now D.moment D.images disk) (IsReady (D.content disk)) }
     requires calm { (L.state line.old).calm ≡ 0 }
     requires open { (L.state line.old).closed ≡ false }
-    ensures call { IsProgramCall D.tells D.content D.fault_count D.moment D.images (texts words.now) now (L.state line.old) disk (O.state out.old) result.0.exit (L.state line.new) result.1 (O.state out.new) }
+    ensures call { IsProgramCall D.tells D.content D.fault_count D.moment D.images (texts words.now) random now (L.state line.old) disk (O.state out.old) result.0.exit (L.state line.new) result.1 (O.state out.new) }
     ensures told { EndsByStatus result.0 }
 {
-    let (status, disk) = run_line(alloc, words, disk, line, now, [0; 16], out);
+    let (status, disk) = run_line(alloc, words, disk, line, now, random, out);
     (end_of(&status), disk)
 }
 

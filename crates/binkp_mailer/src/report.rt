@@ -7,7 +7,8 @@ ghost use Rattle.session_run.specs.Reports.{report_text};
 ghost use Rattle.binkp_mailer.specs.Reports.{Prints, Puts_lines, end_word, had_of, lines_told, peer_word, session_line, told_of};
 ghost use Rattle.binkp_mailer.specs.Statuses.{Status as AnyStatus, status_line, status_text};
 
-use crate::status::{Status, push_status, status_of, status_unopened};
+use crate::settings::SettingsFault;
+use crate::status::{Status, push_status, status_of, status_unopened, status_unset};
 use binkp_link::Sink;
 use ftn_addr::{Addr, Bytes, NoMemory, write_addr};
 use node_store::StoreOpenFault;
@@ -79,10 +80,16 @@ pub enum Outcome {
     Usage,
     /// There was no memory before a session began.
     NoMemory,
+    /// The settings have no host for the node that is called.
+    NotFound,
+    /// The settings weren't read, and that is the disk's count of faults.
+    Unset(SettingsFault, u64),
     /// The store wasn't opened, and that is its disk's count of faults.
     Unopened(StoreOpenFault, u64),
     /// A session was held.
     Held(Report),
+    /// A session was held, and behind it a received file couldn't be given: the disk failed, and that is its count of faults.
+    Ungiven(Report, u64),
 }
 
 /// The line of the session, where one was held.
@@ -93,8 +100,12 @@ fn session_lines(alloc: Global, outcome: &Outcome) -> Result<Bytes, NoMemory>
     match outcome {
         Outcome::Usage => {}
         Outcome::NoMemory => {}
+        Outcome::NotFound => {}
+        Outcome::Unset(_, _) => {}
         Outcome::Unopened(_, _) => {}
-        Outcome::Held(report) => push_session(alloc, report, &mut lines)?,
+        Outcome::Held(report) | Outcome::Ungiven(report, _) => {
+            push_session(alloc, report, &mut lines)?
+        }
     }
     Ok(lines)
 }
@@ -106,8 +117,11 @@ fn had(outcome: Outcome) -> Status
     match outcome {
         Outcome::Usage => Status::Usage,
         Outcome::NoMemory => Status::NoMemory,
+        Outcome::NotFound => Status::NotFound,
+        Outcome::Unset(fault, faults) => status_unset(fault, faults),
         Outcome::Unopened(fault, faults) => status_unopened(fault, faults),
         Outcome::Held(report) => status_of(report.end),
+        Outcome::Ungiven(_, faults) => Status::DiskFault(faults),
     }
 }
 

@@ -1,11 +1,13 @@
 //! How the program ends.
 ghost use Rattle.std.specs.Prelude.{◌≡◌, ◌++◌, OnOk};
 ghost use Rattle.session_core.specs.Ends.{end_text};
-ghost use Rattle.binkp_mailer.specs.Statuses.{cause_word, fault_word, is_told, number_of_status, status_after, status_line, status_rest, status_text, status_unopened, status_word};
+ghost use Rattle.binkp_mailer.specs.Statuses.{cause_word, conf_word, fault_word, is_told, number_of_status, status_after, status_line, status_rest, status_text, status_unopened, status_unset, status_word};
 
+use crate::SettingsFault;
 use binkp_args::{ArgFault, escape};
 use disk_model::Name;
 use ftn_addr::{Bytes, NoMemory};
+use mail_conf::{ConfCause, ConfFault};
 use node_store::StoreOpenFault;
 use session_core::{Cause, End};
 use std::alloc::Global;
@@ -17,6 +19,8 @@ pub enum Status {
     Done,
     /// The words are no command.
     Usage,
+    /// The settings are refused.
+    ConfBad(ConfFault),
     /// The disk failed, and the store is broken with that count of faults, or wasn't opened.
     DiskFault(u64),
     /// The ledger can't be read from that place on, in bytes.
@@ -38,6 +42,8 @@ pub enum Status {
     Broke(Cause, u64),
     /// The bytes taken and written reached the limit.
     Endless,
+    /// The node that is called has no host.
+    NotFound,
     /// What was to be printed couldn't be put.
     OutFault,
     NoMemory,
@@ -55,6 +61,7 @@ impl Status {
         match self {
             Status::Done => 0,
             Status::Usage => 1,
+            Status::ConfBad(_) => 2,
             Status::DiskFault(_) => 3,
             Status::LedgerBad(_) => 4,
             Status::LedgerFull => 5,
@@ -66,6 +73,7 @@ impl Status {
             Status::BadPassword => 11,
             Status::Broke(_, _) => 12,
             Status::Endless => 13,
+            Status::NotFound => 15,
             Status::OutFault => 16,
             Status::NoMemory => 17,
             Status::FileBad(_) => 18,
@@ -87,6 +95,7 @@ impl Status {
         match self {
             Status::Done => b"Done",
             Status::Usage => b"Usage",
+            Status::ConfBad(_) => b"ConfBad",
             Status::DiskFault(_) => b"DiskFault",
             Status::LedgerBad(_) => b"LedgerBad",
             Status::LedgerFull => b"LedgerFull",
@@ -98,6 +107,7 @@ impl Status {
             Status::BadPassword => b"BadPassword",
             Status::Broke(_, _) => b"Broke",
             Status::Endless => b"Endless",
+            Status::NotFound => b"NotFound",
             Status::OutFault => b"OutFault",
             Status::NoMemory => b"NoMemory",
             Status::FileBad(_) => b"FileBad",
@@ -139,6 +149,34 @@ pub fn status_unopened(fault: StoreOpenFault, faults: u64) -> Status
     }
 }
 
+/// The status of a command whose settings weren't read, where the disk's count of faults is that.
+pub fn status_unset(fault: SettingsFault, faults: u64) -> Status
+    ensures { status_text result ≡ status_unset fault faults }
+{
+    match fault {
+        SettingsFault::Refused(fault) => Status::ConfBad(fault),
+        SettingsFault::Disk => Status::DiskFault(faults),
+        SettingsFault::NoMemory => Status::NoMemory,
+    }
+}
+
+/// The name of what was wrong with settings.
+fn conf_word(cause: ConfCause) -> &'static [u8]
+    ensures { result.now ≡ conf_word cause }
+{
+    match cause {
+        ConfCause::UnknownWord => b"UnknownWord",
+        ConfCause::MissingWord => b"MissingWord",
+        ConfCause::BadAddress => b"BadAddress",
+        ConfCause::BadNumber => b"BadNumber",
+        ConfCause::Twice => b"Twice",
+        ConfCause::NoAddress => b"NoAddress",
+        ConfCause::NoText => b"NoText",
+        ConfCause::TooLong => b"TooLong",
+        ConfCause::NoMemory => b"NoMemory",
+    }
+}
+
 /// The name of what was wrong with an argument.
 fn fault_word(fault: ArgFault) -> &'static [u8]
     ensures { result.now ≡ fault_word fault }
@@ -172,6 +210,12 @@ fn push_rest(alloc: Global, status: &Status, line: &mut Bytes) -> Result<(), NoM
     ensures { OnOk result (line.new.list ≡ line.old.list ++ status_rest (status_text status.now)) }
 {
     match status {
+        Status::ConfBad(fault) => {
+            line.push_slice(b" ")?;
+            line.push_number(alloc, u64::from(fault.line))?;
+            line.push_slice(b" ")?;
+            line.push_slice(conf_word(fault.cause))
+        }
         Status::DiskFault(count) => {
             line.push_slice(b" ")?;
             line.push_number(alloc, *count)
@@ -203,6 +247,7 @@ fn push_rest(alloc: Global, status: &Status, line: &mut Bytes) -> Result<(), NoM
         | Status::PeerBusy
         | Status::BadPassword
         | Status::Endless
+        | Status::NotFound
         | Status::OutFault
         | Status::NoMemory
         | Status::TurnedAway => Ok(()),
@@ -235,7 +280,7 @@ mod tests {
         let alloc = rt.alloc();
         let name = Name::new(b"in.00000001").expect(&rt, "a name");
         let text = Bytes::from_slice(alloc, b"no mail, \\go")?;
-        let cases: [(Status, u8, &[u8]); 17] = [
+        let cases: [(Status, u8, &[u8]); 18] = [
             (Status::Done, 0, b""),
             (Status::Usage, 1, b"status 1 Usage\n"),
             (Status::DiskFault(9), 3, b"status 3 DiskFault 9\n"),
@@ -257,6 +302,7 @@ mod tests {
             (Status::PeerBusy, 10, b"status 10 PeerBusy\n"),
             (Status::BadPassword, 11, b"status 11 BadPassword\n"),
             (Status::Endless, 13, b"status 13 Endless\n"),
+            (Status::NotFound, 15, b"status 15 NotFound\n"),
             (Status::OutFault, 16, b""),
             (Status::NoMemory, 17, b"status 17 NoMemory\n"),
             (
@@ -294,6 +340,35 @@ mod tests {
         ];
         for (cause, wanted) in &cases {
             let status = status_of(End::Broke(*cause, 7));
+            let mut line = Bytes::new(alloc);
+            push_status(alloc, &status, &mut line)?;
+            assert_eq!(rt; line.as_slice(), *wanted);
+        }
+        Ok(())
+    }
+
+    // The names stand in docs/settings.md.
+    #[test]
+    fn refused_settings_are_told_by_line_and_cause(rt: HostRuntime) -> Result<(), Fail> {
+        let alloc = rt.alloc();
+        let cases: [(ConfCause, &[u8]); 9] = [
+            (ConfCause::UnknownWord, b"status 2 ConfBad 12 UnknownWord\n"),
+            (ConfCause::MissingWord, b"status 2 ConfBad 12 MissingWord\n"),
+            (ConfCause::BadAddress, b"status 2 ConfBad 12 BadAddress\n"),
+            (ConfCause::BadNumber, b"status 2 ConfBad 12 BadNumber\n"),
+            (ConfCause::Twice, b"status 2 ConfBad 12 Twice\n"),
+            (ConfCause::NoAddress, b"status 2 ConfBad 12 NoAddress\n"),
+            (ConfCause::NoText, b"status 2 ConfBad 12 NoText\n"),
+            (ConfCause::TooLong, b"status 2 ConfBad 12 TooLong\n"),
+            (ConfCause::NoMemory, b"status 2 ConfBad 12 NoMemory\n"),
+        ];
+        for (cause, wanted) in &cases {
+            let fault = ConfFault {
+                line: 12,
+                cause: *cause,
+            };
+            let status = Status::ConfBad(fault);
+            assert_eq!(rt; status.number(), 2);
             let mut line = Bytes::new(alloc);
             push_status(alloc, &status, &mut line)?;
             assert_eq!(rt; line.as_slice(), *wanted);

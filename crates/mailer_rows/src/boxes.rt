@@ -12,11 +12,11 @@ use mem_disk::MemDisk;
 use std::alloc::Global;
 use std::test::Fail;
 
-/// The words `answer` and the own address.
-fn words(alloc: Global) -> Result<Vec<Bytes>, NoMemory> {
+fn words_of(alloc: Global, texts: &[&[u8]]) -> Result<Vec<Bytes>, NoMemory> {
     let mut words = Vec::new(alloc);
-    words.push(Bytes::from_slice(alloc, b"answer")?)?;
-    words.push(Bytes::from_slice(alloc, b"2:5020/1042@fidonet")?)?;
+    for text in texts {
+        words.push(Bytes::from_slice(alloc, text)?)?;
+    }
     Ok(words)
 }
 
@@ -49,16 +49,18 @@ fn slow_line(alloc: Global, pieces: &[&[u8]]) -> Result<MemLine, NoMemory>
     Ok(MemLine::new(alloc, reads, Vec::new(alloc)))
 }
 
-/// Answers a caller that says these bytes, over a disk at rest: the status, what the caller heard, and the disk.
+/// Makes the call of these words over a disk at rest, with a peer that says these bytes: the status, what the peer heard, and the
+/// disk. The challenge is of zeros.
 #[tactic(auto, using(crate::proofs::Ready::rests_ready))]
-pub fn answer(
+pub fn call_by(
     alloc: Global,
     disk: MemDisk,
+    texts: &[&[u8]],
     said: &[u8],
 ) -> Result<(Status, Bytes, MemDisk), NoMemory>
     requires { AtRest mem_files mem_moment mem_images disk }
 {
-    let words = words(alloc)?;
+    let words = words_of(alloc, texts)?;
     let mut line = line_of(alloc, said)?;
     let mut out = MemSink::new(alloc, Vec::new(alloc));
     let (status, disk) = run_line(
@@ -74,7 +76,18 @@ pub fn answer(
     Ok((status, heard, disk))
 }
 
-/// The same of a caller that says these pieces one after another, and reads for some turns between them.
+/// Answers a caller that says these bytes, over a disk at rest: the status, what the caller heard, and the disk.
+pub fn answer(
+    alloc: Global,
+    disk: MemDisk,
+    said: &[u8],
+) -> Result<(Status, Bytes, MemDisk), NoMemory>
+    requires { AtRest mem_files mem_moment mem_images disk }
+{
+    call_by(alloc, disk, &[b"answer"], said)
+}
+
+/// Answers a caller that says these pieces one after another, and reads for some turns between them.
 #[tactic(auto, using(crate::proofs::Ready::rests_ready))]
 pub fn answer_slowly(
     alloc: Global,
@@ -83,7 +96,7 @@ pub fn answer_slowly(
 ) -> Result<(Status, Bytes, MemDisk), NoMemory>
     requires { AtRest mem_files mem_moment mem_images disk }
 {
-    let words = words(alloc)?;
+    let words = words_of(alloc, &[b"answer"])?;
     let mut line = slow_line(alloc, pieces)?;
     let mut out = MemSink::new(alloc, Vec::new(alloc));
     let (status, disk) = run_line(

@@ -1,4 +1,4 @@
-//! Received files that are given, and sources that are acted on, over a disk in memory.
+//! Files of other programs, and sources that are acted on, over a disk in memory.
 ghost use Rattle.std.specs.Prelude.{◌≡◌, ◌≤◌, length, IfOk, IfSome};
 ghost use Rattle.disk_model.specs.Moments.{AtRest};
 ghost use Rattle.ftn_addr.specs.Address.{address};
@@ -6,11 +6,11 @@ ghost use Rattle.ftn_addr.specs.Limits.{IsAddress};
 ghost use Rattle.mem_disk.specs.MemoryDisk.{mem_files, mem_images, mem_moment};
 ghost use Rattle.node_store.specs.Finding.{IsNewMemory};
 
-use crate::{node, reopened};
-use disk_model::Yard;
-use ftn_addr::{Action, Addr, Bytes, FileKey, NoMemory};
+use crate::{node, own_file, reopened};
+use disk_model::{Copied, Name, Yard};
+use ftn_addr::{Action, Addr, Bytes, FileKey, MAX_SIZE, NoMemory};
 use mem_disk::MemDisk;
-use node_model::{Flavour, Gave, NewFile, Staged, StoreFault};
+use node_model::{Flavour, NewFile, Staged, StoreFault};
 use node_store::NodeStore;
 use std::alloc::Global;
 use std::test::Fail;
@@ -35,23 +35,22 @@ pub fn names_in<D: Yard>(alloc: Global, disk: &mut D, folder: &[u8]) -> Result<V
     Ok(disk.names(&folder)?)
 }
 
-/// What the store of a disk at rest answers where it is to give the next received file, into `/in` or, of a peer without a
-/// password, `/pub`; and the disk. None where the store isn't opened.
-#[tactic(auto, using(crate::proofs::Ready::rests_ready))]
-pub fn give_once(
+/// The bytes of an outside file; None where it doesn't stand. A copy is left in the own folder.
+pub fn outside_file<D: Yard>(
     alloc: Global,
-    disk: MemDisk,
-) -> Result<Option<(Result<Gave, StoreFault>, MemDisk)>, NoMemory>
-    requires { AtRest mem_files mem_moment mem_images disk }
-{
-    let home = node(alloc, 5020, 1042)?;
-    let inbound = Bytes::from_slice(alloc, b"/in")?;
-    let nonsecure = Bytes::from_slice(alloc, b"/pub")?;
-    let Ok((mut store, _recovery)) = NodeStore::open(alloc, disk, &home) else {
-        return Ok(None);
-    };
-    let gave = store.give_next(alloc, &inbound, &nonsecure);
-    Ok(Some((gave, store.into_disk())))
+    disk: &mut D,
+    path: &[u8],
+) -> Result<Option<Vec<u8>>, Fail> {
+    let path = Bytes::from_slice(alloc, path)?;
+    match disk.copy(&path, &copy_name(), MAX_SIZE)? {
+        Copied::Copied(_) => own_file(alloc, disk, &copy_name()),
+        Copied::Absent | Copied::Over => Ok(None),
+    }
+}
+
+// The own file that has the copy.
+fn copy_name() -> Name {
+    Name::new(b"copy").unwrap()
 }
 
 /// What the store of a disk at rest answers where it is to act on the next source of a file for that address; and the disk. None

@@ -2,7 +2,10 @@ ghost use Rattle.std.specs.Prelude.{IfOk};
 ghost use Rattle.disk_model.specs.Moments.{AtRest};
 ghost use Rattle.mem_disk.specs.MemoryDisk.{mem_files, mem_images, mem_moment};
 
-use crate::{answer, failing_at, files_of, own_file, picks_at, reopened, stopped};
+use crate::{
+    answer, failing_at, files_of, names_in, new_disk, outside_file, own_file, picks_at, reopened,
+    stopped,
+};
 use binkp_mailer::Status;
 use disk_model::Disk;
 use ftn_addr::{Bytes, Failed, NoMemory};
@@ -18,12 +21,16 @@ mod program;
 mod refused;
 mod resumed;
 mod sending;
+mod settings;
 mod stops;
 
 const LOGIN: &[u8] = b"\x80\x12\x012:5047/13@fidonet\x80\x02\x02-";
 
-const LET_IN: &[u8] =
-    b"\x80\x1f\x00VER binkp_mailer/1.0 binkp/1.0\x80\x14\x012:5020/1042@fidonet\x80\x0b\x04non-secure";
+// What is said first, at the moment 1_000_000_000, with the challenge of zeros.
+const GREETING: &[u8] =
+    b"\x80\x2e\x00OPT CRAM-MD5-00000000000000000000000000000000\x80\x25\x00TIME Sun, 09 Sep 2001 01:46:40 +0000\x80\x1f\x00VER binkp_mailer/1.0 binkp/1.0\x80\x14\x012:5020/1042@fidonet";
+
+const WELCOME: &[u8] = b"\x80\x0b\x04non-secure";
 
 const OFFER: &[u8] = b"\x80\x15\x03a.txt 5 1000000000 0";
 
@@ -51,22 +58,22 @@ fn call(alloc: Global) -> Result<Bytes, NoMemory> {
     joined(alloc, &[LOGIN, OFFER, b"\x00\x05hello", END])
 }
 
-// Whether the disk has one received file, with these bytes, beside the ledger.
+// Whether the one received file of a disk was given, with these bytes: nothing else stands in the inbound, nor beside the settings
+// and the ledger.
 fn has_received(alloc: Global, disk: &mut MemDisk, bytes: &[u8]) -> Result<bool, Fail> {
-    let names = files_of(disk)?;
-    let [file, ledger] = names.as_slice() else {
-        return Ok(false);
+    let own = files_of(disk)?;
+    let names = names_in(alloc, disk, b"inbound")?;
+    let is_alone = match names.as_slice() {
+        [name] => name.as_slice() == b"a.txt".as_slice(),
+        _ => false,
     };
-    if ledger.as_slice() != b"ledger".as_slice() || !file.as_slice().starts_with(b"in.") {
-        return Ok(false);
-    }
-    match own_file(alloc, disk, file)? {
-        Some(found) => Ok(found.as_slice() == bytes),
+    match outside_file(alloc, disk, b"inbound/a.txt")? {
+        Some(found) => Ok(own.len() == 2 && is_alone && found.as_slice() == bytes),
         None => Ok(false),
     }
 }
 
-// Whether the session, made over that disk, is Done and leaves one receipt.
+// Whether the session, made over that disk, is Done, and one file was received and given then.
 fn repeats(alloc: Global, disk: MemDisk) -> Result<bool, Fail>
     requires { AtRest mem_files mem_moment mem_images disk }
 {
@@ -75,7 +82,7 @@ fn repeats(alloc: Global, disk: MemDisk) -> Result<bool, Fail>
     let mut disk = reopened(disk)?;
     Ok(
         status == Status::Done
-            && heard.as_slice() == joined(alloc, &[LET_IN, GOT, END])?.as_slice()
+            && heard.as_slice() == joined(alloc, &[GREETING, WELCOME, GOT, END])?.as_slice()
             && has_received(alloc, &mut disk, b"hello")?,
     )
 }

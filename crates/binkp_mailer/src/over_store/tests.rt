@@ -1,13 +1,16 @@
 ghost use Rattle.std.specs.Prelude.{◌≡◌, ◌<◌, false, None, IfOk, IfSome};
 ghost use Rattle.binkp_link.specs.MemLines.{mem_state};
 ghost use Rattle.hub_core.specs.Opening.{IsWhole, no_seats};
-ghost use Rattle.node_model.specs.Node.{plain_settings};
+ghost use Rattle.mail_conf.specs.ConfView.{conf_text};
+ghost use Rattle.mail_conf.specs.Limits.{KeepsLimits};
+ghost use Rattle.node_model.specs.Node.{Settings};
 ghost use Rattle.list_store.specs.ListStates.{stand_of};
 
 use crate::{Status, run_over_store};
 use binkp_link::{MemLine, MemSink, ReadAct};
 use ftn_addr::{Bytes, NoMemory};
 use list_store::ListStore;
+use mail_conf::{Conf, read_conf, what_is_read_keeps_limits};
 use node_model::Store;
 use session_core::Cause;
 use std::alloc::Global;
@@ -26,7 +29,12 @@ const OFFER: &[u8] = b"\x80\x15\x03a.txt 5 1000000000 0";
 const END: &[u8] = b"\x80\x01\x05";
 
 const GREETING: &[u8] =
-    b"\x80\x1f\x00VER binkp_mailer/1.0 binkp/1.0\x80\x14\x012:5020/1042@fidonet";
+    b"\x80\x2e\x00OPT CRAM-MD5-00000000000000000000000000000000\x80\x25\x00TIME Sun, 09 Sep 2001 01:46:40 +0000\x80\x1f\x00VER binkp_mailer/1.0 binkp/1.0\x80\x14\x012:5020/1042@fidonet";
+
+// A node with a host, and no password.
+const SETTINGS: &[u8] = b"address 2:5020/1042@fidonet\nnode 2:5047/13 peer.example\n";
+
+const CHALLENGE: [u8; 16] = [0; 16];
 
 const WELCOME: &[u8] = b"\x80\x0b\x04non-secure";
 
@@ -67,18 +75,22 @@ fn fast_line(alloc: Global, bytes: &[u8]) -> Result<MemLine, NoMemory>
     Ok(MemLine::new(alloc, reads, Vec::new(alloc)))
 }
 
-fn words(alloc: Global, address: &[u8]) -> Result<Vec<Bytes>, NoMemory> {
-    let mut words = Vec::new(alloc);
-    words.push(Bytes::from_slice(alloc, b"answer")?)?;
-    words.push(Bytes::from_slice(alloc, address)?)?;
-    Ok(words)
+// The settings that a text spells.
+fn settings(alloc: Global, text: &[u8]) -> Result<Conf, NoMemory>
+    ensures { IfOk result (λ conf. KeepsLimits (conf_text conf)) }
+{
+    what_is_read_keeps_limits();
+    match read_conf(alloc, text) {
+        Ok(conf) => Ok(conf),
+        Err(_) => Err(NoMemory),
+    }
 }
 
 // A store with nothing in it.
-#[tactic(auto, using(crate::proofs::NewStore::new_fits))]
+#[tactic(auto, using(hub_core::proofs::NewStores::new_fits))]
 fn new_store(alloc: Global) -> ListStore
     ensures whole { (stand_of result).state.counts.broken ≡ None }
-    ensures fits { IsWhole (stand_of result) (no_seats plain_settings) }
+    ensures fits { (settings : Settings) → IsWhole (stand_of result) (no_seats settings) }
 {
     ListStore::new(alloc)
 }
@@ -90,16 +102,35 @@ fn answer(
     line: &mut MemLine,
 ) -> Result<(Status, ListStore), NoMemory>
     requires whole { (stand_of store).state.counts.broken ≡ None }
-    requires fits { IsWhole (stand_of store) (no_seats plain_settings) }
+    requires fits { (settings : Settings) → IsWhole (stand_of store) (no_seats settings) }
     requires calm { (mem_state line.old).calm ≡ 0 }
     requires open { (mem_state line.old).closed ≡ false }
-    ensures { IfOk result (λ after. IsWhole (stand_of after.1) (no_seats plain_settings)) }
+    ensures { IfOk result (λ after. (settings : Settings) → IsWhole (stand_of after.1) (no_seats settings)) }
 {
-    let words = words(alloc, b"2:5020/1042@fidonet")?;
+    answer_by(alloc, SETTINGS, store, line)
+}
+
+// Answers the caller on the line by these settings.
+fn answer_by(
+    alloc: Global,
+    text: &[u8],
+    store: ListStore,
+    line: &mut MemLine,
+) -> Result<(Status, ListStore), NoMemory>
+    requires whole { (stand_of store).state.counts.broken ≡ None }
+    requires fits { (settings : Settings) → IsWhole (stand_of store) (no_seats settings) }
+    requires calm { (mem_state line.old).calm ≡ 0 }
+    requires open { (mem_state line.old).closed ≡ false }
+    ensures { IfOk result (λ after. (settings : Settings) → IsWhole (stand_of after.1) (no_seats settings)) }
+{
+    let conf = settings(alloc, text)?;
+    let words = vec![in alloc; Bytes::from_slice(alloc, b"answer")?]?;
     let mut out = MemSink::new(alloc, Vec::new(alloc));
     Ok(run_over_store(
         alloc,
         words.as_slice(),
+        &conf,
+        CHALLENGE,
         store,
         line,
         1_000_000_000,
@@ -217,24 +248,5 @@ fn too_much_data_is_refused(rt: HostRuntime) -> Result<(), Fail> {
     let (status, store) = answer(alloc, new_store(alloc), &mut line)?;
     assert_eq!(rt; status, Status::Broke(Cause::TooMuch, 4));
     assert!(rt; store.receipts().is_empty());
-    Ok(())
-}
-
-#[test]
-fn other_words_are_refused(rt: HostRuntime) -> Result<(), Fail> {
-    let alloc = rt.alloc();
-    let words = words(alloc, b"2:5020/01042@fidonet")?;
-    let mut line = fast_line(alloc, LOGIN)?;
-    let mut out = MemSink::new(alloc, Vec::new(alloc));
-    let (status, _) = run_over_store(
-        alloc,
-        words.as_slice(),
-        new_store(alloc),
-        &mut line,
-        0,
-        &mut out,
-    );
-    assert_eq!(rt; status, Status::Usage);
-    assert!(rt; line.written().is_empty());
     Ok(())
 }

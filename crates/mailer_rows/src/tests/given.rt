@@ -4,116 +4,94 @@ ghost use Rattle.disk_model.specs.Moments.{AtRest};
 ghost use Rattle.mem_disk.specs.MemoryDisk.{mem_files, mem_images, mem_moment};
 
 use super::*;
-use crate::{give_once, names_in, with_outside};
-use node_model::{Gave, StoreFault};
+use crate::{with_outside, with_settings};
 
 const BLANK_OFFER: &[u8] = b"\x80\x1e\x03my\\x20file.zip 5 1000000000 0";
 
-const GOT_BLANK: &[u8] = b"\x80\x1c\x06my\\x20file.zip 5 1000000000";
+const REQUEST_OFFER: &[u8] = b"\x80\x1c\x0313a40412.req 5 1000000000 0";
 
-const PLAIN: &[u8] = b"/pub/my_file.zip";
+const PLAIN: &[u8] = b"inbound/my_file.zip";
 
-const NUMBERED: &[u8] = b"/pub/00000001-my_file.zip";
+const NUMBERED: &[u8] = b"inbound/00000001-my_file.zip";
 
-// A disk on which `my file.zip` was received.
-fn received(alloc: Global) -> Result<MemDisk, NoMemory>
+const BOTH: &[&[u8]] = &[b"00000001-my_file.zip", b"my_file.zip"];
+
+// The disk behind a session over that disk in which this file of five bytes came.
+fn received(alloc: Global, disk: MemDisk, offer: &[u8]) -> Result<MemDisk, Fail>
+    requires { AtRest mem_files mem_moment mem_images disk }
     ensures { IfOk result (AtRest mem_files mem_moment mem_images) }
 {
-    let said = joined(alloc, &[LOGIN, BLANK_OFFER, b"\x00\x05hello", END])?;
-    let (_, _, disk) = answer(alloc, MemDisk::new(alloc), said.as_slice())?;
-    reopened(disk)
-}
-
-// What the store answers, and the disk.
-fn gives(alloc: Global, disk: MemDisk) -> Result<(Result<Gave, StoreFault>, MemDisk), Fail>
-    requires { AtRest mem_files mem_moment mem_images disk }
-{
-    match give_once(alloc, disk)? {
-        Some(gave) => Ok(gave),
-        None => Err(Failed.into()),
+    let said = joined(alloc, &[LOGIN, offer, b"\x00\x05hello", END])?;
+    let (status, _, disk) = answer(alloc, disk, said.as_slice())?;
+    if status != Status::Done {
+        return Err(Failed.into());
     }
+    Ok(reopened(disk)?)
 }
 
-// Whether these are the names in `/pub`, and whether the received file stands in the own folder still.
-fn stands(alloc: Global, disk: &mut MemDisk, names: &[&[u8]], is_kept: bool) -> Result<bool, Fail> {
-    let found = names_in(alloc, disk, b"/pub")?;
+// Whether these are the names in a folder, and whether a received file still stands in the own folder, beside the settings and the
+// ledger.
+fn stands(
+    alloc: Global,
+    disk: &mut MemDisk,
+    folder: &[u8],
+    names: &[&[u8]],
+    is_kept: bool,
+) -> Result<bool, Fail> {
+    let found = names_in(alloc, disk, folder)?;
     let own = files_of(disk)?;
     let are_same = found.len() == names.len()
         && found
             .iter()
             .zip(names.iter())
             .all(|(one, other)| one.as_slice() == *other);
-    Ok(are_same && own.len() == if is_kept { 2 } else { 1 })
+    Ok(are_same && own.len() == if is_kept { 3 } else { 2 })
 }
 
 #[test]
 fn a_name_is_made_plain(rt: HostRuntime) -> Result<(), Fail> {
     let alloc = rt.alloc();
-    let (gave, disk) = gives(alloc, received(alloc)?)?;
-    assert_eq!(rt; gave, Ok(Gave::Given(1)));
-    let mut disk = reopened(disk)?;
-    assert!(rt; stands(alloc, &mut disk, &[b"my_file.zip"], false)?);
-    let (gave, _) = gives(alloc, reopened(disk)?)?;
-    assert_eq!(rt; gave, Ok(Gave::Nothing));
+    let mut disk = received(alloc, new_disk(alloc)?, BLANK_OFFER)?;
+    assert!(rt; stands(alloc, &mut disk, b"inbound", &[b"my_file.zip"], false)?);
     Ok(())
 }
 
 #[test]
 fn a_name_in_use_gets_the_number_before_it(rt: HostRuntime) -> Result<(), Fail> {
     let alloc = rt.alloc();
-    let disk = with_outside(alloc, received(alloc)?, PLAIN, b"other")?;
-    let (gave, disk) = gives(alloc, disk)?;
-    assert_eq!(rt; gave, Ok(Gave::Given(1)));
-    let mut disk = reopened(disk)?;
-    let names: [&[u8]; 2] = [b"00000001-my_file.zip", b"my_file.zip"];
-    assert!(rt; stands(alloc, &mut disk, &names, false)?);
+    let disk = with_outside(alloc, new_disk(alloc)?, PLAIN, b"other")?;
+    let mut disk = received(alloc, disk, BLANK_OFFER)?;
+    assert!(rt; stands(alloc, &mut disk, b"inbound", BOTH, false)?);
     Ok(())
 }
 
-#[test]
-fn where_both_names_are_in_use_the_file_stays(rt: HostRuntime) -> Result<(), Fail> {
-    let alloc = rt.alloc();
-    let disk = with_outside(alloc, received(alloc)?, PLAIN, b"other")?;
-    let disk = with_outside(alloc, disk, NUMBERED, b"another")?;
-    let (gave, disk) = gives(alloc, disk)?;
-    assert_eq!(rt; gave, Ok(Gave::Held(1)));
-    let mut disk = reopened(disk)?;
-    let names: [&[u8]; 2] = [b"00000001-my_file.zip", b"my_file.zip"];
-    assert!(rt; stands(alloc, &mut disk, &names, true)?);
-    Ok(())
-}
-
-// Whether the file is given once behind one more such call, and the sender's next offer of it is acknowledged.
-fn is_given_once(alloc: Global, disk: MemDisk) -> Result<bool, Fail>
-    requires { AtRest mem_files mem_moment mem_images disk }
+// A disk on which both names of the file are in use.
+fn in_use(alloc: Global) -> Result<MemDisk, NoMemory>
+    ensures { IfOk result (AtRest mem_files mem_moment mem_images) }
 {
-    let (_, disk) = gives(alloc, disk)?;
-    let mut disk = reopened(disk)?;
-    let is_there = stands(alloc, &mut disk, &[b"my_file.zip"], false)?;
-    let offer = joined(alloc, &[LOGIN, BLANK_OFFER, END])?;
-    let (_, heard, _) = answer(alloc, reopened(disk)?, offer.as_slice())?;
-    Ok(is_there && heard.as_slice() == joined(alloc, &[LET_IN, GOT_BLANK, END])?.as_slice())
-}
-
-// The first of the images of a stop behind so many calls after which the file isn't given once.
-fn first_lost(alloc: Global, after: u64) -> Result<Option<u64>, Fail> {
-    let (_, disk) = gives(alloc, received(alloc)?)?;
-    let picks = picks_at(&disk, after);
-    for pick in 0..picks {
-        let (_, disk) = gives(alloc, received(alloc)?)?;
-        if !is_given_once(alloc, stopped(disk, after, pick)?)? {
-            return Ok(Some(pick));
-        }
-    }
-    Ok(None)
+    let disk = with_outside(alloc, new_disk(alloc)?, PLAIN, b"other")?;
+    with_outside(alloc, disk, NUMBERED, b"another")
 }
 
 #[test]
-fn a_stop_at_each_call_leaves_it_given_once(rt: HostRuntime) -> Result<(), Fail> {
+fn where_both_names_are_in_use_the_file_waits_for_a_later_session(
+    rt: HostRuntime,
+) -> Result<(), Fail> {
     let alloc = rt.alloc();
-    let (_, disk) = gives(alloc, received(alloc)?)?;
-    for after in 0..=disk.calls() {
-        assert_eq!(rt; first_lost(alloc, after)?, None);
-    }
+    let mut disk = received(alloc, in_use(alloc)?, BLANK_OFFER)?;
+    assert!(rt; stands(alloc, &mut disk, b"inbound", BOTH, true)?);
+    let moved: &[u8] = b"address 2:5020/1042@fidonet\ninbound elsewhere\n";
+    let said = joined(alloc, &[LOGIN, END])?;
+    let (_, _, disk) = answer(alloc, with_settings(disk, moved)?, said.as_slice())?;
+    let mut disk = reopened(disk)?;
+    assert!(rt; stands(alloc, &mut disk, b"elsewhere", &[b"my_file.zip"], false)?);
+    Ok(())
+}
+
+#[test]
+fn a_request_waits_for_its_answer(rt: HostRuntime) -> Result<(), Fail> {
+    let alloc = rt.alloc();
+    let mut disk = received(alloc, new_disk(alloc)?, REQUEST_OFFER)?;
+    assert!(rt; stands(alloc, &mut disk, b"inbound", &[], true)?);
     Ok(())
 }

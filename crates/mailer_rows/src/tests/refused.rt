@@ -7,11 +7,11 @@ use super::*;
 use disk_model::Name;
 use ledger_file::put_file;
 
-// A disk with that file alone.
+// A disk with that file and settings alone.
 fn with_file(alloc: Global, name: &Name, bytes: &[u8]) -> Result<MemDisk, Fail>
     ensures { IfOk result (AtRest mem_files mem_moment mem_images) }
 {
-    let mut disk = MemDisk::new(alloc);
+    let mut disk = new_disk(alloc)?;
     put_file(&mut disk, name, bytes)?;
     Ok(reopened(disk)?)
 }
@@ -64,7 +64,7 @@ fn a_ledger_that_is_none_is_refused_and_stays(rt: HostRuntime) -> Result<(), Fai
 // The status of a session over a disk whose own file of a marked file was removed, or has two bytes of three.
 fn over_bad_file(alloc: Global, name: &Name, is_cut: bool) -> Result<Status, Fail> {
     let said = joined(alloc, &[LOGIN, OFFER, b"\x00\x03hel"])?;
-    let (_, _, disk) = answer(alloc, MemDisk::new(alloc), said.as_slice())?;
+    let (_, _, disk) = answer(alloc, new_disk(alloc)?, said.as_slice())?;
     let mut disk = reopened(disk)?;
     if is_cut {
         put_file(&mut disk, name, b"he")?;

@@ -4,10 +4,10 @@ ghost use Rattle.mem_disk.specs.MemoryDisk.{mem_files, mem_images, mem_moment};
 
 use super::*;
 
-// The disk of a session whose line ends behind three bytes of the file.
+// The disk of a session whose line ends behind three bytes of the file. Its calls begin with the two that read the settings.
 fn broken_off(alloc: Global) -> Result<MemDisk, NoMemory> {
     let said = joined(alloc, &[LOGIN, OFFER, b"\x00\x03hel"])?;
-    let (_, _, disk) = answer(alloc, MemDisk::new(alloc), said.as_slice())?;
+    let (_, _, disk) = answer(alloc, new_disk(alloc)?, said.as_slice())?;
     Ok(disk)
 }
 
@@ -82,12 +82,12 @@ fn what_was_marked_is_asked_for_from_there(rt: HostRuntime) -> Result<(), Fail> 
     let (heard, _) = asked(alloc, reopened(broken_off(alloc)?)?)?;
     assert_eq!(rt;
         heard.as_slice(),
-        joined(alloc, &[LET_IN, ASK_FROM_THREE])?.as_slice()
+        joined(alloc, &[GREETING, WELCOME, ASK_FROM_THREE])?.as_slice()
     );
     Ok(())
 }
 
-// The disk of the session that goes on, over what the first one left.
+// The disk of the session that goes on, over what the first one left. Its calls begin so too.
 fn going_on(alloc: Global) -> Result<MemDisk, NoMemory> {
     let said = rest(alloc, ASK_FROM_THREE)?;
     let (_, _, disk) = answer(alloc, reopened(broken_off(alloc)?)?, said.as_slice())?;

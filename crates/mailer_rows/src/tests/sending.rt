@@ -34,7 +34,7 @@ fn and_queued(alloc: Global, disk: MemDisk, name: &[u8], bytes: &[u8]) -> Result
 fn three_files(alloc: Global) -> Result<MemDisk, Fail>
     ensures { IfOk result (AtRest mem_files mem_moment mem_images) }
 {
-    let disk = and_queued(alloc, MemDisk::new(alloc), b"one", b"1")?;
+    let disk = and_queued(alloc, new_disk(alloc)?, b"one", b"1")?;
     let disk = and_queued(alloc, disk, b"two", b"22")?;
     and_queued(alloc, disk, b"three", b"333")
 }
@@ -46,7 +46,7 @@ fn taken(alloc: Global, disk: MemDisk) -> Result<(Status, Bytes, MemDisk), NoMem
     answer_slowly(alloc, disk, &[LOGIN, GOT_ONE, GOT_TWO, GOT_THREE, END])
 }
 
-// Whether a session over that disk finds nothing to send, and has no own file beside the ledger then.
+// Whether a session over that disk finds nothing to send, and has no own file beside the settings and the ledger then.
 fn has_sent_all(alloc: Global, disk: MemDisk) -> Result<bool, Fail>
     requires { AtRest mem_files mem_moment mem_images disk }
 {
@@ -55,8 +55,8 @@ fn has_sent_all(alloc: Global, disk: MemDisk) -> Result<bool, Fail>
     let names = files_of(&mut disk)?;
     Ok(
         status == Status::Done
-            && heard.as_slice() == joined(alloc, &[LET_IN, END])?.as_slice()
-            && names.len() == 1,
+            && heard.as_slice() == joined(alloc, &[GREETING, WELCOME, END])?.as_slice()
+            && names.len() == 2,
     )
 }
 
@@ -73,7 +73,10 @@ fn three_files_are_sent_and_settled(rt: HostRuntime) -> Result<(), Fail> {
     let alloc = rt.alloc();
     let (status, heard, disk) = taken(alloc, three_files(alloc)?)?;
     assert_eq!(rt; status, Status::Done);
-    let wanted = joined(alloc, &[LET_IN, FILE_ONE, FILE_TWO, FILE_THREE, END])?;
+    let wanted = joined(
+        alloc,
+        &[GREETING, WELCOME, FILE_ONE, FILE_TWO, FILE_THREE, END],
+    )?;
     assert_eq!(rt; heard.as_slice(), wanted.as_slice());
     // An opening syncs the ledger and each live entry's file; a settled file costs two syncs.
     assert_eq!(rt; disk.syncs(), 1 + 3 + 3 * 2);
@@ -81,7 +84,7 @@ fn three_files_are_sent_and_settled(rt: HostRuntime) -> Result<(), Fail> {
     Ok(())
 }
 
-// The disk of that session.
+// The disk of that session. Its calls begin with the two that read the settings.
 fn after_session(alloc: Global) -> Result<MemDisk, Fail> {
     let (_, _, disk) = taken(alloc, three_files(alloc)?)?;
     Ok(disk)

@@ -1,10 +1,10 @@
 //! A session that is stopped at each call of its disk.
 use super::*;
 
-// The disk of that session, on a new disk.
+// The disk of that session, over one of settings alone. Its calls begin with the two that read them.
 fn after_session(alloc: Global) -> Result<MemDisk, NoMemory> {
     let call = call(alloc)?;
-    let (_, _, disk) = answer(alloc, MemDisk::new(alloc), call.as_slice())?;
+    let (_, _, disk) = answer(alloc, new_disk(alloc)?, call.as_slice())?;
     Ok(disk)
 }
 
@@ -37,7 +37,7 @@ fn knows(alloc: Global, after: u64, pick: u64) -> Result<bool, Fail> {
     let disk = stopped(after_session(alloc)?, after, pick)?;
     let offer = joined(alloc, &[LOGIN, OFFER, END])?;
     let (_, heard, _) = answer(alloc, disk, offer.as_slice())?;
-    Ok(heard.as_slice() == joined(alloc, &[LET_IN, GOT, END])?.as_slice())
+    Ok(heard.as_slice() == joined(alloc, &[GREETING, WELCOME, GOT, END])?.as_slice())
 }
 
 #[test]

@@ -1,36 +1,27 @@
-use Rattle.std.proofs.Common.{ap, refl, Err}
-use Rattle.ftn_addr.specs.Address.{address}
-use Rattle.node_model.specs.Node.{plain_settings}
-use Rattle.session_core.specs.Replies.{side_of}
-use Rattle.binkp_mailer.specs.DiskCall.{Not_opened, Over_store}
-use Rattle.binkp_mailer.specs.Statuses.{status_unopened}
-use Rattle.binkp_mailer.specs.declared.words.WordsFault.{WordsFault}
-use Rattle.binkp_mailer.proofs.DiskCalls.{new_whole}
+use Rattle.std.proofs.Common.{ℕ, refl, subst, sym}
+use Rattle.mail_conf.specs.ConfView.{conf_text}
+use Rattle.binkp_mailer.specs.DiskCall.{Not_asked, Not_set}
+use Rattle.binkp_mailer.specs.Settings.{NoSettings}
+use Rattle.binkp_mailer.specs.Statuses.{status_unset}
+use Rattle.binkp_mailer.proofs.ReadOnly.{call_before}
 use Rattle.binkp_mailer.proofs.over_disk.serve_disk.Goals as goal
 
--- The words are none that it knows.
+pub returns-then-not-have_form : goal.returns-then-not-have_form
+returns-then-not-have_form g c = Not_asked refl refl (c.have_form.ensures.no c.if-not-have_form.true) refl refl
 
-pub returns-in-Err-Usage-clause-usage : goal.returns-in-Err-Usage-clause-usage
-returns-in-Err-Usage-clause-usage g c = λ same. c.in-Err-Usage.ensures.usage (ap (λ (fault : WordsFault). Err fault) c.in-Err-Usage.field-0-is)
+pub serve_by-requires-clause-keeps : goal.serve_by-requires-clause-keeps
+serve_by-requires-clause-keeps g c = c.what_is_read_keeps_limits.ensures c.in-Ok.ensures.ok.text (conf_text c.in-Ok.conf) c.in-Ok.ensures.ok.spells
 
--- No store is opened.
+pub serve_by-requires-clause-form : goal.serve_by-requires-clause-form
+serve_by-requires-clause-form g c = c.have_form.ensures.yes c.if-not-have_form.false
 
-pub returns-in-Err-clause-call : goal.returns-in-Err-clause-call
-returns-in-Err-clause-call g c =
-    Not_opened (side_of c.in-Ok.asked.side) (address c.in-Ok.asked.home) c.in-Ok.ensures.ok c.in-Err.fault refl
-    (ap (status_unopened c.in-Err.fault) c.faults-faults.ensures) refl
-    (record { why = c.in-Err.ensures.refused; failed = c.in-Err.ensures.failed; stop = c.in-Err.ensures.stop; read = c.in-Err.ensures.read })
+pub returns-in-Ok : goal.returns-in-Ok
+returns-in-Ok g c =
+    call_before g.D.Disk.tells g.D.Disk.content g.D.Disk.fault_count g.D.Disk.moment g.D.Disk.images _ _ _ _ c.args.disk c.read_settings.new.disk _ _ _ _
+    c.in-Ok.ensures.only c.in-Ok.ensures.calm (c.have_form.ensures.yes c.if-not-have_form.false) c.serve_by.ensures
 
--- A session is held over the store that was opened.
-
-pub hold_session-outcome-requires-clause-fits : goal.hold_session-outcome-requires-clause-fits
-hold_session-outcome-requires-clause-fits g c =
-    new_whole g.D.Disk.tells g.D.Disk.content g.D.Disk.fault_count g.D.Disk.moment g.D.Disk.images c.in-Ok-open.store plain_settings (c.opens_soundly.ensures plain_settings) c.in-Ok-open.ensures.memory c.opens_as_told.ensures.stopped
-
-pub returns-clause-call : goal.returns-clause-call
-returns-clause-call g c =
-    let e = c.hold_session-outcome.ensures in
-    Over_store c.in-Ok-open.store c.hold_session-outcome.result.1
-    (record { memory = c.in-Ok-open.ensures.memory; told = c.in-Ok-open.ensures.told; stop = c.in-Ok-open.ensures.stop; calm = c.in-Ok-open.ensures.calm })
-    (record { call = e.call _ c.in-Ok.ensures.ok; cause = e.cause; once = e.once; stays = e.stays; stop_once = e.stop_once; stop_stays = e.stop_stays })
-    c.into_disk.ensures
+pub returns-in-Err : goal.returns-in-Err
+returns-in-Err g c =
+    Not_set refl (c.have_form.ensures.yes c.if-not-have_form.false)
+    (subst (λ (n : ℕ). NoSettings g.D.Disk.tells g.D.Disk.content g.D.Disk.fault_count g.D.Disk.moment g.D.Disk.images c.args.disk c.read_settings.new.disk (status_unset c.in-Err.fault n)) (sym c.faults-faults.ensures) c.in-Err.ensures.unset)
+    c.in-Err.ensures.only refl

@@ -2,7 +2,7 @@
 ghost use Rattle.std.specs.Prelude.{◌≡◌, ◌<◌, false, length, map, None, IfOk, OnOk};
 ghost use Rattle.hub_core.specs.Opening.{IsWhole, no_seats};
 ghost use Rattle.list_store.specs.ListStates.{stand_of};
-ghost use Rattle.node_model.specs.Node.{plain_settings};
+ghost use Rattle.node_model.specs.Node.{Settings};
 ghost use Rattle.binkp_link.specs.Scripts.{AllGiveSome, act_of};
 ghost use Rattle.binkp_link.specs.MemLines.{mem_state};
 
@@ -165,10 +165,10 @@ fn files_of_a_peer_that_reads_nothing_are_kept(rt: HostRuntime) -> Result<(), Fa
 }
 
 // A new store whose call with that number is to fail.
-#[tactic(auto, using(crate::proofs::NewStore::new_fits))]
+#[tactic(auto, using(hub_core::proofs::NewStores::new_fits))]
 fn failing_store(alloc: Global, call: u64) -> Result<ListStore, NoMemory>
     ensures whole { IfOk result (λ store. (stand_of store).state.counts.broken ≡ None) }
-    ensures fits { IfOk result (λ store. IsWhole (stand_of store) (no_seats plain_settings)) }
+    ensures fits { IfOk result (λ store. (settings : Settings) → IsWhole (stand_of store) (no_seats settings)) }
 {
     let mut store = ListStore::new(alloc);
     store.fail_at(call)?;

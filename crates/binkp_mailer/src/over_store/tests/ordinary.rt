@@ -2,11 +2,12 @@
 ghost use Rattle.std.specs.Prelude.{◌≡◌, None, IfSome};
 ghost use Rattle.list_store.specs.ListStates.{stand_of};
 ghost use Rattle.hub_core.specs.Opening.{IsWhole, no_seats};
-ghost use Rattle.node_model.specs.Node.{plain_settings};
+ghost use Rattle.node_model.specs.Node.{Settings};
 
-use super::{END, GREETING, LOGIN, OFFER, WELCOME, answer, fast_line, joined, new_store, words};
-use crate::{Status, run_over_store};
-use binkp_link::MemSink;
+use super::{
+    END, GREETING, LOGIN, OFFER, WELCOME, answer, answer_by, fast_line, joined, new_store,
+};
+use crate::Status;
 use ftn_addr::{Bytes, NoMemory};
 use list_store::ListStore;
 use node_model::Store;
@@ -47,25 +48,44 @@ fn a_name_with_a_blank_is_acknowledged_as_it_came(rt: HostRuntime) -> Result<(),
 }
 
 #[test]
-fn an_own_address_with_a_point_is_told(rt: HostRuntime) -> Result<(), Fail> {
+fn own_addresses_and_names_are_told(rt: HostRuntime) -> Result<(), Fail> {
     let alloc = rt.alloc();
-    let words = words(alloc, b"2:5020/1042.7@fidonet")?;
+    let text: &[u8] = b"address 2:5020/1042.7@fidonet 2:5020/7@fidonet\nsysname Example Node\n";
     let call = joined(alloc, &[LOGIN, END])?;
     let mut line = fast_line(alloc, call.as_slice())?;
-    let mut out = MemSink::new(alloc, Vec::new(alloc));
-    let (status, _) = run_over_store(
-        alloc,
-        words.as_slice(),
-        new_store(alloc),
-        &mut line,
-        1_000_000_000,
-        &mut out,
-    );
+    let (status, _) = answer_by(alloc, text, new_store(alloc), &mut line)?;
     assert_eq!(rt; status, Status::Done);
-    let greeting: &[u8] =
-        b"\x80\x1f\x00VER binkp_mailer/1.0 binkp/1.0\x80\x16\x012:5020/1042.7@fidonet";
-    let wanted = joined(alloc, &[greeting, WELCOME, END])?;
+    let wanted = joined(
+        alloc,
+        &[
+            b"\x80\x2e\x00OPT CRAM-MD5-00000000000000000000000000000000",
+            b"\x80\x11\x00SYS Example Node",
+            b"\x80\x25\x00TIME Sun, 09 Sep 2001 01:46:40 +0000",
+            b"\x80\x1f\x00VER binkp_mailer/1.0 binkp/1.0",
+            b"\x80\x27\x012:5020/1042.7@fidonet 2:5020/7@fidonet",
+            WELCOME,
+            END,
+        ],
+    )?;
     assert_eq!(rt; line.written(), wanted.as_slice());
+    Ok(())
+}
+
+// What the settings refuse isn't received.
+#[test]
+fn a_file_that_the_settings_refuse_is_not_kept(rt: HostRuntime) -> Result<(), Fail> {
+    let alloc = rt.alloc();
+    let texts: [&[u8]; 2] = [
+        b"address 2:5020/1042@fidonet\nrefuse-name .TXT\n",
+        b"address 2:5020/1042@fidonet\nrefuse-over 4\n",
+    ];
+    for text in &texts {
+        let call = joined(alloc, &[LOGIN, OFFER, DATA, END])?;
+        let mut line = fast_line(alloc, call.as_slice())?;
+        let (status, store) = answer_by(alloc, text, new_store(alloc), &mut line)?;
+        assert_eq!(rt; status, Status::Done);
+        assert!(rt; store.receipts().is_empty());
+    }
     Ok(())
 }
 
@@ -106,7 +126,7 @@ fn a_file_longer_than_a_frame_is_received(rt: HostRuntime) -> Result<(), Fail> {
 // A store all of whose places are taken.
 #[tactic(auto, using(crate::proofs::ReservedStore::reserved_whole, crate::proofs::ReservedStore::reserved_unbroken))]
 fn full_store(alloc: Global) -> Option<ListStore>
-    ensures fits { IfSome result (λ store. IsWhole (stand_of store) (no_seats plain_settings)) }
+    ensures fits { IfSome result (λ store. (settings : Settings) → IsWhole (stand_of store) (no_seats settings)) }
     ensures whole { IfSome result (λ store. (stand_of store).state.counts.broken ≡ None) }
 {
     let mut store = new_store(alloc);

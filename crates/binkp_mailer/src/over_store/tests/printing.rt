@@ -2,7 +2,7 @@
 ghost use Rattle.std.specs.Prelude.{◌≡◌, false, IfOk};
 ghost use Rattle.binkp_link.specs.MemLines.{mem_state};
 
-use super::{END, LOGIN, OFFER, fast_line, joined, new_store};
+use super::{CHALLENGE, END, LOGIN, OFFER, fast_line, joined, new_store, settings};
 use crate::{Status, run_over_store};
 use binkp_link::{MemLine, MemSink};
 use ftn_addr::{Bytes, NoMemory};
@@ -23,15 +23,28 @@ fn call(
     for text in texts {
         words.push(Bytes::from_slice(alloc, text)?)?;
     }
+    let conf = settings(alloc, GUARDED)?;
     let mut out = MemSink::new(alloc, fails);
-    let store = new_store(alloc);
-    let (status, _) = run_over_store(alloc, words.as_slice(), store, &mut line, 7, &mut out);
+    let (status, _) = run_over_store(
+        alloc,
+        words.as_slice(),
+        &conf,
+        CHALLENGE,
+        new_store(alloc),
+        &mut line,
+        7,
+        &mut out,
+    );
     Ok((status, out))
 }
 
-const ANSWER: &[&[u8]] = &[b"answer", b"2:5020/1042@fidonet"];
+// A node that may be called, and one with a password that has no host.
+const GUARDED: &[u8] =
+    b"address 2:5020/1042@fidonet\nnode 2:5047/13 peer.example\nnode 2:5047/15 - secret\n";
 
-const CALL: &[&[u8]] = &[b"call", b"2:5047/13@fidonet", b"2:5020/1042@fidonet"];
+const ANSWER: &[&[u8]] = &[b"answer"];
+
+const CALL: &[&[u8]] = &[b"call", b"2:5047/13"];
 
 // What is printed of a call on whose line these bytes come.
 fn printed(alloc: Global, texts: &[&[u8]], pieces: &[&[u8]]) -> Result<MemSink, NoMemory> {
@@ -73,7 +86,7 @@ fn a_call_to_another_is_told_like_an_answer(rt: HostRuntime) -> Result<(), Fail>
 #[test]
 fn each_refusal_has_its_status_line(rt: HostRuntime) -> Result<(), Fail> {
     let alloc = rt.alloc();
-    let address: &[u8] = b"\x80\x12\x012:5047/13@fidonet";
+    let address: &[u8] = b"\x80\x12\x012:5047/15@fidonet";
     let cases: [(&[&[u8]], &[u8], &[u8]); 6] = [
         (&[], b"Dropped", b"status 7 Dropped\n"),
         (&[END], b"Broke", b"status 12 Broke OutOfTurn 1\n"),
@@ -89,7 +102,7 @@ fn each_refusal_has_its_status_line(rt: HostRuntime) -> Result<(), Fail> {
         ),
         (&[b"\x80\x01\x08"], b"PeerBusy", b"status 10 PeerBusy\n"),
         (
-            &[address, b"\x80\x07\x02secret"],
+            &[address, b"\x80\x07\x02SECRET"],
             b"BadPassword",
             b"status 11 BadPassword\n",
         ),
@@ -112,8 +125,31 @@ fn each_refusal_has_its_status_line(rt: HostRuntime) -> Result<(), Fail> {
 
 #[test]
 fn other_words_have_a_status_line_alone(rt: HostRuntime) -> Result<(), Fail> {
-    let out = printed(rt.alloc(), &[b"answer"], &[LOGIN, END])?;
-    assert_eq!(rt; out.written(), b"status 1 Usage\n".as_slice());
+    let alloc = rt.alloc();
+    let cases: [&[&[u8]]; 7] = [
+        &[],
+        &[b"help"],
+        &[b"answer", b"2:5020/1042"],
+        &[b"call"],
+        &[b"call", b"2:5047/13", b"2:5020/1042"],
+        &[b"call", b"2:5047/x"],
+        &[b"call", b"2:5047/13@othernet"],
+    ];
+    for words in &cases {
+        let out = printed(alloc, words, &[LOGIN, END])?;
+        assert_eq!(rt; out.written(), b"status 1 Usage\n".as_slice());
+    }
+    Ok(())
+}
+
+#[test]
+fn a_node_without_a_host_is_not_called(rt: HostRuntime) -> Result<(), Fail> {
+    let alloc = rt.alloc();
+    let cases: [&[&[u8]]; 2] = [&[b"call", b"2:5047/15"], &[b"call", b"2:5047/14"]];
+    for words in &cases {
+        let out = printed(alloc, words, &[LOGIN, END])?;
+        assert_eq!(rt; out.written(), b"status 15 NotFound\n".as_slice());
+    }
     Ok(())
 }
 

@@ -1,6 +1,7 @@
 //! What a caller gets whose frames aren't those of an ordinary session.
 use super::{
-    BROKEN_FRAME, END, GOT, GREETING, LOGIN, OFFER, WELCOME, answer, fast_line, joined, new_store,
+    BROKEN_FRAME, END, GOT, GREETING, LOGIN, OFFER, SETTINGS, WELCOME, answer_by, fast_line,
+    joined, new_store,
 };
 use crate::Status;
 use binkp_args::ArgFault;
@@ -36,15 +37,28 @@ const SECRET: &[u8] = b"\x80\x07\x02secret";
 
 const BAD_PASSWORD: &[u8] = b"\x80\x0d\x07bad password";
 
+// Settings with a password for the caller.
+const GUARDED: &[u8] = b"address 2:5020/1042@fidonet\nnode 2:5047/13 - tanstaaftanstaaf\n";
+
 // What came of a session: its status, what was written behind the greeting, and how many files were received.
 fn came_of(
     alloc: Global,
     pieces: &[&[u8]],
     behind: &[&[u8]],
 ) -> Result<(Status, bool, usize), NoMemory> {
+    came_by(alloc, SETTINGS, pieces, behind)
+}
+
+// The same by these settings.
+fn came_by(
+    alloc: Global,
+    text: &[u8],
+    pieces: &[&[u8]],
+    behind: &[&[u8]],
+) -> Result<(Status, bool, usize), NoMemory> {
     let call = joined(alloc, pieces)?;
     let mut line = fast_line(alloc, call.as_slice())?;
-    let (status, store) = answer(alloc, new_store(alloc), &mut line)?;
+    let (status, store) = answer_by(alloc, text, new_store(alloc), &mut line)?;
     let mut wanted = joined(alloc, &[GREETING])?;
     wanted.push_slice(joined(alloc, behind)?.as_slice())?;
     let as_wanted = line.written() == wanted.as_slice();
@@ -90,8 +104,9 @@ fn a_frame_in_place_of_the_password(rt: HostRuntime) -> Result<(), Fail> {
     }
     let came = came_of(alloc, &[ADDRESS, OK, OFFER, DATA], &[BROKEN_FRAME])?;
     assert_eq!(rt; came, (Status::Broke(Cause::OutOfTurn, 3), true, 0));
-    let came = came_of(alloc, &[ADDRESS, SECRET, OFFER, DATA], &[BAD_PASSWORD])?;
-    assert_eq!(rt; came, (Status::BadPassword, true, 0));
+    // No password is set for that node, so any will do.
+    let came = came_of(alloc, &[ADDRESS, SECRET, OFFER, DATA], &[WELCOME, GOT])?;
+    assert_eq!(rt; came, (Status::Dropped, true, 1));
     for frame in later {
         let came = came_of(alloc, &[ADDRESS, frame, OFFER], &[BROKEN_FRAME])?;
         assert_eq!(rt; came, (Status::Broke(Cause::OutOfTurn, 2), true, 0));
@@ -189,6 +204,34 @@ fn a_peer_that_breaks_off_ends_the_session_unanswered(rt: HostRuntime) -> Result
         assert_eq!(rt; came, (Status::PeerError(text), true, 0));
         let came = came_of(alloc, &[before, BUSY, END], &[behind])?;
         assert_eq!(rt; came, (Status::PeerBusy, true, 0));
+    }
+    Ok(())
+}
+
+#[test]
+fn a_guarded_node_is_let_in_by_its_password_alone(rt: HostRuntime) -> Result<(), Fail> {
+    let alloc = rt.alloc();
+    let secure: &[u8] = b"\x80\x07\x04secure";
+    // By the challenge of sixteen zero bytes, as any implementation of HMAC-MD5 has it.
+    let answer: &[u8] = b"\x80\x2a\x02CRAM-MD5-3f20953afd80c1cf8a67c4084eccdd99";
+    let plain: &[u8] = b"\x80\x11\x02tanstaaftanstaaf";
+    for password in &[answer, plain] {
+        let came = came_by(
+            alloc,
+            GUARDED,
+            &[ADDRESS, password, OFFER, DATA],
+            &[secure, GOT],
+        )?;
+        assert_eq!(rt; came, (Status::Dropped, true, 1));
+    }
+    for password in &[SECRET, PASSWORD] {
+        let came = came_by(
+            alloc,
+            GUARDED,
+            &[ADDRESS, password, OFFER, DATA],
+            &[BAD_PASSWORD],
+        )?;
+        assert_eq!(rt; came, (Status::BadPassword, true, 0));
     }
     Ok(())
 }

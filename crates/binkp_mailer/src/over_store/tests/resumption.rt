@@ -2,7 +2,7 @@
 ghost use Rattle.std.specs.Prelude.{◌≡◌, IfOk};
 ghost use Rattle.hub_core.specs.Opening.{IsWhole, no_seats};
 ghost use Rattle.list_store.specs.ListStates.{stand_of};
-ghost use Rattle.node_model.specs.Node.{plain_settings};
+ghost use Rattle.node_model.specs.Node.{Settings};
 
 use super::*;
 
@@ -14,7 +14,7 @@ const GET_FROM_0: &[u8] = b"\x80\x15\x09a.txt 5 1000000000 0";
 
 // A session that breaks off behind two bytes of the file.
 fn broken_off(alloc: Global) -> Result<(Status, ListStore), NoMemory>
-    ensures { IfOk result (λ after. IsWhole (stand_of after.1) (no_seats plain_settings)) }
+    ensures { IfOk result (λ after. (settings : Settings) → IsWhole (stand_of after.1) (no_seats settings)) }
 {
     let call = joined(alloc, &[LOGIN, OFFER, b"\x00\x02he"])?;
     let mut line = fast_line(alloc, call.as_slice())?;
