@@ -7,6 +7,7 @@ use Rattle.ledger_rec.specs.Payloads.{fold_of}
 use Rattle.node_model.specs.StoreStates.{Shelf, shelf_of, StoreStand}
 use Rattle.node_model.specs.Stores.{StoreCall, StoreAnswer, StoreMade, StoreKept, OpensShelf, IsShelf}
 use Rattle.node_model.proofs.Lists.{off}
+use Rattle.node_store.specs.Takes.{no_takes}
 use Rattle.node_store.specs.Worlds.{shelf_in, OpensAs}
 use Rattle.node_store.specs.Stored.{Memory, stored_in, state_of, stand_of, left_of, IsKept}
 use Rattle.node_store.proofs.Openings.{opens_to, opens_weaker}
@@ -24,7 +25,7 @@ kept_opens tells t told m folds w kept =
 
 module _ {D : Type 0} (tells : Bool) (content : D → World) (faults : D → ℕ) (moment : D → ℕ) (images : D → ℕ → World → Type 0) where
   abbrev pub standing : D → Memory → StoreStand
-  standing disk m = stand_of tells content faults moment images (record { disk = disk; memory = m })
+  standing disk m = stand_of tells content faults moment images (record { disk = disk; takes = no_takes; memory = m })
 
   -- what a stop now leaves is what is told
   pub settled : (disk : D) (told : World) (m : Memory) → fold_of m.books.payloads ≡ Some m.books.folding.state → Every (Now moment images disk) (IsKept tells told m)

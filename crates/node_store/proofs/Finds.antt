@@ -10,7 +10,9 @@ use Rattle.node_store.specs.Books.{Books}
 use Rattle.node_store.specs.Finding.{IsFound}
 use Rattle.node_store.specs.Keeping.{AreReceipts, IsUntouched, Finds, given_in}
 use Rattle.node_store.specs.Opening.{IsNewBooks, IsRefused, Recovers}
+use Rattle.node_store.specs.Standing.{StandSo}
 use Rattle.node_store.specs.Strays.{HasNoStray}
+use Rattle.node_store.specs.Takes.{Takes}
 use Rattle.node_store.specs.Tending.{IsTended, HasCutParts}
 use Rattle.node_store.specs.Worlds.{IsBadFile, Of_entry, Of_mark, Of_receipt, LedgerOf}
 use Rattle.node_store.specs.declared.opening.fault.StoreOpenFault.{StoreOpenFault}
@@ -66,9 +68,9 @@ module _ {D : Type 0} (files : D → World → Type 0) (moment : D → ℕ) (ima
     pub tidy_read : Follows Recovers (files old) (files mid) → Follows Recovers (files old) (files new)
     tidy_read first = reads-then (files old) (files next) (files new) (look_read first) read
 
-    pub is_found : (given : List ℕ) → AreReceipts given b.folding.state.inbox → Every (files next) (λ f. given ≡ given_in f b.folding.state.inbox) → IsTended files moment images b.payloads b.folding.state next → IsTended files moment images b.payloads b.folding.state new
-        → Every (files new) (HasNoStray b.folding.state) → Every (files new) (HasCutParts b.folding.state) → IsFound files moment images tells content b given old new
-    is_found given receipts given_is was tended none cut = record {
+    pub is_found : (given : List ℕ) (takes : Takes) → AreReceipts given b.folding.state.inbox → Every (files next) (λ f. given ≡ given_in f b.folding.state.inbox) → IsTended files moment images b.payloads b.folding.state next → IsTended files moment images b.payloads b.folding.state new
+        → Every (files new) (HasNoStray b.folding.state) → Every (files new) (HasCutParts b.folding.state) → StandSo (files new) b.folding.state takes → IsFound files moment images tells content b given takes old new
+    is_found given takes receipts given_is was tended none cut standing = record {
       books = is;
       tended = tended;
       receipts = receipts;
@@ -78,4 +80,5 @@ module _ {D : Type 0} (files : D → World → Type 0) (moment : D → ℕ) (ima
       opened = λ t. found_opens b.payloads b.folding.state is.folds (content old) (content next) (ledger t) (still_same t) (was.fits (content next) (told t next));
       strays = none;
       parts = cut;
+      standing = standing;
     }

@@ -1,19 +1,25 @@
+mod CopyPieces
 mod Counted
 mod Cutting
 mod Finds
 mod Folds
 mod FoundLedger
 mod Greatest
+mod HeldTakes
 mod Kept
 mod ListedItems
+mod MovedTakes
 mod Looked
 mod OpenSound
 mod Opened
+mod Passed
 pub mod OpenedNodes
 mod Recovering
 mod Removing
 mod Requests
 mod Rest
+mod StagedTakes
+mod Standing
 mod Straying
 mod Tended
 mod Unrefused

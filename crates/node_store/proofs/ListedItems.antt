@@ -13,15 +13,16 @@ use Rattle.disk_model.specs.Changes.{Stands}
 use Rattle.disk_model.specs.Folders.{ListsFiles}
 use Rattle.ledger_rec.specs.Fold.{State}
 use Rattle.node_model.specs.Lists.{Each, Member}
-use Rattle.node_store.specs.Tending.{AreDistinct, HasRest}
+use Rattle.node_store.specs.Names.{AreDistinct}
+use Rattle.node_store.specs.Tending.{HasRest}
 use Rattle.node_store.proofs.Cutting.{each_member}
 
-contained : {A : Type 0} (xs : List A) (x : A) (k : ℕ) → k < length xs → get_or xs k x ≡ x → Member x xs
+pub contained : {A : Type 0} (xs : List A) (x : A) (k : ℕ) → k < length xs → get_or xs k x ≡ x → Member x xs
 contained [] x k lt is = absurd (omega (arith, lt))
 contained (y ∷ xs) x zero lt is = inl (sym is)
 contained (y ∷ xs) x (suc k) lt is = inr (contained xs x k (omega (arith, lt)) is)
 
-containing : {A : Type 0} (xs : List A) (x : A) → Member x xs → Contains xs x
+pub containing : {A : Type 0} (xs : List A) (x : A) → Member x xs → Contains xs x
 containing [] x there = absurd there
 containing (y ∷ xs) x (inl is) = (0, omega arith, sym is)
 containing (y ∷ xs) x (inr there) = let h = containing xs x there in (suc h.0, omega (arith, h.1), h.2)
@@ -36,7 +37,7 @@ others : (x : List ℕ) (ys : List (List ℕ)) → AllByRecursion (λ y. slice_c
 others x [] all = tt
 others x (y ∷ ys) all = (less_other x y all.0, others x ys all.1)
 
-distinct : (names : List (List ℕ)) → IsStrictlySortedBy (slice_cmp nat_cmp) names → AreDistinct names
+pub distinct : (names : List (List ℕ)) → IsStrictlySortedBy (slice_cmp nat_cmp) names → AreDistinct names
 unfolding IsStrictlySortedBy
 distinct [] sorted = tt
 distinct (x ∷ xs) sorted = (others x xs sorted.0, distinct xs sorted.1)

@@ -1,5 +1,5 @@
 -- A store that was opened is sound, and tells what was opened.
-use Rattle.std.proofs.Common.{◌≡◌, inl, ◌≤◌, ℕ, List, length, Bool, true, refl, sym, ◌∙◌, ap, subst, arith}
+use Rattle.std.proofs.Common.{◌≡◌, inl, ◌≤◌, ℕ, List, length, Bool, true, false, refl, sym, ◌∙◌, ap, subst, arith}
 use Rattle.disk_model.specs.World.{World}
 use Rattle.disk_model.specs.Changes.{Every, Follows}
 use Rattle.disk_model.specs.Moments.{Now}
@@ -12,7 +12,9 @@ use Rattle.node_store.specs.Books.{Books, IsBooks}
 use Rattle.node_store.specs.Finding.{IsFound, IsOpened}
 use Rattle.node_store.specs.Keeping.{AreReceipts, given_in}
 use Rattle.node_store.specs.Opening.{IsNewBooks, IsTidied, Recovers, greatest, opened_memory}
-use Rattle.node_store.specs.Stored.{AreGone, IsSound, IsKept, stored_in}
+use Rattle.node_store.specs.Stored.{AreGone, IsSound, IsKept, Memory, state_of, stored_in}
+use Rattle.node_store.specs.Standing.{StandSo}
+use Rattle.node_store.specs.Takes.{AreTakesOf, Takes}
 use Rattle.node_store.specs.Tending.{IsTended, Mirrors}
 use Rattle.node_store.specs.Worlds.{HasFiles, shelf_in}
 use Rattle.node_store.proofs.Alike.{AreAlike, alike_shelf, alike_files, all_by}
@@ -67,9 +69,9 @@ module _ {D : Type 0} (files : D → World → Type 0) (moment : D → ℕ) (ima
 
 -- what the disk read before opened to what is told now
 pub opened_told : {D : Type 0} (files : D → World → Type 0) (moment : D → ℕ) (images : D → ℕ → World → Type 0) (tells : Bool) (content : D → World) (as_read : (d : D) (w : World) → files d w → Now moment images d w)
-    (reads : (d : D) (w : World) → files d w → (tells ≡ true) × (w ≡ content d)) (told : tells ≡ true → (d : D) → files d (content d)) (old new : D) (b : Books) (given : List ℕ)
-    → IsFound files moment images tells content b given old new → Follows Recovers (files old) (files new) → tells ≡ true → IsOpened (content old) (content new) (opened_memory b given)
-opened_told files moment images tells content as_read reads told old new b given found read t =
+    (reads : (d : D) (w : World) → files d w → (tells ≡ true) × (w ≡ content d)) (told : tells ≡ true → (d : D) → files d (content d)) (old new : D) (b : Books) (given : List ℕ) (takes : Takes)
+    → IsFound files moment images tells content b given takes old new → Follows Recovers (files old) (files new) → tells ≡ true → IsOpened (content old) (content new) (opened_memory b given)
+opened_told files moment images tells content as_read reads told old new b given takes found read t =
     let s = b.folding.state in
     let p = read (content new) (told t new) in
     let back : Recovers (content old) (content new) = subst (λ (w : World). Recovers w (content new)) (reads old p.0 p.1).1 p.2 in
@@ -89,3 +91,9 @@ opened_told files moment images tells content as_read reads told old new b given
 pub content_recovers : {D : Type 0} (files : D → World → Type 0) (tells : Bool) (content : D → World) (reads : (d : D) (w : World) → files d w → (tells ≡ true) × (w ≡ content d)) (told : tells ≡ true → (d : D) → files d (content d)) (old new : D)
     → Follows Recovers (files old) (files new) → tells ≡ true → Recovers (content old) (content new)
 content_recovers files tells content reads told old new read t = let p = read (content new) (told t new) in subst (λ (w : World). Recovers w (content new)) (reads old p.0 p.1).1 p.2
+
+-- the takes that were found are the store's
+pub opened_takes : {D : Type 0} (files : D → World → Type 0) (tells : Bool) (content : D → World) (told : tells ≡ true → (d : D) → files d (content d)) (disk : D) (m : Memory) (faults : ℕ) (t : Takes)
+    → StandSo (files disk) m.books.folding.state t → AreTakesOf t (state_of tells (content disk) faults m)
+opened_takes files true content told disk m faults t so = record { recorded = so.recorded; left = so.left; standing = (so.apart (content disk) (told refl disk), so.standing (content disk) (told refl disk)) }
+opened_takes files false content told disk m faults t so = record { recorded = so.recorded; left = so.left; standing = tt }

@@ -7,13 +7,15 @@ use Rattle.node_store.specs.Keeping.{AreReceipts, given_in}
 use Rattle.node_model.specs.StoreStates.{Shelf, shelf_of}
 use Rattle.node_store.specs.Opening.{IsNewBooks, IsTidied, opened_memory}
 use Rattle.node_store.specs.Stored.{Holding, Memory, stored_in}
+use Rattle.node_store.specs.Standing.{StandSo}
 use Rattle.node_store.specs.Strays.{HasNoStray}
+use Rattle.node_store.specs.Takes.{Takes}
 use Rattle.node_store.specs.Tending.{HasCutParts, IsTended}
 use Rattle.node_store.specs.Worlds.{OpensAs, shelf_in}
 
--- The books, and the receipts whose files were given: the disk read so before, and reads so now, with no stray and no part
--- longer than its mark.
-pub record IsFound {D : Type 0} (files : D → World → Type 0) (moment : D → ℕ) (images : D → ℕ → World → Type 0) (tells : Bool) (content : D → World) (b : Books) (given : List ℕ) (old new : D) : Type 0 where
+-- The books, the receipts whose files were given, and the takes that stand: the disk read so before, and reads so now, with no
+-- stray and no part longer than its mark.
+pub record IsFound {D : Type 0} (files : D → World → Type 0) (moment : D → ℕ) (images : D → ℕ → World → Type 0) (tells : Bool) (content : D → World) (b : Books) (given : List ℕ) (takes : Takes) (old new : D) : Type 0 where
   pub books : IsNewBooks b
   pub tended : IsTended files moment images b.payloads b.folding.state new
   pub are_given : Every (files new) (λ f. given ≡ given_in f b.folding.state.inbox)
@@ -21,6 +23,7 @@ pub record IsFound {D : Type 0} (files : D → World → Type 0) (moment : D →
   pub opened : tells ≡ true → OpensAs (content old) (shelf_in (content old) b.folding.state)
   pub strays : Every (files new) (HasNoStray b.folding.state)
   pub parts : Every (files new) (HasCutParts b.folding.state)
+  pub standing : StandSo (files new) b.folding.state takes
 
 -- The store that was opened: what the disk read before opened to what it tells now, but for recorded takes; no stray is left,
 -- and each part has the length of its mark.

@@ -3,6 +3,7 @@ pub mod Asking
 pub mod Beginnings
 pub mod Books
 pub mod Contents
+pub mod Copying
 pub mod Finding
 pub mod Gifts
 pub mod Giving
@@ -17,8 +18,10 @@ pub mod Outlines
 pub mod Planned
 pub mod Recording
 pub mod Sounds
+pub mod Standing
 pub mod Stored
 pub mod Strays
+pub mod Takes
 pub mod Taking
 pub mod Tending
 pub mod Tied

@@ -5,6 +5,7 @@ use Rattle.std.specs.List.{list_all}
 use Rattle.ftn_addr.specs.Address.{Address}
 use Rattle.node_model.specs.declared.words.Flavour.{Flavour}
 use Rattle.node_model.specs.declared.words.Flavour.TheVariants.{Immediate, Crash, Direct, Normal, Hold}
+use Rattle.node_model.specs.Lists.{Each}
 use Rattle.node_store.specs.declared.names.MarkKind.{MarkKind}
 use Rattle.node_store.specs.declared.names.MarkKind.TheVariants.{Busy, Call}
 use Rattle.node_store.specs.declared.names.TakeKind.{TakeKind}
@@ -122,3 +123,8 @@ take_number name = if is_take_form name then hex_value (take 8 (drop 1 name)) el
 abbrev pub NumberOf : (ℕ → List ℕ) → Option ℕ → List ℕ → Type 0
 NumberOf named (Some number) name = name ≡ named number
 NumberOf named None name = (number : ℕ) → number < 2 ^ 32 → name ≢ named number
+
+-- no two of these names are the same
+abbrev pub AreDistinct : List (List ℕ) → Type 0
+AreDistinct [] = Unit {0}
+AreDistinct (name ∷ names) = Each (λ (other : List ℕ). other ≢ name) names × AreDistinct names

@@ -20,6 +20,7 @@ use Rattle.node_store.specs.Books.{Books, IsBooks}
 use Rattle.node_store.specs.Contents.{Contents, durable_by}
 use Rattle.node_store.specs.Logs.{log_of}
 use Rattle.node_store.specs.Names.{in_name, out_name}
+use Rattle.node_store.specs.Takes.{Takes}
 use Rattle.node_store.specs.Worlds.{bytes_of, or_else, gift_of, is_absent, outside_in, gift_told, takes_in, shelf_in, HasLength, HasFiles, Opens}
 
 -- an open part: its number, from whom, of which file, and how many bytes it has; the record of its receipt; and those of its
@@ -53,9 +54,10 @@ pub record Memory : Type 0 where
   pub fulls : ℕ
   pub broken : Option ℕ
 
--- a store, with its disk
+-- a store, with its disk and the takes that stand
 pub record Holding (D : Type 0) : Type 0 where
   pub disk : D
+  pub takes : Takes
   pub memory : Memory
 
 -- What it tells.

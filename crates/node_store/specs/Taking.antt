@@ -1,7 +1,8 @@
 -- Calls that take outside files into the own folder, and remove them there once they are taken in (own).
-use Rattle.std.specs.Prelude.{◌≡◌, ℕ, ◌≤◌, true, false, List, Option, Some, None, Result, Ok, Err, option_map, if◌then◌else◌, IsSome}
+use Rattle.std.specs.Prelude.{◌≡◌, ℕ, ◌+◌, ◌≤◌, true, false, List, Option, Some, None, Result, Ok, Err, option_map, if◌then◌else◌, IsSome, length}
 use Rattle.std.specs.Str.{bytes_eq}
-use Rattle.ftn_addr.specs.Counts.{Increased}
+use Rattle.ftn_addr.specs.Counts.{Increased, next_count}
+use Rattle.ftn_addr.specs.declared.limits.TheConstants.{MAX_NUMBER}
 use Rattle.ftn_addr.specs.Moments.{MomentsGrew}
 use Rattle.disk_model.specs.declared.answers.Moved.{Moved}
 use Rattle.disk_model.specs.declared.answers.Moved.TheVariants.{Done, Absent}
@@ -10,8 +11,10 @@ use Rattle.node_model.specs.declared.store.StoreFault.{StoreFault}
 use Rattle.node_model.specs.declared.store.StoreFault.TheVariants.{Disk, Read, Full, NoMemory}
 use Rattle.node_model.specs.Outside.{OutFile, OutFiles, put_at}
 use Rattle.node_model.specs.StoreStates.{Shelf, Stored, StoreState, StoreStand, IfTold}
-use Rattle.node_model.specs.Stores.{OpensShelf, IsShelf}
+use Rattle.node_model.specs.Stores.{OpensShelf, IsShelf, Refuses, Stage, Staged_as, StoreKept}
 use Rattle.node_store.specs.Names.{take_number}
+use Rattle.node_store.specs.Stored.{Holding}
+use Rattle.node_store.specs.Takes.{with_drawn}
 
 -- the takes that stand, by their own names, and the files of other programs
 pub record Around : Type 0 where
@@ -86,12 +89,19 @@ pub record Takes {T : Type 0} (does : T → Around → Around) (result : Result 
   pub since : (k : ℕ) (d : Option Shelf) → old.moment ≤ k → k ≤ new.moment → new.images k d → OpensShelf (λ shelf. (made : Option T) × MadeOf result made × IsShelf (with_around (made_so does made) old.state).content shelf) d
   pub now : new.state.counts.broken ≡ None → (d : Option Shelf) → new.images new.moment d → OpensShelf (IsShelf new.state.content) d
 
--- the name of a take whose number isn't recorded, and that doesn't stand
-pub record IsFreeTake (own : List ℕ) (s : StoreState) : Type 0 where
-  pub take : ℕ
-  pub named : take_number own ≡ Some take
+-- No take has that number: it isn't recorded, and no take of it stands.
+pub record IsFreshTake (take : ℕ) (s : StoreState) : Type 0 where
   pub unrecorded : is_among take s.recorded ≡ false
-  pub free : IfTold s.content (λ a. a.takes own ≡ None)
+  pub free : IfTold s.content (λ a. (own : List ℕ) → take_number own ≡ Some take → a.takes own ≡ None)
+
+-- The number behind the last is drawn; without memory nothing changes; where the last is the greatest, the count of such refusals
+-- rises alone.
+abbrev pub DrawsTake : {D : Type 0} → Result ℕ StoreFault → Holding D → Holding D → Type 0
+DrawsTake (Ok take) old new = (take ≡ old.takes.last + 1) × (new ≡ record old { takes = with_drawn old.takes })
+DrawsTake (Err Disk) old new = ⊥
+DrawsTake (Err Read) old new = ⊥
+DrawsTake (Err Full) old new = (old.takes.last ≡ MAX_NUMBER) × (new ≡ record old { memory = record old.memory { fulls = next_count old.memory.fulls } })
+DrawsTake (Err NoMemory) old new = new ≡ old
 
 -- the name of a take whose number is recorded, and that stands
 pub record IsRecordedTake (own : List ℕ) (s : StoreState) : Type 0 where
@@ -99,3 +109,14 @@ pub record IsRecordedTake (own : List ℕ) (s : StoreState) : Type 0 where
   pub named : take_number own ≡ Some take
   pub recorded : is_among take s.recorded ≡ true
   pub stands : IfTold s.content (λ a. IsSome (a.takes own))
+
+-- the name of a take that stands
+pub record IsStandingTake (own : List ℕ) (s : StoreState) : Type 0 where
+  pub take : ℕ
+  pub named : take_number own ≡ Some take
+  pub stands : IfTold s.content (λ a. IsSome (a.takes own))
+
+-- The bytes of a take are staged, which are so many.
+abbrev pub StagesOwn : List ℕ → Result (ℕ × ℕ) StoreFault → StoreStand → StoreStand → Type 0
+StagesOwn own (Ok staged) old new = (bytes : List ℕ) × (length bytes ≡ staged.1) × IfTold old.state.content (λ a. a.takes own ≡ Some bytes) × StoreKept old (Stage bytes) (Staged_as staged.0) new
+StagesOwn own (Err fault) old new = (bytes : List ℕ) × IfTold old.state.content (λ a. a.takes own ≡ Some bytes) × StoreKept old (Stage bytes) (Refuses fault) new

@@ -1,5 +1,5 @@
 -- A disk that an opening has looked through: what it still changes, and what stays (own).
-use Rattle.std.specs.Prelude.{◌≡◌, ◌≢◌, ℕ, ◌≤◌, Bool, true, false, List, [], ◌∷◌, length, take, Some, None}
+use Rattle.std.specs.Prelude.{◌≡◌, ℕ, ◌≤◌, Bool, true, false, List, length, take, Some, None}
 use Rattle.std.specs.List.{AllByRecursion}
 use Rattle.disk_model.specs.Changes.{Every, OnOwn, Puts, Rewrites, SameAt, Stands}
 use Rattle.disk_model.specs.Moments.{Now}
@@ -10,7 +10,7 @@ use Rattle.ledger_rec.specs.Items.{Entry, Receipt, PartMark}
 use Rattle.ledger_rec.specs.Payloads.{fold_of}
 use Rattle.node_model.specs.Lists.{Each, Member}
 use Rattle.node_store.specs.Keeping.{Beside}
-use Rattle.node_store.specs.Names.{in_name, out_name, take_number}
+use Rattle.node_store.specs.Names.{AreDistinct, in_name, out_name, take_number}
 use Rattle.node_store.specs.Strays.{IsStray}
 use Rattle.node_store.specs.Worlds.{HasFiles, HasLength}
 
@@ -33,11 +33,6 @@ pub record IsNear (s : State) (f c : World) : Type 0 where
   pub outside : c.outside ≡ f.outside
   pub gifts : c.gifts ≡ f.gifts
   pub absent : AllByRecursion (λ (r : Receipt). f.own (in_name r.number) ≡ None → c.own (in_name r.number) ≡ None) s.inbox
-
--- no two of these names are the same
-abbrev pub AreDistinct : List (List ℕ) → Type 0
-AreDistinct [] = Unit {0}
-AreDistinct (name ∷ names) = Each (λ (other : List ℕ). other ≢ name) names × AreDistinct names
 
 -- A stop now leaves the ledger of these payloads, and of the fold the same as is read; and what is read has its files.
 pub record IsTended {D : Type 0} (files : D → World → Type 0) (moment : D → ℕ) (images : D → ℕ → World → Type 0) (payloads : List (List ℕ)) (s : State) (disk : D) : Type 0 where

@@ -10,17 +10,17 @@
 //! ```
 //!
 //! Its files, from the bottom: `digits` and `names` are the names of own files; `spelling` is the text of a record; `recording`
-//! makes files durable and then their records; `books` is the ledger in memory with its fold, and `batches` appends some records
+//! makes files durable and then their records, and `copying` copies own files; `books` is the ledger in memory with its fold, and `batches` appends some records
 //! to it together; `lookups` finds files in the fold, and `offers` the next one for an address; `part` has open parts and staged
 //! files, `readying` makes the file of a part ready, and `planning` says what queueing files will write; `store` is the store.
 //! Its calls stand in `beginning`, `marking`, `committing` and `refusing` (a part is opened, marked, becomes a receipt or is
 //! refused), `staging` and `queueing` (files are staged, and then queued), `queued` (queued files), `acting` (their sources are
 //! acted on), `reading` and `giving` (received files are given), where `round` says which comes next, and `waiting` how many are
 //! left; `asking` has those that only ask the disk, of outside files and of files that were taken, and `taking` those that move
-//! outside files into the own folder and remove them there. `opening` makes the store of a disk, and `store_calls` makes it a
+//! outside files into the own folder and remove them there, whose list `takes` has. `opening` makes the store of a disk, and `store_calls` makes it a
 //! store. `laws` says what holds of every name, ledger and world.
 //!
-//! Left out: a number for the next take, the list of those that stand, and the marks in the outbound that an opening takes away.
+//! Left out: the marks in the outbound, and that an opening takes those away which a stop of this mailer left.
 #![tactic(auto)]
 
 mod acting;
@@ -29,6 +29,7 @@ mod batches;
 mod beginning;
 mod books;
 mod committing;
+mod copying;
 mod digits;
 mod giving;
 mod laws;
@@ -50,6 +51,7 @@ mod spelling;
 mod staging;
 mod store;
 mod store_calls;
+mod takes;
 mod taking;
 #[cfg(test)]
 mod tests;
@@ -66,3 +68,4 @@ pub use names::{
 };
 pub use opening::{Recovery, StoreOpenFault};
 pub use store::NodeStore;
+pub use takes::TakeName;

@@ -1,11 +1,12 @@
 //! Opening a store.
-ghost use Rattle.std.specs.Prelude.{◌≡◌, ◌⊎◌, ◌≤◌, true, IfErr, IfOk, OnOk};
+ghost use Rattle.std.specs.Prelude.{◌≡◌, ◌⊎◌, ◌≤◌, true, length, IfErr, IfOk, OnOk};
 ghost use Rattle.disk_model.specs.Changes.{Every};
 ghost use Rattle.disk_model.specs.Moments.{Leaves, Now};
 ghost use Rattle.ftn_addr.specs.Counts.{Increased};
 ghost use Rattle.node_store.specs.Finding.{IsNewMemory, IsOpened, disk_left};
 ghost use Rattle.node_store.specs.Keeping.{AreReceipts, given_in};
-ghost use Rattle.node_store.specs.Opening.{IsNewBooks, IsReady, IsRecovery, IsRefused, Recovers, opened_memory};
+ghost use Rattle.node_store.specs.Opening.{IsNewBooks, IsReady, IsRecovery, IsRefused, Recovers, counted as count_told, opened_memory};
+ghost use Rattle.node_store.specs.Standing.{StandSo};
 ghost use Rattle.node_store.specs.Tending.{IsTended};
 ghost use Rattle.node_store.specs.declared.opening.fault.StoreOpenFault.TheVariants.{Disk as DiskFailed, NoMemory as OutOfMemory};
 
@@ -18,10 +19,10 @@ mod looking;
 mod numbers;
 mod own_files;
 mod parts;
+mod standing;
 mod strays;
 mod tidying;
 
-use crate::books::Books;
 use crate::opening::finding::{Found, find};
 pub(crate) use crate::opening::numbers::count;
 use crate::opening::numbers::{counted, greatest, greatest_queued, kept, waiting};
@@ -41,6 +42,8 @@ pub struct Recovery {
     pub live: u32,
     /// Files that came in part.
     pub parts: u32,
+    /// Outside files that were taken, and wait to be taken in.
+    pub takes: u32,
     /// Own files that belonged to nothing, and were removed.
     pub removed: u32,
 }
@@ -60,12 +63,15 @@ fn of_found<D: Disk>(alloc: Global, disk: D, found: Found, text: Bytes) -> NodeS
     requires given { Every (D.files disk) (λ f. found.given.items ≡ given_in f found.books.folding.state.inbox) }
     requires receipts { AreReceipts found.given.items found.books.folding.state.inbox }
     requires room { 1400 ≤ text.spare }
+    requires standing { StandSo (D.files disk) found.books.folding.state found.takes }
     ensures disk { result.disk ≡ disk }
+    ensures takes { result.takes ≡ found.takes }
     ensures memory { result.memory ≡ opened_memory found.books found.given.items }
 {
     let Found {
         books,
         given,
+        takes,
         removed: _,
     } = found;
     let drawn = greatest(books.folded().parts());
@@ -76,6 +82,7 @@ fn of_found<D: Disk>(alloc: Global, disk: D, found: Found, text: Bytes) -> NodeS
         books,
         given,
         kept,
+        takes,
         parts: Vec::new(alloc),
         staged: Vec::new(alloc),
         drawn,
@@ -88,23 +95,25 @@ fn of_found<D: Disk>(alloc: Global, disk: D, found: Found, text: Bytes) -> NodeS
     }
 }
 
-// What was found in the books of a store.
-fn recovery_of(books: &Books, removed: u32) -> Recovery
-    ensures { IsRecovery books.now.folding.state result.live result.parts }
+// What was found of a store.
+fn recovery_of(found: &Found) -> Recovery
+    ensures books { IsRecovery found.now.books.folding.state result.live result.parts }
+    ensures takes { result.takes ≡ count_told (length found.now.takes.left) }
 {
-    let folded = books.folded();
+    let folded = found.books.folded();
     Recovery {
         live: waiting(folded.queue()),
         parts: counted(folded.marks().len()),
-        removed,
+        takes: counted(found.takes.left().len()),
+        removed: found.removed,
     }
 }
 
 impl<D: Disk> NodeStore<D> {
     /// Opens the store of a disk. `home` is the node's own address.
     ///
-    /// The ledger is read, or made where none stands, and folded. The own file of each live entry, of each mark, and of each
-    /// receipt whose file stands is made durable, so that what is opened outlives a stop whatever was unsynced before. Parts
+    /// The ledger is read, or made where none stands, and folded. The own file of each live entry, of each mark, of each receipt
+    /// whose file stands, and of each take that isn't recorded is made durable, so that what is opened outlives a stop whatever was unsynced before. Parts
     /// are cut to their marks, and own files that belong to nothing are removed: files in the making, queued files of no live
     /// entry, received files with neither mark nor receipt, and takes that are recorded.
     ///
@@ -121,6 +130,7 @@ impl<D: Disk> NodeStore<D> {
         ensures told { IfOk result (λ x. D.tells ≡ true → IsOpened (D.content disk) (D.content x.0.disk) x.0.memory) }
 
         ensures recovery { IfOk result (λ x. IsRecovery x.0.memory.books.folding.state x.1.live x.1.parts) }
+        ensures takes { IfOk result (λ x. x.1.takes ≡ count_told (length x.0.takes.left)) }
 
         // A world that opens is refused for want of memory or a failing disk alone.
         ensures refused { IfErr result (λ x. (x.1 ≡ DiskFailed) ⊎ ((x.1 ≡ OutOfMemory) ⊎ (D.tells ≡ true → IsRefused x.1 (D.content disk)))) }
@@ -140,7 +150,7 @@ impl<D: Disk> NodeStore<D> {
         };
         match find(alloc, &mut disk, home) {
             Ok(found) => {
-                let recovery = recovery_of(&found.books, found.removed);
+                let recovery = recovery_of(&found);
                 Ok((of_found(alloc, disk, found, text), recovery))
             }
             Err(fault) => Err((disk, fault)),

@@ -7,6 +7,7 @@ ghost use Rattle.node_model.specs.Stocks.{NewEntry};
 ghost use Rattle.node_model.specs.StoreWords.{IsNewBatch, entry_of, slot_of};
 ghost use Rattle.node_model.specs.Stores.{Queue_all, Refuses, Slots, StoreKept};
 ghost use Rattle.node_store.specs.Stored.{Put, stand_of};
+ghost use Rattle.node_store.specs.Takes.{NotedSo};
 
 use crate::NodeStore;
 use crate::part::StagedFile;
@@ -51,7 +52,8 @@ impl<D: Disk> NodeStore<D> {
     ) -> Result<Vec<Slot>, StoreFault>
         requires whole { self.old.memory.broken ≡ None }
         requires batch { IsNewBatch take answered (map entry_of files.now) (stand_of D.tells D.content D.fault_count D.moment D.images self.old).state }
-        ensures { MatchResult result (λ slots. StoreKept (stand_of D.tells D.content D.fault_count D.moment D.images self.old) (Queue_all take answered (map entry_of files.now)) (Slots (map slot_of slots.items)) (stand_of D.tells D.content D.fault_count D.moment D.images self.new)) (λ fault. StoreKept (stand_of D.tells D.content D.fault_count D.moment D.images self.old) (Queue_all take answered (map entry_of files.now)) (Refuses fault) (stand_of D.tells D.content D.fault_count D.moment D.images self.new)) }
+        ensures noted { NotedSo take result self.old.takes self.new.takes }
+        ensures kept { MatchResult result (λ slots. StoreKept (stand_of D.tells D.content D.fault_count D.moment D.images self.old) (Queue_all take answered (map entry_of files.now)) (Slots (map slot_of slots.items)) (stand_of D.tells D.content D.fault_count D.moment D.images self.new)) (λ fault. StoreKept (stand_of D.tells D.content D.fault_count D.moment D.images self.old) (Queue_all take answered (map entry_of files.now)) (Refuses fault) (stand_of D.tells D.content D.fault_count D.moment D.images self.new)) }
     {
         // With the records of a batch the fold goes on, one step after another.
         more_records_fold_on();
@@ -75,6 +77,7 @@ impl<D: Disk> NodeStore<D> {
         {
             Ok(()) => {
                 unstage(files, &mut self.staged);
+                self.takes.note(take);
                 Ok(slots)
             }
             Err(AppendFault::NoMemory) => Err(StoreFault::NoMemory),

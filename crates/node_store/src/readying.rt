@@ -11,8 +11,8 @@ use disk_model::{Disk, Made, Name};
 use ftn_addr::Failed;
 use node_model::PartAt;
 
-// Makes an own file empty, which it makes where there is none.
-fn make_empty<D: Disk>(disk: &mut D, name: &Name) -> Result<(), Failed>
+/// Makes an own file empty, which it makes where there is none.
+pub(crate) fn make_empty<D: Disk>(disk: &mut D, name: &Name) -> Result<(), Failed>
     ensures ready { OnOk result (Every (D.files disk.new) (HasLength name.now 0)) }
     ensures read { Follows (Readies name.now 0) (D.files disk.old) (D.files disk.new) }
     ensures stop { Leaves D.moment D.images (Readies name.now 0) disk.old disk.new }

@@ -13,12 +13,14 @@ ghost use Rattle.node_model.specs.StoreStates.{shelf_of};
 ghost use Rattle.node_store.specs.Finding.{IsNewMemory};
 ghost use Rattle.node_store.specs.Sounds.{KeepsSound};
 ghost use Rattle.node_store.specs.Stored.{stand_of, stored_in};
+ghost use Rattle.node_store.specs.Takes.{AreTakesOf};
 ghost use Rattle.node_store.specs.Worlds.{OpensAs};
 
 use crate::books::Books;
 use crate::lookups::{known, mark_of};
 use crate::names::in_file;
 use crate::part::{OpenPart, StagedFile, grow, have_of};
+use crate::takes::{StandingTakes, TakeName};
 use disk_model::Disk;
 use file_index::NumberSet;
 use ftn_addr::{Addr, Bytes, FileKey, MAX_NUMBER};
@@ -39,6 +41,7 @@ pub struct NodeStore<D: Disk> {
     pub(crate) books: Books,
     pub(crate) given: Vec<u32>,
     pub(crate) kept: NumberSet,
+    pub(crate) takes: StandingTakes,
     pub(crate) parts: Vec<OpenPart>,
     pub(crate) staged: Vec<StagedFile>,
     pub(crate) drawn: u32,
@@ -51,17 +54,19 @@ pub struct NodeStore<D: Disk> {
 }
 
 impl<D: Disk> Model for NodeStore<D> {
-    ghost use Rattle.std.specs.Prelude.{◌+◌, ◌≤◌, length};
+    ghost use Rattle.std.specs.Prelude.{◌≡◌, ◌+◌, ◌≤◌, None, length};
     ghost use Rattle.file_index.specs.Sets.{Kept};
     ghost use Rattle.node_store.specs.Giving.{is_kept};
-    ghost use Rattle.node_store.specs.Stored.{Holding, Memory, IsSound};
+    ghost use Rattle.node_store.specs.Stored.{Holding, Memory, IsSound, state_of};
+    ghost use Rattle.node_store.specs.Takes.{AreTakesOf};
 
     ghost Value = { Holding D };
 
-    ghost view = { λ s. record { disk = s.disk; memory = record { books = s.books; given = s.given.items; parts = s.parts.items; staged = s.staged.items; drawn = s.drawn; last_staged = s.last_staged; seat = s.seat; last_given = s.last_given; fulls = s.fulls; broken = s.broken } } };
+    ghost view = { λ s. record { disk = s.disk; takes = s.takes; memory = record { books = s.books; given = s.given.items; parts = s.parts.items; staged = s.staged.items; drawn = s.drawn; last_staged = s.last_staged; seat = s.seat; last_given = s.last_given; fulls = s.fulls; broken = s.broken } } };
 
-    // There is room for the text of a record; and the set keeps the receipts whose files weren't given.
-    ghost invariant = { λ s. IsSound D.tells D.content D.moment D.images s.disk (record { books = s.books; given = s.given.items; parts = s.parts.items; staged = s.staged.items; drawn = s.drawn; last_staged = s.last_staged; seat = s.seat; last_given = s.last_given; fulls = s.fulls; broken = s.broken }) × (1400 ≤ s.text.spare + length s.text.list) × Kept s.kept (is_kept s.given.items s.books.folding.state.inbox) };
+    // There is room for the text of a record; the set keeps the receipts whose files weren't given; and the takes are those of
+    // the store, unless the disk failed.
+    ghost invariant = { λ s. IsSound D.tells D.content D.moment D.images s.disk (record { books = s.books; given = s.given.items; parts = s.parts.items; staged = s.staged.items; drawn = s.drawn; last_staged = s.last_staged; seat = s.seat; last_given = s.last_given; fulls = s.fulls; broken = s.broken }) × (1400 ≤ s.text.spare + length s.text.list) × Kept s.kept (is_kept s.given.items s.books.folding.state.inbox) × (s.broken ≡ None → AreTakesOf s.takes (state_of D.tells (D.content s.disk) (D.fault_count s.disk) (record { books = s.books; given = s.given.items; parts = s.parts.items; staged = s.staged.items; drawn = s.drawn; last_staged = s.last_staged; seat = s.seat; last_given = s.last_given; fulls = s.fulls; broken = s.broken }))) };
 }
 
 // A number in four bytes is at most the greatest.
@@ -104,6 +109,15 @@ impl<D: Disk> NodeStore<D> {
     {
         self.books.holds_few();
         fits_four(self.drawn);
+    }
+
+    /// The takes that stand in the own folder, and aren't finished. Where the store tells what it keeps, these are all. It takes no
+    /// memory.
+    pub fn takes_left(&self) -> &[TakeName]
+        ensures left { result.now ≡ self.now.takes.left }
+        ensures all { self.now.memory.broken ≡ None → AreTakesOf self.now.takes (stand_of D.tells D.content D.fault_count D.moment D.images self.now).state }
+    {
+        self.takes.left()
     }
 
     /// How often a call of the disk failed.

@@ -11,16 +11,18 @@ use crate::books::Books;
 use crate::opening::fault::StoreOpenFault;
 use crate::opening::ledger::open_books;
 use crate::opening::looking::look_through;
-use crate::opening::tidying::tidy;
+use crate::opening::tidying::{Tidied, tidy};
+use crate::takes::StandingTakes;
 use disk_model::Disk;
 use ftn_addr::Addr;
 use std::alloc::Global;
 
-/// The books of a disk, the receipts whose files were given, and how many strays were removed.
+/// The books of a disk, the receipts whose files were given, the takes that stand, and how many strays were removed.
 #[derive(Drop)]
 pub(crate) struct Found {
     pub(crate) books: Books,
     pub(crate) given: Vec<u32>,
+    pub(crate) takes: StandingTakes,
     pub(crate) removed: u32,
 }
 
@@ -31,7 +33,7 @@ pub(crate) fn find<D: Disk>(
     home: &Addr,
 ) -> Result<Found, StoreOpenFault>
     requires ready { D.tells ≡ true → Every (Now D.moment D.images disk.old) (IsReady (D.content disk.old)) }
-    ensures found { IfOk result (λ x. IsFound D.files D.moment D.images D.tells D.content x.books x.given.items disk.old disk.new) }
+    ensures found { IfOk result (λ x. IsFound D.files D.moment D.images D.tells D.content x.books x.given.items x.takes disk.old disk.new) }
     ensures refused { IfErr result (λ fault. (fault ≡ DiskFailed) ⊎ ((fault ≡ OutOfMemory) ⊎ (D.tells ≡ true → IsRefused fault (D.content disk.old)))) }
     ensures stop { D.tells ≡ true → Leaves D.moment D.images Recovers disk.old disk.new }
     ensures read { Follows Recovers (D.files disk.old) (D.files disk.new) }
@@ -45,10 +47,11 @@ pub(crate) fn find<D: Disk>(
         Ok(given) => given,
         Err(fault) => return Err(fault),
     };
-    match tidy(disk, &books) {
-        Ok(removed) => Ok(Found {
+    match tidy(alloc, disk, &books) {
+        Ok(Tidied { takes, removed }) => Ok(Found {
             books,
             given,
+            takes,
             removed,
         }),
         Err(fault) => Err(fault),

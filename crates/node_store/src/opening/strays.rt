@@ -37,7 +37,8 @@ fn is_received(number: u32, inbox: &[InboxItem]) -> bool
     inbox.iter().any(|item| item.receipt == number)
 }
 
-fn is_recorded(take: u32, takes: &[u32]) -> bool
+/// Whether a take is recorded.
+pub(crate) fn is_recorded(take: u32, takes: &[u32]) -> bool
     ensures { result ≡ is_among take takes.now }
 {
     takes.iter().any(|recorded| *recorded == take)

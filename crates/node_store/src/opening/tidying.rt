@@ -5,6 +5,7 @@ ghost use Rattle.disk_model.specs.Folders.{ListsFiles};
 ghost use Rattle.disk_model.specs.Moments.{Leaves};
 ghost use Rattle.node_store.specs.Keeping.{HasReason, IsUntouched};
 ghost use Rattle.node_store.specs.Opening.{Recovers};
+ghost use Rattle.node_store.specs.Standing.{StandSo};
 ghost use Rattle.node_store.specs.Strays.{HasNoStray};
 ghost use Rattle.node_store.specs.Tending.{HasCutParts, IsTended};
 ghost use Rattle.node_store.specs.declared.opening.fault.StoreOpenFault.TheVariants.{Disk as DiskFailed, NoMemory as OutOfMemory};
@@ -12,8 +13,11 @@ ghost use Rattle.node_store.specs.declared.opening.fault.StoreOpenFault.TheVaria
 use crate::books::Books;
 use crate::opening::fault::StoreOpenFault;
 use crate::opening::parts::cut_parts;
+use crate::opening::standing::keep_takes;
 use crate::opening::strays::remove_strays;
+use crate::takes::StandingTakes;
 use disk_model::{Disk, ListFault, Name};
+use std::alloc::Global;
 
 // The names of all own files.
 fn list_names<D: Disk>(disk: &mut D) -> Result<Vec<Name>, StoreOpenFault>
@@ -29,12 +33,24 @@ fn list_names<D: Disk>(disk: &mut D) -> Result<Vec<Name>, StoreOpenFault>
     }
 }
 
-/// Cuts the parts to their marks, removes strays, and says how many there were.
-pub(crate) fn tidy<D: Disk>(disk: &mut D, books: &Books) -> Result<u32, StoreOpenFault>
+/// What was found as the own files were tidied: the takes that stand, and how many strays were removed.
+#[derive(Drop)]
+pub(crate) struct Tidied {
+    pub(crate) takes: StandingTakes,
+    pub(crate) removed: u32,
+}
+
+/// Cuts the parts to their marks, makes the takes durable that stand, and removes strays.
+pub(crate) fn tidy<D: Disk>(
+    alloc: Global,
+    disk: &mut D,
+    books: &Books,
+) -> Result<Tidied, StoreOpenFault>
     requires { IsTended D.files D.moment D.images books.now.payloads books.now.folding.state disk.old }
     ensures tended { OnOk result (IsTended D.files D.moment D.images books.now.payloads books.now.folding.state disk.new) }
     ensures none { OnOk result (Every (D.files disk.new) (HasNoStray books.now.folding.state)) }
     ensures cut { OnOk result (Every (D.files disk.new) (HasCutParts books.now.folding.state)) }
+    ensures takes { IfOk result (λ x. StandSo (D.files disk.new) books.now.folding.state x.takes) }
     ensures stop { Leaves D.moment D.images Recovers disk.old disk.new }
     ensures read { Follows Recovers (D.files disk.old) (D.files disk.new) }
     ensures fault { IfErr result (λ fault. (fault ≡ DiskFailed) ⊎ (fault ≡ OutOfMemory)) }
@@ -44,11 +60,17 @@ pub(crate) fn tidy<D: Disk>(disk: &mut D, books: &Books) -> Result<u32, StoreOpe
         Ok(()) => (),
         Err(fault) => return Err(fault),
     }
-    match list_names(disk) {
-        Ok(names) => match remove_strays(disk, names.as_slice(), books) {
-            Ok(removed) => Ok(removed),
-            Err(fault) => Err(fault),
-        },
+    let names = match list_names(disk) {
+        Ok(names) => names,
+        Err(fault) => return Err(fault),
+    };
+    let recorded = books.folded().takes();
+    let takes = match keep_takes(alloc, disk, names.as_slice(), recorded) {
+        Ok(takes) => takes,
+        Err(fault) => return Err(fault),
+    };
+    match remove_strays(disk, names.as_slice(), books) {
+        Ok(removed) => Ok(Tidied { takes, removed }),
         Err(fault) => Err(fault),
     }
 }

@@ -5,7 +5,7 @@ use Rattle.ledger_rec.specs.Items.{Entry, Receipt, receipt}
 use Rattle.node_store.specs.Giving.{is_kept}
 use Rattle.node_store.specs.Opening.{greatest, opened_memory}
 use Rattle.node_store.specs.Stored.{IsSound, Memory}
-use Rattle.node_store.proofs.OpenSound.{opened_sound}
+use Rattle.node_store.proofs.OpenSound.{opened_sound, opened_takes}
 use Rattle.node_store.proofs.opening.of_found.Goals as goal
 
 pub invariant_of-result : goal.invariant_of-result
@@ -22,4 +22,5 @@ invariant_of-result g c =
       omega (arith, c.requires.room),
       subst (λ (l : List Receipt). Kept c.kept-kept.result (is_kept c.args.found.given.items l)) (c.inbox.ensures ∙ ap (λ (f : Folding). f.state.inbox) c.folded-3.ensures)
           (subst (λ (ns : List ℕ). Kept c.kept-kept.result (is_kept ns (map receipt c.inbox.result.now))) c.as_slice.ensures.value c.kept-kept.ensures),
+      λ still. opened_takes g.D.Disk.files g.D.Disk.tells g.D.Disk.content g.met.D.Disk.told c.args.disk m (g.D.Disk.fault_count c.args.disk) c.args.found.takes c.requires.standing,
     )

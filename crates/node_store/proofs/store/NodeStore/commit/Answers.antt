@@ -20,6 +20,11 @@ use Rattle.node_store.proofs.CommitCall.{IsCommitting, part_ungiven, whole_part,
 use Rattle.node_store.proofs.NameLaws.{in_not_ledger}
 use Rattle.node_store.proofs.PutCall.{stands}
 use Rattle.node_store.proofs.StillKept.{kept_in, kept_received}
+use Rattle.node_store.proofs.HeldTakes.{other_takes, same_takes}
+use Rattle.node_model.proofs.Lists.{none_some}
+use Rattle.node_store.proofs.Alike.{ledger_no_take}
+use Rattle.ledger_file.specs.Ledger.{ledger_name}
+use Rattle.node_store.proofs.OneRecord.{only_content}
 use Rattle.node_store.proofs.store.NodeStore.commit.Goals as goal
 
 pub close-requires : goal.close-requires
@@ -107,7 +112,7 @@ invariant_of-self g c =
     let synced = subst (λ (k : List ℕ). Every (Now g.D.Disk.moment g.D.Disk.images new) (IsSynced (g.D.Disk.files s.disk) k)) name c.in-Ok.ensures.synced in
     let sound = commit_sound g.D.Disk.tells g.D.Disk.content g.D.Disk.files g.D.Disk.fault_count g.D.Disk.moment g.D.Disk.images s.disk new m q c.args.session c.args.secure payload p b more.0 c.in-Ok.ensures.cause.calm durable synced c.unhold.ensures.books more.1 in
     let noted = subst (λ (k : ℕ). Kept c.note.new.self (λ n. is_kept s.given.items s.books.folding.state.inbox n || n == k)) (sym o.numbered) (c.note.ensures (is_kept s.given.items s.books.folding.state.inbox) c.self.invariant.2) in
-    (subst (λ (ps : List Part). IsSound g.D.Disk.tells g.D.Disk.content g.D.Disk.moment g.D.Disk.images new (record m { books = b; parts = ps })) others sound, c.spell.ensures.room, kept_received c.note.new.self s.given.items s.books.folding.state b.folding.state (new_receipt (received_text q c.args.session c.args.secure)) (ap (λ (x : State). x.inbox) more.0.folded) (part_ungiven m q is found) noted)
+    (subst (λ (ps : List Part). IsSound g.D.Disk.tells g.D.Disk.content g.D.Disk.moment g.D.Disk.images new (record m { books = b; parts = ps })) others sound, c.spell.ensures.room, kept_received c.note.new.self s.given.items s.books.folding.state b.folding.state (new_receipt (received_text q c.args.session c.args.secure)) (ap (λ (x : State). x.inbox) more.0.folded) (part_ungiven m q is found) noted, λ still. same_takes s.takes g.D.Disk.tells (g.D.Disk.content s.disk) (g.D.Disk.content new) (g.D.Disk.fault_count s.disk) (g.D.Disk.fault_count new) m _ _ refl refl (ap (λ (x : State). x.takes) more.0.folded) (λ t. other_takes ledger_name ledger_no_take (g.D.Disk.content s.disk) (g.D.Disk.content new) (only_content g.D.Disk.tells g.D.Disk.content g.D.Disk.files ledger_name s.disk new g.met.D.Disk.reads g.met.D.Disk.told c.record_file.ensures.read t).others) (c.self.invariant.3 still))
 
 pub returns-in-Ok : goal.returns-in-Ok
 returns-in-Ok g c =
@@ -139,9 +144,9 @@ returns-in-Ok g c =
     let durable = subst (λ (l : List (List ℕ)). Every (Now g.D.Disk.moment g.D.Disk.images new) (LedgerIs l)) same c.in-Ok.ensures.durable in
     let synced = subst (λ (k : List ℕ). Every (Now g.D.Disk.moment g.D.Disk.images new) (IsSynced (g.D.Disk.files s.disk) k)) name c.in-Ok.ensures.synced in
     let kept = commit_kept g.D.Disk.tells g.D.Disk.content g.D.Disk.files g.D.Disk.fault_count g.D.Disk.moment g.D.Disk.images s.disk new m q c.args.session c.args.secure payload p b more.0 c.in-Ok.ensures.cause.calm durable synced in
-    let moved = subst (λ (ps : List Part). StoreKept (stand_of g.D.Disk.tells g.D.Disk.content g.D.Disk.fault_count g.D.Disk.moment g.D.Disk.images (record { disk = s.disk; memory = m })) (Commit q.number c.args.session c.args.secure) Well (stand_of g.D.Disk.tells g.D.Disk.content g.D.Disk.fault_count g.D.Disk.moment g.D.Disk.images (record { disk = new; memory = record m { books = b; parts = ps } }))) others kept in
-    let numbered = subst (λ (k : ℕ). StoreKept (stand_of g.D.Disk.tells g.D.Disk.content g.D.Disk.fault_count g.D.Disk.moment g.D.Disk.images (record { disk = s.disk; memory = m })) (Commit k c.args.session c.args.secure) Well (stand_of g.D.Disk.tells g.D.Disk.content g.D.Disk.fault_count g.D.Disk.moment g.D.Disk.images (record { disk = new; memory = record m { books = b; parts = c.close.new.parts.items } }))) o.numbered moved in
-    subst (λ (x : Holding g.row.D.Denot). StoreKept (stand_of g.D.Disk.tells g.D.Disk.content g.D.Disk.fault_count g.D.Disk.moment g.D.Disk.images x) (Commit c.args.part c.args.session c.args.secure) Well (stand_of g.D.Disk.tells g.D.Disk.content g.D.Disk.fault_count g.D.Disk.moment g.D.Disk.images (record { disk = new; memory = record m { books = b; parts = c.close.new.parts.items } }))) c.self.view_is numbered
+    let moved = subst (λ (ps : List Part). StoreKept (stand_of g.D.Disk.tells g.D.Disk.content g.D.Disk.fault_count g.D.Disk.moment g.D.Disk.images (record { disk = s.disk; takes = s.takes; memory = m })) (Commit q.number c.args.session c.args.secure) Well (stand_of g.D.Disk.tells g.D.Disk.content g.D.Disk.fault_count g.D.Disk.moment g.D.Disk.images (record { disk = new; takes = s.takes; memory = record m { books = b; parts = ps } }))) others kept in
+    let numbered = subst (λ (k : ℕ). StoreKept (stand_of g.D.Disk.tells g.D.Disk.content g.D.Disk.fault_count g.D.Disk.moment g.D.Disk.images (record { disk = s.disk; takes = s.takes; memory = m })) (Commit k c.args.session c.args.secure) Well (stand_of g.D.Disk.tells g.D.Disk.content g.D.Disk.fault_count g.D.Disk.moment g.D.Disk.images (record { disk = new; takes = s.takes; memory = record m { books = b; parts = c.close.new.parts.items } }))) o.numbered moved in
+    subst (λ (x : Holding g.row.D.Denot). StoreKept (stand_of g.D.Disk.tells g.D.Disk.content g.D.Disk.fault_count g.D.Disk.moment g.D.Disk.images x) (Commit c.args.part c.args.session c.args.secure) Well (stand_of g.D.Disk.tells g.D.Disk.content g.D.Disk.fault_count g.D.Disk.moment g.D.Disk.images (record { disk = new; takes = s.takes; memory = record m { books = b; parts = c.close.new.parts.items } }))) c.self.view_is numbered
 
 pub invariant_of-self-in-Err : goal.invariant_of-self-in-Err
 invariant_of-self-in-Err g c =
@@ -165,7 +170,7 @@ invariant_of-self-in-Err g c =
     let same : s.books ≡ c.record_file.new.self = sym c.in-Err.ensures.same in
     let sound = failed_commit_sound g.D.Disk.tells g.D.Disk.content g.D.Disk.files g.D.Disk.fault_count g.D.Disk.moment g.D.Disk.images s.disk new m q c.args.session c.args.secure payload p c.faults.result in
     let moved = subst (λ (ps : List Part). IsSound g.D.Disk.tells g.D.Disk.content g.D.Disk.moment g.D.Disk.images new (record m { parts = ps; broken = Some c.faults.result })) others sound in
-    (subst (λ (b : Books). IsSound g.D.Disk.tells g.D.Disk.content g.D.Disk.moment g.D.Disk.images new (record m { books = b; parts = c.close.new.parts.items; broken = Some c.faults.result })) same moved, c.spell.ensures.room, kept_in s.kept s.given.items s.books c.record_file.new.self (ap (λ (x : Books). x.folding.state) c.in-Err.ensures.same) c.self.invariant.2)
+    (subst (λ (b : Books). IsSound g.D.Disk.tells g.D.Disk.content g.D.Disk.moment g.D.Disk.images new (record m { books = b; parts = c.close.new.parts.items; broken = Some c.faults.result })) same moved, c.spell.ensures.room, kept_in s.kept s.given.items s.books c.record_file.new.self (ap (λ (x : Books). x.folding.state) c.in-Err.ensures.same) c.self.invariant.2, λ still. none_some (sym still))
 
 pub returns : goal.returns
 returns g c =
@@ -187,10 +192,10 @@ returns g c =
     record { sound = c.self.invariant.0; whole = whole; found = found; all = o.all; in_session = c.requires.session; reads = g.met.D.Disk.reads; told = g.met.D.Disk.told; read = c.record_file.ensures.read; run = run; spells = spells } in
     let others : without_part q.number s.parts.items ≡ c.close.new.parts.items = ap (λ (k : ℕ). without_part k s.parts.items) o.numbered ∙ sym c.close.ensures.others in
     let same : s.books ≡ c.record_file.new.self = sym c.in-Err.ensures.same in
-    let failed = subst (λ (k : ℕ). StoreKept (stand_of g.D.Disk.tells g.D.Disk.content g.D.Disk.fault_count g.D.Disk.moment g.D.Disk.images (record { disk = s.disk; memory = m })) (Commit q.number c.args.session c.args.secure) (Refuses Disk) (stand_of g.D.Disk.tells g.D.Disk.content g.D.Disk.fault_count g.D.Disk.moment g.D.Disk.images (record { disk = new; memory = record m { parts = without_part q.number s.parts.items; broken = Some k } }))) (sym c.faults.ensures)
+    let failed = subst (λ (k : ℕ). StoreKept (stand_of g.D.Disk.tells g.D.Disk.content g.D.Disk.fault_count g.D.Disk.moment g.D.Disk.images (record { disk = s.disk; takes = s.takes; memory = m })) (Commit q.number c.args.session c.args.secure) (Refuses Disk) (stand_of g.D.Disk.tells g.D.Disk.content g.D.Disk.fault_count g.D.Disk.moment g.D.Disk.images (record { disk = new; takes = s.takes; memory = record m { parts = without_part q.number s.parts.items; broken = Some k } }))) (sym c.faults.ensures)
     (commit_failed g.D.Disk.tells g.D.Disk.content g.D.Disk.files g.D.Disk.fault_count g.D.Disk.moment g.D.Disk.images s.disk new m q c.args.session c.args.secure payload p c.in-Err.ensures.cause.failed) in
-    let booked = subst (λ (b : Books). StoreKept (stand_of g.D.Disk.tells g.D.Disk.content g.D.Disk.fault_count g.D.Disk.moment g.D.Disk.images (record { disk = s.disk; memory = m })) (Commit q.number c.args.session c.args.secure) (Refuses Disk) (stand_of g.D.Disk.tells g.D.Disk.content g.D.Disk.fault_count g.D.Disk.moment g.D.Disk.images (record { disk = new; memory = record m { books = b; parts = without_part q.number s.parts.items; broken = Some c.faults.result } }))) same failed in
+    let booked = subst (λ (b : Books). StoreKept (stand_of g.D.Disk.tells g.D.Disk.content g.D.Disk.fault_count g.D.Disk.moment g.D.Disk.images (record { disk = s.disk; takes = s.takes; memory = m })) (Commit q.number c.args.session c.args.secure) (Refuses Disk) (stand_of g.D.Disk.tells g.D.Disk.content g.D.Disk.fault_count g.D.Disk.moment g.D.Disk.images (record { disk = new; takes = s.takes; memory = record m { books = b; parts = without_part q.number s.parts.items; broken = Some c.faults.result } }))) same failed in
     let kept = booked in
-    let moved = subst (λ (ps : List Part). StoreKept (stand_of g.D.Disk.tells g.D.Disk.content g.D.Disk.fault_count g.D.Disk.moment g.D.Disk.images (record { disk = s.disk; memory = m })) (Commit q.number c.args.session c.args.secure) (Refuses Disk) (stand_of g.D.Disk.tells g.D.Disk.content g.D.Disk.fault_count g.D.Disk.moment g.D.Disk.images (record { disk = new; memory = record m { books = c.record_file.new.self; parts = ps; broken = Some c.faults.result } }))) others kept in
-    let numbered = subst (λ (k : ℕ). StoreKept (stand_of g.D.Disk.tells g.D.Disk.content g.D.Disk.fault_count g.D.Disk.moment g.D.Disk.images (record { disk = s.disk; memory = m })) (Commit k c.args.session c.args.secure) (Refuses Disk) (stand_of g.D.Disk.tells g.D.Disk.content g.D.Disk.fault_count g.D.Disk.moment g.D.Disk.images (record { disk = new; memory = record m { books = c.record_file.new.self; parts = c.close.new.parts.items; broken = Some c.faults.result } }))) o.numbered moved in
-    subst (λ (x : Holding g.row.D.Denot). StoreKept (stand_of g.D.Disk.tells g.D.Disk.content g.D.Disk.fault_count g.D.Disk.moment g.D.Disk.images x) (Commit c.args.part c.args.session c.args.secure) (Refuses Disk) (stand_of g.D.Disk.tells g.D.Disk.content g.D.Disk.fault_count g.D.Disk.moment g.D.Disk.images (record { disk = new; memory = record m { books = c.record_file.new.self; parts = c.close.new.parts.items; broken = Some c.faults.result } }))) c.self.view_is numbered
+    let moved = subst (λ (ps : List Part). StoreKept (stand_of g.D.Disk.tells g.D.Disk.content g.D.Disk.fault_count g.D.Disk.moment g.D.Disk.images (record { disk = s.disk; takes = s.takes; memory = m })) (Commit q.number c.args.session c.args.secure) (Refuses Disk) (stand_of g.D.Disk.tells g.D.Disk.content g.D.Disk.fault_count g.D.Disk.moment g.D.Disk.images (record { disk = new; takes = s.takes; memory = record m { books = c.record_file.new.self; parts = ps; broken = Some c.faults.result } }))) others kept in
+    let numbered = subst (λ (k : ℕ). StoreKept (stand_of g.D.Disk.tells g.D.Disk.content g.D.Disk.fault_count g.D.Disk.moment g.D.Disk.images (record { disk = s.disk; takes = s.takes; memory = m })) (Commit k c.args.session c.args.secure) (Refuses Disk) (stand_of g.D.Disk.tells g.D.Disk.content g.D.Disk.fault_count g.D.Disk.moment g.D.Disk.images (record { disk = new; takes = s.takes; memory = record m { books = c.record_file.new.self; parts = c.close.new.parts.items; broken = Some c.faults.result } }))) o.numbered moved in
+    subst (λ (x : Holding g.row.D.Denot). StoreKept (stand_of g.D.Disk.tells g.D.Disk.content g.D.Disk.fault_count g.D.Disk.moment g.D.Disk.images x) (Commit c.args.part c.args.session c.args.secure) (Refuses Disk) (stand_of g.D.Disk.tells g.D.Disk.content g.D.Disk.fault_count g.D.Disk.moment g.D.Disk.images (record { disk = new; takes = s.takes; memory = record m { books = c.record_file.new.self; parts = c.close.new.parts.items; broken = Some c.faults.result } }))) c.self.view_is numbered

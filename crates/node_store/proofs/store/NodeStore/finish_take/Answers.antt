@@ -9,6 +9,10 @@ use Rattle.node_store.specs.Stored.{Holding, Memory, stand_of, stored_in}
 use Rattle.node_store.specs.Taking.{MadeOf, Takes, take_gone}
 use Rattle.node_store.proofs.TakeCall.{takes_call, takes_done, takes_failed, takes_sound}
 use Rattle.node_store.proofs.TakeSteps.{any_made, failed_left, failed_read, gone_left, gone_read, stands_there, told_some}
+use Rattle.node_store.specs.Takes as T
+use Rattle.node_store.specs.Takes.{AreTakesOf}
+use Rattle.node_store.proofs.MovedTakes.{takes_removed}
+use Rattle.node_store.specs.Stored.{state_of}
 use Rattle.node_store.proofs.store.NodeStore.finish_take.Goals as goal
 
 pub remove-requires : goal.remove-requires
@@ -36,10 +40,10 @@ invariant_of-self g c =
     let does = take_gone own in
     let made : Option (Unit {0}) = Some tt in
     let allowed : (Option (Unit {0}) → Type 0) = λ o. o ≡ Some tt in
-    (takes_sound g.D.Disk.tells g.D.Disk.content g.D.Disk.fault_count g.D.Disk.moment g.D.Disk.images s.disk new m c.self.invariant.0 whole own does made read c.in-Ok.ensures.stop.grew c.in-Ok.ensures.stop.next allowed left (λ o is. is), c.self.invariant.1, c.self.invariant.2)
+    (takes_sound g.D.Disk.tells g.D.Disk.content g.D.Disk.fault_count g.D.Disk.moment g.D.Disk.images s.disk new m c.self.invariant.0 whole own does made read c.in-Ok.ensures.stop.grew c.in-Ok.ensures.stop.next allowed left (λ o is. is), c.self.invariant.1, c.self.invariant.2, λ still. subst (λ (t : T.Takes). AreTakesOf t (state_of g.D.Disk.tells (g.D.Disk.content new) (g.D.Disk.fault_count new) m)) (sym c.removed.ensures) (takes_removed s.takes (state_of g.D.Disk.tells (g.D.Disk.content s.disk) (g.D.Disk.fault_count s.disk) m) (c.self.invariant.3 still) own (state_of g.D.Disk.tells (g.D.Disk.content new) (g.D.Disk.fault_count new) m) (takes_done g.D.Disk.tells g.D.Disk.content g.D.Disk.fault_count g.D.Disk.moment g.D.Disk.images s.disk new m c.self.invariant.0 whole own does made read tt refl c.in-Ok.ensures.cause.calm)))
 
-pub returns-in-Ok : goal.returns-in-Ok
-returns-in-Ok g c =
+pub returns-in-Ok-clause-takes : goal.returns-in-Ok-clause-takes
+returns-in-Ok-clause-takes g c =
     let s = c.self.inside in
     let m : Memory = record { books = s.books; given = s.given.items; parts = s.parts.items; staged = s.staged.items; drawn = s.drawn; last_staged = s.last_staged; seat = s.seat; last_given = s.last_given; fulls = s.fulls; broken = s.broken } in
     let whole : s.broken ≡ None = ap (λ (x : Holding g.row.D.Denot). x.memory.broken) c.self.view_is ∙ c.requires.whole in
@@ -52,11 +56,11 @@ returns-in-Ok g c =
     let does = take_gone own in
     let made : Option (Unit {0}) = Some tt in
     let allowed : (Option (Unit {0}) → Type 0) = λ o. o ≡ Some tt in
-    subst (λ (x : Holding g.row.D.Denot). Takes (take_gone c.args.own.now) (Ok tt) (stand_of g.D.Disk.tells g.D.Disk.content g.D.Disk.fault_count g.D.Disk.moment g.D.Disk.images x) (stand_of g.D.Disk.tells g.D.Disk.content g.D.Disk.fault_count g.D.Disk.moment g.D.Disk.images (record { disk = new; memory = m }))) c.self.view_is
+    subst (λ (x : Holding g.row.D.Denot). Takes (take_gone c.args.own.now) (Ok tt) (stand_of g.D.Disk.tells g.D.Disk.content g.D.Disk.fault_count g.D.Disk.moment g.D.Disk.images x) (stand_of g.D.Disk.tells g.D.Disk.content g.D.Disk.fault_count g.D.Disk.moment g.D.Disk.images (record { disk = new; takes = s.takes; memory = m }))) c.self.view_is
     (takes_call g.D.Disk.tells g.D.Disk.content g.D.Disk.fault_count g.D.Disk.moment g.D.Disk.images s.disk new m c.self.invariant.0 whole own does made read c.in-Ok.ensures.stop.grew c.in-Ok.ensures.stop.next allowed left (Ok tt) m (λ o is. subst (MadeOf (Ok tt)) (sym is) refl) (λ still o is. is) (λ t. refl) (takes_done g.D.Disk.tells g.D.Disk.content g.D.Disk.fault_count g.D.Disk.moment g.D.Disk.images s.disk new m c.self.invariant.0 whole own does made read tt refl c.in-Ok.ensures.cause.calm))
 
-pub returns-in-Err : goal.returns-in-Err
-returns-in-Err g c =
+pub returns-in-Err-clause-takes : goal.returns-in-Err-clause-takes
+returns-in-Err-clause-takes g c =
     let s = c.self.inside in
     let m : Memory = record { books = s.books; given = s.given.items; parts = s.parts.items; staged = s.staged.items; drawn = s.drawn; last_staged = s.last_staged; seat = s.seat; last_given = s.last_given; fulls = s.fulls; broken = s.broken } in
     let whole : s.broken ≡ None = ap (λ (x : Holding g.row.D.Denot). x.memory.broken) c.self.view_is ∙ c.requires.whole in
@@ -71,6 +75,6 @@ returns-in-Err g c =
     let does = take_gone own in
     let allowed : (Option (Unit {0}) → Type 0) = λ o. Unit {0} in
     let failed = takes_call g.D.Disk.tells g.D.Disk.content g.D.Disk.fault_count g.D.Disk.moment g.D.Disk.images s.disk new m c.self.invariant.0 whole own does made read c.in-Err.ensures.stop.grew c.in-Err.ensures.stop.next allowed left (Err Disk) (record m { broken = Some (g.D.Disk.fault_count new) }) (λ o is. any_made Disk o) (λ still. none_some (sym still)) (λ t. refl) (takes_failed g.D.Disk.tells g.D.Disk.content g.D.Disk.fault_count g.D.Disk.moment g.D.Disk.images s.disk new m c.self.invariant.0 whole own does made read c.in-Err.ensures.cause.failed) in
-    let counted = subst (λ (k : ℕ). Takes (take_gone c.args.own.now) (Err Disk) (stand_of g.D.Disk.tells g.D.Disk.content g.D.Disk.fault_count g.D.Disk.moment g.D.Disk.images (record { disk = s.disk; memory = m })) (stand_of g.D.Disk.tells g.D.Disk.content g.D.Disk.fault_count g.D.Disk.moment g.D.Disk.images (record { disk = new; memory = record m { broken = Some k } }))) (sym c.faults.ensures) failed in
-    subst (λ (x : Holding g.row.D.Denot). Takes (take_gone c.args.own.now) (Err Disk) (stand_of g.D.Disk.tells g.D.Disk.content g.D.Disk.fault_count g.D.Disk.moment g.D.Disk.images x) (stand_of g.D.Disk.tells g.D.Disk.content g.D.Disk.fault_count g.D.Disk.moment g.D.Disk.images (record { disk = new; memory = record { books = s.books; given = s.given.items; parts = s.parts.items; staged = s.staged.items; drawn = s.drawn; last_staged = s.last_staged; seat = s.seat; last_given = s.last_given; fulls = s.fulls; broken = Some c.faults.result } }))) c.self.view_is
+    let counted = subst (λ (k : ℕ). Takes (take_gone c.args.own.now) (Err Disk) (stand_of g.D.Disk.tells g.D.Disk.content g.D.Disk.fault_count g.D.Disk.moment g.D.Disk.images (record { disk = s.disk; takes = s.takes; memory = m })) (stand_of g.D.Disk.tells g.D.Disk.content g.D.Disk.fault_count g.D.Disk.moment g.D.Disk.images (record { disk = new; takes = s.takes; memory = record m { broken = Some k } }))) (sym c.faults.ensures) failed in
+    subst (λ (x : Holding g.row.D.Denot). Takes (take_gone c.args.own.now) (Err Disk) (stand_of g.D.Disk.tells g.D.Disk.content g.D.Disk.fault_count g.D.Disk.moment g.D.Disk.images x) (stand_of g.D.Disk.tells g.D.Disk.content g.D.Disk.fault_count g.D.Disk.moment g.D.Disk.images (record { disk = new; takes = s.takes; memory = record { books = s.books; given = s.given.items; parts = s.parts.items; staged = s.staged.items; drawn = s.drawn; last_staged = s.last_staged; seat = s.seat; last_given = s.last_given; fulls = s.fulls; broken = Some c.faults.result } }))) c.self.view_is
     (counted)

@@ -21,6 +21,11 @@ use Rattle.node_store.proofs.MarkCall.{IsMarkCall, marking, mark_stays, mark_kep
 use Rattle.node_store.proofs.PutCall.{all_found, open_part, stands}
 use Rattle.node_store.proofs.ReplacedParts.{replaced, set_at}
 use Rattle.node_store.proofs.StillKept.{kept_in, kept_step}
+use Rattle.node_store.proofs.HeldTakes.{other_takes, same_takes, step_takes}
+use Rattle.node_model.proofs.Lists.{none_some}
+use Rattle.node_store.proofs.Alike.{ledger_no_take}
+use Rattle.ledger_file.specs.Ledger.{ledger_name}
+use Rattle.node_store.proofs.OneRecord.{only_content}
 use Rattle.node_store.proofs.store.NodeStore.part_mark.Goals as goal
 
 pub unreachable-requires : goal.unreachable-requires
@@ -48,7 +53,7 @@ returns-then-not-is_ahead g c =
     c.is_ahead.ensures g.D.Disk.tells (g.D.Disk.content s.disk) s.given.items ∙ ap (λ (f : Folding). nat_lt (begins_with 0 (mark_of q.from q.key (durable_by (sizes_in g.D.Disk.tells (g.D.Disk.content s.disk) s.given.items) f.state))) q.have) c.folded.ensures in
     let no_more = sym ahead ∙ c.if-not-is_ahead.true in
     let kept = still_call g.D.Disk.tells g.D.Disk.content g.D.Disk.fault_count g.D.Disk.moment g.D.Disk.images s.disk m m (Part_mark q.number) Well is.books.folds c.self.invariant.0.kept refl (mark_stays g.D.Disk.tells (g.D.Disk.content s.disk) (g.D.Disk.fault_count s.disk) m q is found no_more) in
-    let numbered_so = subst (λ (k : ℕ). StoreKept (stand_of g.D.Disk.tells g.D.Disk.content g.D.Disk.fault_count g.D.Disk.moment g.D.Disk.images (record { disk = s.disk; memory = m })) (Part_mark k) Well (stand_of g.D.Disk.tells g.D.Disk.content g.D.Disk.fault_count g.D.Disk.moment g.D.Disk.images (record { disk = s.disk; memory = m }))) numbered kept in
+    let numbered_so = subst (λ (k : ℕ). StoreKept (stand_of g.D.Disk.tells g.D.Disk.content g.D.Disk.fault_count g.D.Disk.moment g.D.Disk.images (record { disk = s.disk; takes = s.takes; memory = m })) (Part_mark k) Well (stand_of g.D.Disk.tells g.D.Disk.content g.D.Disk.fault_count g.D.Disk.moment g.D.Disk.images (record { disk = s.disk; takes = s.takes; memory = m }))) numbered kept in
     subst (λ (x : Holding g.row.D.Denot). StoreKept (stand_of g.D.Disk.tells g.D.Disk.content g.D.Disk.fault_count g.D.Disk.moment g.D.Disk.images x) (Part_mark c.args.part) Well (stand_of g.D.Disk.tells g.D.Disk.content g.D.Disk.fault_count g.D.Disk.moment g.D.Disk.images x)) c.self.view_is numbered_so
 
 pub mark_part-requires-clause-marking : goal.mark_part-requires-clause-marking
@@ -116,7 +121,7 @@ invariant_of-self g c =
     let parts : replaced q.number (all_marked q) s.parts.items ≡ set s.parts.items place c.mark_part.new.part =
     ap (λ (k : ℕ). replaced k (all_marked q) s.parts.items) numbered ∙ sym (set_at c.args.part (all_marked q) s.parts.items place q at) ∙ ap (set s.parts.items place) (sym (c.in-Ok.ensures.marked ∙ ap all_marked item)) in
     let sound = mark_sound g.D.Disk.tells g.D.Disk.content g.D.Disk.files g.D.Disk.fault_count g.D.Disk.moment g.D.Disk.images s.disk new m q payload p b recorded c.in-Ok.ensures.cause.calm c.in-Ok.ensures.durable synced c.mark_part.ensures.books in
-    (subst (λ (ps : List Part). IsSound g.D.Disk.tells g.D.Disk.content g.D.Disk.moment g.D.Disk.images new (record m { books = b; parts = ps })) parts sound, c.mark_part.ensures.text, kept_step s.kept s.given.items s.books.folding.state (Mark (mark_text q q.have)) b.folding.state tt recorded.folded c.self.invariant.2)
+    (subst (λ (ps : List Part). IsSound g.D.Disk.tells g.D.Disk.content g.D.Disk.moment g.D.Disk.images new (record m { books = b; parts = ps })) parts sound, c.mark_part.ensures.text, kept_step s.kept s.given.items s.books.folding.state (Mark (mark_text q q.have)) b.folding.state tt recorded.folded c.self.invariant.2, λ still. same_takes s.takes g.D.Disk.tells (g.D.Disk.content s.disk) (g.D.Disk.content new) (g.D.Disk.fault_count s.disk) (g.D.Disk.fault_count new) m _ _ refl refl (step_takes s.books.folding.state (Mark (mark_text q q.have)) b.folding.state tt recorded.folded) (λ t. other_takes ledger_name ledger_no_take (g.D.Disk.content s.disk) (g.D.Disk.content new) (only_content g.D.Disk.tells g.D.Disk.content g.D.Disk.files ledger_name s.disk new g.met.D.Disk.reads g.met.D.Disk.told c.mark_part.ensures.read t).others) (c.self.invariant.3 still))
 
 pub invariant_of-self-in-Err : goal.invariant_of-self-in-Err
 invariant_of-self-in-Err g c =
@@ -145,7 +150,7 @@ invariant_of-self-in-Err g c =
     ap (λ (k : ℕ). replaced k (marks_all q) s.parts.items) numbered ∙ sym (set_at c.args.part (marks_all q) s.parts.items place q at) ∙ ap (set s.parts.items place) (sym (c.in-Err.ensures.unmarked ∙ ap marks_all item)) in
     let sound = failed_mark_sound g.D.Disk.tells g.D.Disk.content g.D.Disk.files g.D.Disk.fault_count g.D.Disk.moment g.D.Disk.images s.disk new m q payload p c.faults.result in
     let moved = subst (λ (ps : List Part). IsSound g.D.Disk.tells g.D.Disk.content g.D.Disk.moment g.D.Disk.images new (record m { parts = ps; broken = Some c.faults.result })) parts sound in
-    (subst (λ (b : Books). IsSound g.D.Disk.tells g.D.Disk.content g.D.Disk.moment g.D.Disk.images new (record m { books = b; parts = set s.parts.items place c.mark_part.new.part; broken = Some c.faults.result })) same moved, c.mark_part.ensures.text, kept_in s.kept s.given.items s.books c.mark_part.new.books (ap (λ (x : Books). x.folding.state) c.in-Err.ensures.same) c.self.invariant.2)
+    (subst (λ (b : Books). IsSound g.D.Disk.tells g.D.Disk.content g.D.Disk.moment g.D.Disk.images new (record m { books = b; parts = set s.parts.items place c.mark_part.new.part; broken = Some c.faults.result })) same moved, c.mark_part.ensures.text, kept_in s.kept s.given.items s.books c.mark_part.new.books (ap (λ (x : Books). x.folding.state) c.in-Err.ensures.same) c.self.invariant.2, λ still. none_some (sym still))
 
 pub returns-in-Ok : goal.returns-in-Ok
 returns-in-Ok g c =
@@ -175,9 +180,9 @@ returns-in-Ok g c =
     let parts : replaced q.number (all_marked q) s.parts.items ≡ set s.parts.items place c.mark_part.new.part =
     ap (λ (k : ℕ). replaced k (all_marked q) s.parts.items) numbered ∙ sym (set_at c.args.part (all_marked q) s.parts.items place q at) ∙ ap (set s.parts.items place) (sym (c.in-Ok.ensures.marked ∙ ap all_marked item)) in
     let kept = mark_kept g.D.Disk.tells g.D.Disk.content g.D.Disk.files g.D.Disk.fault_count g.D.Disk.moment g.D.Disk.images s.disk new m q payload p b recorded c.in-Ok.ensures.cause.calm c.in-Ok.ensures.durable synced in
-    let moved = subst (λ (ps : List Part). StoreKept (stand_of g.D.Disk.tells g.D.Disk.content g.D.Disk.fault_count g.D.Disk.moment g.D.Disk.images (record { disk = s.disk; memory = m })) (Part_mark q.number) Well (stand_of g.D.Disk.tells g.D.Disk.content g.D.Disk.fault_count g.D.Disk.moment g.D.Disk.images (record { disk = new; memory = record m { books = b; parts = ps } }))) parts kept in
-    let numbered_so = subst (λ (k : ℕ). StoreKept (stand_of g.D.Disk.tells g.D.Disk.content g.D.Disk.fault_count g.D.Disk.moment g.D.Disk.images (record { disk = s.disk; memory = m })) (Part_mark k) Well (stand_of g.D.Disk.tells g.D.Disk.content g.D.Disk.fault_count g.D.Disk.moment g.D.Disk.images (record { disk = new; memory = record m { books = b; parts = set s.parts.items place c.mark_part.new.part } }))) numbered moved in
-    subst (λ (x : Holding g.row.D.Denot). StoreKept (stand_of g.D.Disk.tells g.D.Disk.content g.D.Disk.fault_count g.D.Disk.moment g.D.Disk.images x) (Part_mark c.args.part) Well (stand_of g.D.Disk.tells g.D.Disk.content g.D.Disk.fault_count g.D.Disk.moment g.D.Disk.images (record { disk = new; memory = record m { books = b; parts = set s.parts.items place c.mark_part.new.part } }))) c.self.view_is numbered_so
+    let moved = subst (λ (ps : List Part). StoreKept (stand_of g.D.Disk.tells g.D.Disk.content g.D.Disk.fault_count g.D.Disk.moment g.D.Disk.images (record { disk = s.disk; takes = s.takes; memory = m })) (Part_mark q.number) Well (stand_of g.D.Disk.tells g.D.Disk.content g.D.Disk.fault_count g.D.Disk.moment g.D.Disk.images (record { disk = new; takes = s.takes; memory = record m { books = b; parts = ps } }))) parts kept in
+    let numbered_so = subst (λ (k : ℕ). StoreKept (stand_of g.D.Disk.tells g.D.Disk.content g.D.Disk.fault_count g.D.Disk.moment g.D.Disk.images (record { disk = s.disk; takes = s.takes; memory = m })) (Part_mark k) Well (stand_of g.D.Disk.tells g.D.Disk.content g.D.Disk.fault_count g.D.Disk.moment g.D.Disk.images (record { disk = new; takes = s.takes; memory = record m { books = b; parts = set s.parts.items place c.mark_part.new.part } }))) numbered moved in
+    subst (λ (x : Holding g.row.D.Denot). StoreKept (stand_of g.D.Disk.tells g.D.Disk.content g.D.Disk.fault_count g.D.Disk.moment g.D.Disk.images x) (Part_mark c.args.part) Well (stand_of g.D.Disk.tells g.D.Disk.content g.D.Disk.fault_count g.D.Disk.moment g.D.Disk.images (record { disk = new; takes = s.takes; memory = record m { books = b; parts = set s.parts.items place c.mark_part.new.part } }))) c.self.view_is numbered_so
 
 pub returns-in-Err : goal.returns-in-Err
 returns-in-Err g c =
@@ -204,10 +209,10 @@ returns-in-Err g c =
     let same : s.books ≡ c.mark_part.new.books = sym c.in-Err.ensures.same in
     let parts : replaced q.number (marks_all q) s.parts.items ≡ set s.parts.items place c.mark_part.new.part =
     ap (λ (k : ℕ). replaced k (marks_all q) s.parts.items) numbered ∙ sym (set_at c.args.part (marks_all q) s.parts.items place q at) ∙ ap (set s.parts.items place) (sym (c.in-Err.ensures.unmarked ∙ ap marks_all item)) in
-    let failed = subst (λ (k : ℕ). StoreKept (stand_of g.D.Disk.tells g.D.Disk.content g.D.Disk.fault_count g.D.Disk.moment g.D.Disk.images (record { disk = s.disk; memory = m })) (Part_mark q.number) (Refuses Disk) (stand_of g.D.Disk.tells g.D.Disk.content g.D.Disk.fault_count g.D.Disk.moment g.D.Disk.images (record { disk = new; memory = record m { parts = replaced q.number (marks_all q) s.parts.items; broken = Some k } }))) (sym c.faults.ensures)
+    let failed = subst (λ (k : ℕ). StoreKept (stand_of g.D.Disk.tells g.D.Disk.content g.D.Disk.fault_count g.D.Disk.moment g.D.Disk.images (record { disk = s.disk; takes = s.takes; memory = m })) (Part_mark q.number) (Refuses Disk) (stand_of g.D.Disk.tells g.D.Disk.content g.D.Disk.fault_count g.D.Disk.moment g.D.Disk.images (record { disk = new; takes = s.takes; memory = record m { parts = replaced q.number (marks_all q) s.parts.items; broken = Some k } }))) (sym c.faults.ensures)
     (mark_failed g.D.Disk.tells g.D.Disk.content g.D.Disk.files g.D.Disk.fault_count g.D.Disk.moment g.D.Disk.images s.disk new m q payload p c.in-Err.ensures.cause.failed) in
-    let booked = subst (λ (b : Books). StoreKept (stand_of g.D.Disk.tells g.D.Disk.content g.D.Disk.fault_count g.D.Disk.moment g.D.Disk.images (record { disk = s.disk; memory = m })) (Part_mark q.number) (Refuses Disk) (stand_of g.D.Disk.tells g.D.Disk.content g.D.Disk.fault_count g.D.Disk.moment g.D.Disk.images (record { disk = new; memory = record m { books = b; parts = replaced q.number (marks_all q) s.parts.items; broken = Some c.faults.result } }))) same failed in
+    let booked = subst (λ (b : Books). StoreKept (stand_of g.D.Disk.tells g.D.Disk.content g.D.Disk.fault_count g.D.Disk.moment g.D.Disk.images (record { disk = s.disk; takes = s.takes; memory = m })) (Part_mark q.number) (Refuses Disk) (stand_of g.D.Disk.tells g.D.Disk.content g.D.Disk.fault_count g.D.Disk.moment g.D.Disk.images (record { disk = new; takes = s.takes; memory = record m { books = b; parts = replaced q.number (marks_all q) s.parts.items; broken = Some c.faults.result } }))) same failed in
     let kept = booked in
-    let moved = subst (λ (ps : List Part). StoreKept (stand_of g.D.Disk.tells g.D.Disk.content g.D.Disk.fault_count g.D.Disk.moment g.D.Disk.images (record { disk = s.disk; memory = m })) (Part_mark q.number) (Refuses Disk) (stand_of g.D.Disk.tells g.D.Disk.content g.D.Disk.fault_count g.D.Disk.moment g.D.Disk.images (record { disk = new; memory = record m { books = c.mark_part.new.books; parts = ps; broken = Some c.faults.result } }))) parts kept in
-    let numbered_so = subst (λ (k : ℕ). StoreKept (stand_of g.D.Disk.tells g.D.Disk.content g.D.Disk.fault_count g.D.Disk.moment g.D.Disk.images (record { disk = s.disk; memory = m })) (Part_mark k) (Refuses Disk) (stand_of g.D.Disk.tells g.D.Disk.content g.D.Disk.fault_count g.D.Disk.moment g.D.Disk.images (record { disk = new; memory = record m { books = c.mark_part.new.books; parts = set s.parts.items place c.mark_part.new.part; broken = Some c.faults.result } }))) numbered moved in
-    subst (λ (x : Holding g.row.D.Denot). StoreKept (stand_of g.D.Disk.tells g.D.Disk.content g.D.Disk.fault_count g.D.Disk.moment g.D.Disk.images x) (Part_mark c.args.part) (Refuses Disk) (stand_of g.D.Disk.tells g.D.Disk.content g.D.Disk.fault_count g.D.Disk.moment g.D.Disk.images (record { disk = new; memory = record m { books = c.mark_part.new.books; parts = set s.parts.items place c.mark_part.new.part; broken = Some c.faults.result } }))) c.self.view_is numbered_so
+    let moved = subst (λ (ps : List Part). StoreKept (stand_of g.D.Disk.tells g.D.Disk.content g.D.Disk.fault_count g.D.Disk.moment g.D.Disk.images (record { disk = s.disk; takes = s.takes; memory = m })) (Part_mark q.number) (Refuses Disk) (stand_of g.D.Disk.tells g.D.Disk.content g.D.Disk.fault_count g.D.Disk.moment g.D.Disk.images (record { disk = new; takes = s.takes; memory = record m { books = c.mark_part.new.books; parts = ps; broken = Some c.faults.result } }))) parts kept in
+    let numbered_so = subst (λ (k : ℕ). StoreKept (stand_of g.D.Disk.tells g.D.Disk.content g.D.Disk.fault_count g.D.Disk.moment g.D.Disk.images (record { disk = s.disk; takes = s.takes; memory = m })) (Part_mark k) (Refuses Disk) (stand_of g.D.Disk.tells g.D.Disk.content g.D.Disk.fault_count g.D.Disk.moment g.D.Disk.images (record { disk = new; takes = s.takes; memory = record m { books = c.mark_part.new.books; parts = set s.parts.items place c.mark_part.new.part; broken = Some c.faults.result } }))) numbered moved in
+    subst (λ (x : Holding g.row.D.Denot). StoreKept (stand_of g.D.Disk.tells g.D.Disk.content g.D.Disk.fault_count g.D.Disk.moment g.D.Disk.images x) (Part_mark c.args.part) (Refuses Disk) (stand_of g.D.Disk.tells g.D.Disk.content g.D.Disk.fault_count g.D.Disk.moment g.D.Disk.images (record { disk = new; takes = s.takes; memory = record m { books = c.mark_part.new.books; parts = set s.parts.items place c.mark_part.new.part; broken = Some c.faults.result } }))) c.self.view_is numbered_so

@@ -24,6 +24,13 @@ use Rattle.node_store.proofs.OpenCall.{on_err, on_ok, IsOpening, parts_held, mar
 use Rattle.node_store.proofs.PartOpened.{held_books}
 use Rattle.node_store.proofs.OpenTold.{mark_at, unknown_folded}
 use Rattle.node_store.proofs.StillKept.{kept_in}
+use Rattle.node_store.proofs.HeldTakes.{other_takes, same_takes}
+use Rattle.node_model.proofs.Lists.{none_some}
+use Rattle.node_store.specs.Worlds.{takes_in}
+use Rattle.node_store.proofs.Alike.{in_no_take}
+use Rattle.ledger_rec.specs.Fold.{State}
+use Rattle.disk_model.specs.World.{World}
+use Rattle.std.proofs.Common.{refl}
 use Rattle.node_store.proofs.store.NodeStore.part_open.Goals as goal
 
 pub returns-in_default : goal.returns-in_default
@@ -41,8 +48,8 @@ returns-in_default g c =
     let numbered : c.number_of.result ≡ next_number mark (find (has_file from key) s.parts.items) s.drawn = c.number_of.ensures ∙ ap (λ (ps : List Part). next_number mark (find (has_file from key) ps) s.drawn) c.as_slice.ensures.value in
     let count : c.saturating_add-self-inside.result ≡ next_count s.fulls = search rules in
     let full = open_full g.D.Disk.tells g.D.Disk.content g.D.Disk.fault_count g.D.Disk.moment g.D.Disk.images s.disk m from key mark c.self.invariant.0 whole is_mark (sym c.in_default.is ∙ numbered) in
-    let counted = subst (λ (k : ℕ). StoreKept (stand_of g.D.Disk.tells g.D.Disk.content g.D.Disk.fault_count g.D.Disk.moment g.D.Disk.images (record { disk = s.disk; memory = m })) (Part_open from key) (Refuses Full) (stand_of g.D.Disk.tells g.D.Disk.content g.D.Disk.fault_count g.D.Disk.moment g.D.Disk.images (record { disk = s.disk; memory = record m { fulls = k } }))) (sym count) full in
-    subst (λ (x : Holding g.row.D.Denot). StoreKept (stand_of g.D.Disk.tells g.D.Disk.content g.D.Disk.fault_count g.D.Disk.moment g.D.Disk.images x) (Part_open from key) (Refuses Full) (stand_of g.D.Disk.tells g.D.Disk.content g.D.Disk.fault_count g.D.Disk.moment g.D.Disk.images (record { disk = s.disk; memory = record m { fulls = c.saturating_add-self-inside.result } }))) c.self.view_is counted
+    let counted = subst (λ (k : ℕ). StoreKept (stand_of g.D.Disk.tells g.D.Disk.content g.D.Disk.fault_count g.D.Disk.moment g.D.Disk.images (record { disk = s.disk; takes = s.takes; memory = m })) (Part_open from key) (Refuses Full) (stand_of g.D.Disk.tells g.D.Disk.content g.D.Disk.fault_count g.D.Disk.moment g.D.Disk.images (record { disk = s.disk; takes = s.takes; memory = record m { fulls = k } }))) (sym count) full in
+    subst (λ (x : Holding g.row.D.Denot). StoreKept (stand_of g.D.Disk.tells g.D.Disk.content g.D.Disk.fault_count g.D.Disk.moment g.D.Disk.images x) (Part_open from key) (Refuses Full) (stand_of g.D.Disk.tells g.D.Disk.content g.D.Disk.fault_count g.D.Disk.moment g.D.Disk.images (record { disk = s.disk; takes = s.takes; memory = record m { fulls = c.saturating_add-self-inside.result } }))) c.self.view_is counted
 
 pub returns-in_default-begin : goal.returns-in_default-begin
 returns-in_default-begin g c =
@@ -71,9 +78,9 @@ returns-then-is_err g c =
     let whole : s.broken ≡ None = ap (λ (x : Holding g.row.D.Denot). x.memory.broken) c.self.view_is ∙ c.requires.whole in
     let unmade = open_unmade g.D.Disk.tells g.D.Disk.content g.D.Disk.fault_count g.D.Disk.moment g.D.Disk.images s.disk m from key c.self.invariant.0 whole in
     let same : s.books ≡ c.make_room.new.books = sym (on_err c.make_room.result (c.make_room.new.books ≡ s.books) (sym c.if-is_err.ensures.value) c.make_room.ensures.unheld) in
-    let booked = subst (λ (b : Books). StoreKept (stand_of g.D.Disk.tells g.D.Disk.content g.D.Disk.fault_count g.D.Disk.moment g.D.Disk.images (record { disk = s.disk; memory = m })) (Part_open from key) (Refuses NoMemory) (stand_of g.D.Disk.tells g.D.Disk.content g.D.Disk.fault_count g.D.Disk.moment g.D.Disk.images (record { disk = s.disk; memory = record m { books = b } }))) same unmade in
-    let moved = subst (λ (ps : List Part). StoreKept (stand_of g.D.Disk.tells g.D.Disk.content g.D.Disk.fault_count g.D.Disk.moment g.D.Disk.images (record { disk = s.disk; memory = m })) (Part_open from key) (Refuses NoMemory) (stand_of g.D.Disk.tells g.D.Disk.content g.D.Disk.fault_count g.D.Disk.moment g.D.Disk.images (record { disk = s.disk; memory = record m { books = c.make_room.new.books; parts = ps } }))) (sym c.make_room.ensures.parts) booked in
-    subst (λ (x : Holding g.row.D.Denot). StoreKept (stand_of g.D.Disk.tells g.D.Disk.content g.D.Disk.fault_count g.D.Disk.moment g.D.Disk.images x) (Part_open from key) (Refuses NoMemory) (stand_of g.D.Disk.tells g.D.Disk.content g.D.Disk.fault_count g.D.Disk.moment g.D.Disk.images (record { disk = s.disk; memory = record m { books = c.make_room.new.books; parts = c.make_room.new.parts.items } }))) c.self.view_is moved
+    let booked = subst (λ (b : Books). StoreKept (stand_of g.D.Disk.tells g.D.Disk.content g.D.Disk.fault_count g.D.Disk.moment g.D.Disk.images (record { disk = s.disk; takes = s.takes; memory = m })) (Part_open from key) (Refuses NoMemory) (stand_of g.D.Disk.tells g.D.Disk.content g.D.Disk.fault_count g.D.Disk.moment g.D.Disk.images (record { disk = s.disk; takes = s.takes; memory = record m { books = b } }))) same unmade in
+    let moved = subst (λ (ps : List Part). StoreKept (stand_of g.D.Disk.tells g.D.Disk.content g.D.Disk.fault_count g.D.Disk.moment g.D.Disk.images (record { disk = s.disk; takes = s.takes; memory = m })) (Part_open from key) (Refuses NoMemory) (stand_of g.D.Disk.tells g.D.Disk.content g.D.Disk.fault_count g.D.Disk.moment g.D.Disk.images (record { disk = s.disk; takes = s.takes; memory = record m { books = c.make_room.new.books; parts = ps } }))) (sym c.make_room.ensures.parts) booked in
+    subst (λ (x : Holding g.row.D.Denot). StoreKept (stand_of g.D.Disk.tells g.D.Disk.content g.D.Disk.fault_count g.D.Disk.moment g.D.Disk.images x) (Part_open from key) (Refuses NoMemory) (stand_of g.D.Disk.tells g.D.Disk.content g.D.Disk.fault_count g.D.Disk.moment g.D.Disk.images (record { disk = s.disk; takes = s.takes; memory = record m { books = c.make_room.new.books; parts = c.make_room.new.parts.items } }))) c.self.view_is moved
 
 pub make_ready-requires : goal.make_ready-requires
 make_ready-requires g c =
@@ -126,7 +133,7 @@ invariant_of-self-in-Ok-make_ready g c =
     let sound = open_sound g.D.Disk.tells g.D.Disk.content g.D.Disk.files g.D.Disk.fault_count g.D.Disk.moment g.D.Disk.images s.disk new m hs from key mark n p c.in-Ok-make_ready.ensures.cause.calm few c.requires.address_limits c.requires.key_limits c.begin.ensures.time unknown (on_ok c.make_room.result (is_held from key hs ≡ true) (sym c.if-is_err.ensures.value) c.make_room.ensures.held) ready in
     let booked = subst (λ (b : Books). IsSound g.D.Disk.tells g.D.Disk.content g.D.Disk.moment g.D.Disk.images new (record m { books = b; parts = without_file from key s.parts.items ++ begun n from key mark ∷ []; drawn = max s.drawn n })) books sound in
     let placed = subst (λ (ps : List Part). IsSound g.D.Disk.tells g.D.Disk.content g.D.Disk.moment g.D.Disk.images new (record m { books = c.make_room.new.books; parts = ps; drawn = max s.drawn n })) parts booked in
-    (subst (λ (k : ℕ). IsSound g.D.Disk.tells g.D.Disk.content g.D.Disk.moment g.D.Disk.images new (record m { books = c.make_room.new.books; parts = c.put_in_place.new.parts.items; drawn = k })) drawn placed, c.self.invariant.1, kept_in s.kept s.given.items s.books c.make_room.new.books (ap (λ (x : Books). x.folding.state) c.make_room.ensures.same) c.self.invariant.2)
+    (subst (λ (k : ℕ). IsSound g.D.Disk.tells g.D.Disk.content g.D.Disk.moment g.D.Disk.images new (record m { books = c.make_room.new.books; parts = c.put_in_place.new.parts.items; drawn = k })) drawn placed, c.self.invariant.1, kept_in s.kept s.given.items s.books c.make_room.new.books (ap (λ (x : Books). x.folding.state) c.make_room.ensures.same) c.self.invariant.2, λ still. same_takes s.takes g.D.Disk.tells (g.D.Disk.content s.disk) (g.D.Disk.content new) (g.D.Disk.fault_count s.disk) (g.D.Disk.fault_count new) m _ _ refl refl (ap (λ (x : State). x.takes) (ap (λ (x : Books). x.folding.state) c.make_room.ensures.same)) (λ t. let r = read (g.D.Disk.content new) (g.met.D.Disk.told t new) in subst (λ (w : World). takes_in (g.D.Disk.content new) ≡ takes_in w) (g.met.D.Disk.reads s.disk r.0 r.1).1 (other_takes (in_name n) (in_no_take n) r.0 (g.D.Disk.content new) r.2.others.others)) (c.self.invariant.3 still))
 
 pub invariant_of-self-in-Err : goal.invariant_of-self-in-Err
 invariant_of-self-in-Err g c =
@@ -153,7 +160,7 @@ invariant_of-self-in-Err g c =
     let books : held_books s.books hs ≡ c.make_room.new.books = sym c.make_room.ensures.same in
     let sound = failed_open_sound g.D.Disk.tells g.D.Disk.content g.D.Disk.files g.D.Disk.fault_count g.D.Disk.moment g.D.Disk.images s.disk new m hs from key mark n p c.faults.result in
     let booked = subst (λ (b : Books). IsSound g.D.Disk.tells g.D.Disk.content g.D.Disk.moment g.D.Disk.images new (record m { books = b; broken = Some c.faults.result })) books sound in
-    (subst (λ (ps : List Part). IsSound g.D.Disk.tells g.D.Disk.content g.D.Disk.moment g.D.Disk.images new (record m { books = c.make_room.new.books; parts = ps; broken = Some c.faults.result })) (sym c.make_room.ensures.parts) booked, c.self.invariant.1, kept_in s.kept s.given.items s.books c.make_room.new.books (ap (λ (x : Books). x.folding.state) c.make_room.ensures.same) c.self.invariant.2)
+    (subst (λ (ps : List Part). IsSound g.D.Disk.tells g.D.Disk.content g.D.Disk.moment g.D.Disk.images new (record m { books = c.make_room.new.books; parts = ps; broken = Some c.faults.result })) (sym c.make_room.ensures.parts) booked, c.self.invariant.1, kept_in s.kept s.given.items s.books c.make_room.new.books (ap (λ (x : Books). x.folding.state) c.make_room.ensures.same) c.self.invariant.2, λ still. none_some (sym still))
 
 pub returns-in-Ok-make_ready : goal.returns-in-Ok-make_ready
 returns-in-Ok-make_ready g c =
@@ -184,11 +191,11 @@ returns-in-Ok-make_ready g c =
     let drawn : max s.drawn n ≡ c.max-self-inside.result = sym c.max-self-inside.ensures in
     let few : n ≤ MAX_NUMBER = omega arith in
     let kept = open_kept g.D.Disk.tells g.D.Disk.content g.D.Disk.files g.D.Disk.fault_count g.D.Disk.moment g.D.Disk.images s.disk new m hs from key mark n p c.in-Ok-make_ready.ensures.cause.calm few in
-    let booked = subst (λ (b : Books). StoreKept (stand_of g.D.Disk.tells g.D.Disk.content g.D.Disk.fault_count g.D.Disk.moment g.D.Disk.images (record { disk = s.disk; memory = m })) (Part_open from key) (Part_opened n (len_of mark)) (stand_of g.D.Disk.tells g.D.Disk.content g.D.Disk.fault_count g.D.Disk.moment g.D.Disk.images (record { disk = new; memory = record m { books = b; parts = without_file from key s.parts.items ++ begun n from key mark ∷ []; drawn = max s.drawn n } }))) books kept in
-    let placed = subst (λ (ps : List Part). StoreKept (stand_of g.D.Disk.tells g.D.Disk.content g.D.Disk.fault_count g.D.Disk.moment g.D.Disk.images (record { disk = s.disk; memory = m })) (Part_open from key) (Part_opened n (len_of mark)) (stand_of g.D.Disk.tells g.D.Disk.content g.D.Disk.fault_count g.D.Disk.moment g.D.Disk.images (record { disk = new; memory = record m { books = c.make_room.new.books; parts = ps; drawn = max s.drawn n } }))) parts booked in
-    let raised = subst (λ (k : ℕ). StoreKept (stand_of g.D.Disk.tells g.D.Disk.content g.D.Disk.fault_count g.D.Disk.moment g.D.Disk.images (record { disk = s.disk; memory = m })) (Part_open from key) (Part_opened n (len_of mark)) (stand_of g.D.Disk.tells g.D.Disk.content g.D.Disk.fault_count g.D.Disk.moment g.D.Disk.images (record { disk = new; memory = record m { books = c.make_room.new.books; parts = c.put_in_place.new.parts.items; drawn = k } }))) drawn placed in
-    let sized = subst (λ (k : ℕ). StoreKept (stand_of g.D.Disk.tells g.D.Disk.content g.D.Disk.fault_count g.D.Disk.moment g.D.Disk.images (record { disk = s.disk; memory = m })) (Part_open from key) (Part_opened n k) (stand_of g.D.Disk.tells g.D.Disk.content g.D.Disk.fault_count g.D.Disk.moment g.D.Disk.images (record { disk = new; memory = record m { books = c.make_room.new.books; parts = c.put_in_place.new.parts.items; drawn = c.max-self-inside.result } }))) (sym c.len_of.ensures) raised in
-    subst (λ (x : Holding g.row.D.Denot). StoreKept (stand_of g.D.Disk.tells g.D.Disk.content g.D.Disk.fault_count g.D.Disk.moment g.D.Disk.images x) (Part_open from key) (Part_opened n c.len_of.result) (stand_of g.D.Disk.tells g.D.Disk.content g.D.Disk.fault_count g.D.Disk.moment g.D.Disk.images (record { disk = new; memory = record m { books = c.make_room.new.books; parts = c.put_in_place.new.parts.items; drawn = c.max-self-inside.result } }))) c.self.view_is sized
+    let booked = subst (λ (b : Books). StoreKept (stand_of g.D.Disk.tells g.D.Disk.content g.D.Disk.fault_count g.D.Disk.moment g.D.Disk.images (record { disk = s.disk; takes = s.takes; memory = m })) (Part_open from key) (Part_opened n (len_of mark)) (stand_of g.D.Disk.tells g.D.Disk.content g.D.Disk.fault_count g.D.Disk.moment g.D.Disk.images (record { disk = new; takes = s.takes; memory = record m { books = b; parts = without_file from key s.parts.items ++ begun n from key mark ∷ []; drawn = max s.drawn n } }))) books kept in
+    let placed = subst (λ (ps : List Part). StoreKept (stand_of g.D.Disk.tells g.D.Disk.content g.D.Disk.fault_count g.D.Disk.moment g.D.Disk.images (record { disk = s.disk; takes = s.takes; memory = m })) (Part_open from key) (Part_opened n (len_of mark)) (stand_of g.D.Disk.tells g.D.Disk.content g.D.Disk.fault_count g.D.Disk.moment g.D.Disk.images (record { disk = new; takes = s.takes; memory = record m { books = c.make_room.new.books; parts = ps; drawn = max s.drawn n } }))) parts booked in
+    let raised = subst (λ (k : ℕ). StoreKept (stand_of g.D.Disk.tells g.D.Disk.content g.D.Disk.fault_count g.D.Disk.moment g.D.Disk.images (record { disk = s.disk; takes = s.takes; memory = m })) (Part_open from key) (Part_opened n (len_of mark)) (stand_of g.D.Disk.tells g.D.Disk.content g.D.Disk.fault_count g.D.Disk.moment g.D.Disk.images (record { disk = new; takes = s.takes; memory = record m { books = c.make_room.new.books; parts = c.put_in_place.new.parts.items; drawn = k } }))) drawn placed in
+    let sized = subst (λ (k : ℕ). StoreKept (stand_of g.D.Disk.tells g.D.Disk.content g.D.Disk.fault_count g.D.Disk.moment g.D.Disk.images (record { disk = s.disk; takes = s.takes; memory = m })) (Part_open from key) (Part_opened n k) (stand_of g.D.Disk.tells g.D.Disk.content g.D.Disk.fault_count g.D.Disk.moment g.D.Disk.images (record { disk = new; takes = s.takes; memory = record m { books = c.make_room.new.books; parts = c.put_in_place.new.parts.items; drawn = c.max-self-inside.result } }))) (sym c.len_of.ensures) raised in
+    subst (λ (x : Holding g.row.D.Denot). StoreKept (stand_of g.D.Disk.tells g.D.Disk.content g.D.Disk.fault_count g.D.Disk.moment g.D.Disk.images x) (Part_open from key) (Part_opened n c.len_of.result) (stand_of g.D.Disk.tells g.D.Disk.content g.D.Disk.fault_count g.D.Disk.moment g.D.Disk.images (record { disk = new; takes = s.takes; memory = record m { books = c.make_room.new.books; parts = c.put_in_place.new.parts.items; drawn = c.max-self-inside.result } }))) c.self.view_is sized
 
 pub returns-in-Err : goal.returns-in-Err
 returns-in-Err g c =
@@ -213,8 +220,8 @@ returns-in-Err g c =
     let p : IsOpening g.D.Disk.tells g.D.Disk.content g.D.Disk.files g.D.Disk.moment g.D.Disk.images s.disk new m hs from key mark n =
     record { sound = c.self.invariant.0; whole = whole; is_mark = is_mark; next = next; as_read = g.met.D.Disk.as_read; reads = g.met.D.Disk.reads; told = g.met.D.Disk.told; read = read; run = run; others = c.make_room.ensures.others } in
     let books : held_books s.books hs ≡ c.make_room.new.books = sym c.make_room.ensures.same in
-    let failed = subst (λ (k : ℕ). StoreKept (stand_of g.D.Disk.tells g.D.Disk.content g.D.Disk.fault_count g.D.Disk.moment g.D.Disk.images (record { disk = s.disk; memory = m })) (Part_open from key) (Refuses Disk) (stand_of g.D.Disk.tells g.D.Disk.content g.D.Disk.fault_count g.D.Disk.moment g.D.Disk.images (record { disk = new; memory = record m { books = held_books s.books hs; broken = Some k } }))) (sym c.faults.ensures)
+    let failed = subst (λ (k : ℕ). StoreKept (stand_of g.D.Disk.tells g.D.Disk.content g.D.Disk.fault_count g.D.Disk.moment g.D.Disk.images (record { disk = s.disk; takes = s.takes; memory = m })) (Part_open from key) (Refuses Disk) (stand_of g.D.Disk.tells g.D.Disk.content g.D.Disk.fault_count g.D.Disk.moment g.D.Disk.images (record { disk = new; takes = s.takes; memory = record m { books = held_books s.books hs; broken = Some k } }))) (sym c.faults.ensures)
     (open_failed g.D.Disk.tells g.D.Disk.content g.D.Disk.files g.D.Disk.fault_count g.D.Disk.moment g.D.Disk.images s.disk new m hs from key mark n p c.in-Err.ensures.cause.failed) in
-    let booked = subst (λ (b : Books). StoreKept (stand_of g.D.Disk.tells g.D.Disk.content g.D.Disk.fault_count g.D.Disk.moment g.D.Disk.images (record { disk = s.disk; memory = m })) (Part_open from key) (Refuses Disk) (stand_of g.D.Disk.tells g.D.Disk.content g.D.Disk.fault_count g.D.Disk.moment g.D.Disk.images (record { disk = new; memory = record m { books = b; broken = Some c.faults.result } }))) books failed in
-    let moved = subst (λ (ps : List Part). StoreKept (stand_of g.D.Disk.tells g.D.Disk.content g.D.Disk.fault_count g.D.Disk.moment g.D.Disk.images (record { disk = s.disk; memory = m })) (Part_open from key) (Refuses Disk) (stand_of g.D.Disk.tells g.D.Disk.content g.D.Disk.fault_count g.D.Disk.moment g.D.Disk.images (record { disk = new; memory = record m { books = c.make_room.new.books; parts = ps; broken = Some c.faults.result } }))) (sym c.make_room.ensures.parts) booked in
-    subst (λ (x : Holding g.row.D.Denot). StoreKept (stand_of g.D.Disk.tells g.D.Disk.content g.D.Disk.fault_count g.D.Disk.moment g.D.Disk.images x) (Part_open from key) (Refuses Disk) (stand_of g.D.Disk.tells g.D.Disk.content g.D.Disk.fault_count g.D.Disk.moment g.D.Disk.images (record { disk = new; memory = record m { books = c.make_room.new.books; parts = c.make_room.new.parts.items; broken = Some c.faults.result } }))) c.self.view_is moved
+    let booked = subst (λ (b : Books). StoreKept (stand_of g.D.Disk.tells g.D.Disk.content g.D.Disk.fault_count g.D.Disk.moment g.D.Disk.images (record { disk = s.disk; takes = s.takes; memory = m })) (Part_open from key) (Refuses Disk) (stand_of g.D.Disk.tells g.D.Disk.content g.D.Disk.fault_count g.D.Disk.moment g.D.Disk.images (record { disk = new; takes = s.takes; memory = record m { books = b; broken = Some c.faults.result } }))) books failed in
+    let moved = subst (λ (ps : List Part). StoreKept (stand_of g.D.Disk.tells g.D.Disk.content g.D.Disk.fault_count g.D.Disk.moment g.D.Disk.images (record { disk = s.disk; takes = s.takes; memory = m })) (Part_open from key) (Refuses Disk) (stand_of g.D.Disk.tells g.D.Disk.content g.D.Disk.fault_count g.D.Disk.moment g.D.Disk.images (record { disk = new; takes = s.takes; memory = record m { books = c.make_room.new.books; parts = ps; broken = Some c.faults.result } }))) (sym c.make_room.ensures.parts) booked in
+    subst (λ (x : Holding g.row.D.Denot). StoreKept (stand_of g.D.Disk.tells g.D.Disk.content g.D.Disk.fault_count g.D.Disk.moment g.D.Disk.images x) (Part_open from key) (Refuses Disk) (stand_of g.D.Disk.tells g.D.Disk.content g.D.Disk.fault_count g.D.Disk.moment g.D.Disk.images (record { disk = new; takes = s.takes; memory = record m { books = c.make_room.new.books; parts = c.make_room.new.parts.items; broken = Some c.faults.result } }))) c.self.view_is moved

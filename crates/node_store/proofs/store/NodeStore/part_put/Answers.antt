@@ -8,6 +8,11 @@ use Rattle.node_model.specs.Stores.{StoreKept, IsOpen, Part_put, Well, Refuses}
 use Rattle.node_store.specs.Names.{in_name}
 use Rattle.node_store.specs.Stored.{Holding, Memory, Part, IsSound, grown, have_in, stand_of, state_of}
 use Rattle.node_store.proofs.PutCall.{IsPutting, open_part, stands, fits_range, put_kept, put_sound, put_failed}
+use Rattle.node_store.proofs.HeldTakes.{other_takes, same_takes}
+use Rattle.std.proofs.Common.{refl}
+use Rattle.node_store.specs.Worlds.{takes_in}
+use Rattle.node_store.proofs.Alike.{in_no_take}
+use Rattle.disk_model.specs.World.{World}
 use Rattle.node_store.proofs.store.NodeStore.part_put.Goals as goal
 
 pub write_at-requires : goal.write_at-requires
@@ -67,6 +72,7 @@ invariant_of-self g c =
           (put_sound g.D.Disk.tells g.D.Disk.content g.D.Disk.files g.D.Disk.fault_count g.D.Disk.moment g.D.Disk.images s.disk new m q c.args.bytes.now p written c.in-Ok.ensures.cause.calm fits),
       c.self.invariant.1,
       c.self.invariant.2,
+      λ still. same_takes s.takes g.D.Disk.tells (g.D.Disk.content s.disk) (g.D.Disk.content new) (g.D.Disk.fault_count s.disk) (g.D.Disk.fault_count new) m _ _ refl refl refl (λ t. let r = read (g.D.Disk.content new) (g.met.D.Disk.told t new) in subst (λ (w : World). takes_in (g.D.Disk.content new) ≡ takes_in w) (g.met.D.Disk.reads s.disk r.0 r.1).1 (other_takes (in_name q.number) (in_no_take q.number) r.0 (g.D.Disk.content new) r.2.own.others)) (c.self.invariant.3 still),
     )
 
 pub returns-in-Ok : goal.returns-in-Ok
@@ -94,9 +100,9 @@ returns-in-Ok g c =
     let parts : map (grown q.number n) s.parts.items ≡ c.grow.new.parts.items = ap (λ (k : ℕ). map (grown k n) s.parts.items) o.numbered ∙ sym c.grow.ensures in
     let m' : Memory = record { books = s.books; given = s.given.items; parts = c.grow.new.parts.items; staged = s.staged.items; drawn = s.drawn; last_staged = s.last_staged; seat = s.seat; last_given = s.last_given; fulls = s.fulls; broken = s.broken } in
     let put = put_kept g.D.Disk.tells g.D.Disk.content g.D.Disk.files g.D.Disk.fault_count g.D.Disk.moment g.D.Disk.images s.disk new m q c.args.bytes.now p written c.in-Ok.ensures.cause.calm fits in
-    let moved = subst (λ (ps : List Part). StoreKept (stand_of g.D.Disk.tells g.D.Disk.content g.D.Disk.fault_count g.D.Disk.moment g.D.Disk.images (record { disk = s.disk; memory = m })) (Part_put q.number c.args.bytes.now) Well (stand_of g.D.Disk.tells g.D.Disk.content g.D.Disk.fault_count g.D.Disk.moment g.D.Disk.images (record { disk = new; memory = record m { parts = ps } }))) parts put in
-    let numbered = subst (λ (k : ℕ). StoreKept (stand_of g.D.Disk.tells g.D.Disk.content g.D.Disk.fault_count g.D.Disk.moment g.D.Disk.images (record { disk = s.disk; memory = m })) (Part_put k c.args.bytes.now) Well (stand_of g.D.Disk.tells g.D.Disk.content g.D.Disk.fault_count g.D.Disk.moment g.D.Disk.images (record { disk = new; memory = m' }))) o.numbered moved in
-    subst (λ (x : Holding g.row.D.Denot). StoreKept (stand_of g.D.Disk.tells g.D.Disk.content g.D.Disk.fault_count g.D.Disk.moment g.D.Disk.images x) (Part_put c.args.part c.args.bytes.now) Well (stand_of g.D.Disk.tells g.D.Disk.content g.D.Disk.fault_count g.D.Disk.moment g.D.Disk.images (record { disk = new; memory = m' }))) c.self.view_is numbered
+    let moved = subst (λ (ps : List Part). StoreKept (stand_of g.D.Disk.tells g.D.Disk.content g.D.Disk.fault_count g.D.Disk.moment g.D.Disk.images (record { disk = s.disk; takes = s.takes; memory = m })) (Part_put q.number c.args.bytes.now) Well (stand_of g.D.Disk.tells g.D.Disk.content g.D.Disk.fault_count g.D.Disk.moment g.D.Disk.images (record { disk = new; takes = s.takes; memory = record m { parts = ps } }))) parts put in
+    let numbered = subst (λ (k : ℕ). StoreKept (stand_of g.D.Disk.tells g.D.Disk.content g.D.Disk.fault_count g.D.Disk.moment g.D.Disk.images (record { disk = s.disk; takes = s.takes; memory = m })) (Part_put k c.args.bytes.now) Well (stand_of g.D.Disk.tells g.D.Disk.content g.D.Disk.fault_count g.D.Disk.moment g.D.Disk.images (record { disk = new; takes = s.takes; memory = m' }))) o.numbered moved in
+    subst (λ (x : Holding g.row.D.Denot). StoreKept (stand_of g.D.Disk.tells g.D.Disk.content g.D.Disk.fault_count g.D.Disk.moment g.D.Disk.images x) (Part_put c.args.part c.args.bytes.now) Well (stand_of g.D.Disk.tells g.D.Disk.content g.D.Disk.fault_count g.D.Disk.moment g.D.Disk.images (record { disk = new; takes = s.takes; memory = m' }))) c.self.view_is numbered
 
 pub returns-in-Err : goal.returns-in-Err
 returns-in-Err g c =
@@ -119,6 +125,6 @@ returns-in-Err g c =
     record { sound = c.self.invariant.0; whole = whole; found = found; as_read = g.met.D.Disk.as_read; reads = g.met.D.Disk.reads; told = g.met.D.Disk.told; read = read; stop = stop } in
     let m' : ℕ → Memory = λ k. record { books = s.books; given = s.given.items; parts = s.parts.items; staged = s.staged.items; drawn = s.drawn; last_staged = s.last_staged; seat = s.seat; last_given = s.last_given; fulls = s.fulls; broken = Some k } in
     let put = put_failed g.D.Disk.tells g.D.Disk.content g.D.Disk.files g.D.Disk.fault_count g.D.Disk.moment g.D.Disk.images s.disk new m q c.args.bytes.now p c.in-Err.ensures.cause.failed in
-    let counted = subst (λ (k : ℕ). StoreKept (stand_of g.D.Disk.tells g.D.Disk.content g.D.Disk.fault_count g.D.Disk.moment g.D.Disk.images (record { disk = s.disk; memory = m })) (Part_put q.number c.args.bytes.now) (Refuses Disk) (stand_of g.D.Disk.tells g.D.Disk.content g.D.Disk.fault_count g.D.Disk.moment g.D.Disk.images (record { disk = new; memory = m' k }))) (sym c.faults.ensures) put in
-    let numbered = subst (λ (k : ℕ). StoreKept (stand_of g.D.Disk.tells g.D.Disk.content g.D.Disk.fault_count g.D.Disk.moment g.D.Disk.images (record { disk = s.disk; memory = m })) (Part_put k c.args.bytes.now) (Refuses Disk) (stand_of g.D.Disk.tells g.D.Disk.content g.D.Disk.fault_count g.D.Disk.moment g.D.Disk.images (record { disk = new; memory = m' c.faults.result }))) o.numbered counted in
-    subst (λ (x : Holding g.row.D.Denot). StoreKept (stand_of g.D.Disk.tells g.D.Disk.content g.D.Disk.fault_count g.D.Disk.moment g.D.Disk.images x) (Part_put c.args.part c.args.bytes.now) (Refuses Disk) (stand_of g.D.Disk.tells g.D.Disk.content g.D.Disk.fault_count g.D.Disk.moment g.D.Disk.images (record { disk = new; memory = m' c.faults.result }))) c.self.view_is numbered
+    let counted = subst (λ (k : ℕ). StoreKept (stand_of g.D.Disk.tells g.D.Disk.content g.D.Disk.fault_count g.D.Disk.moment g.D.Disk.images (record { disk = s.disk; takes = s.takes; memory = m })) (Part_put q.number c.args.bytes.now) (Refuses Disk) (stand_of g.D.Disk.tells g.D.Disk.content g.D.Disk.fault_count g.D.Disk.moment g.D.Disk.images (record { disk = new; takes = s.takes; memory = m' k }))) (sym c.faults.ensures) put in
+    let numbered = subst (λ (k : ℕ). StoreKept (stand_of g.D.Disk.tells g.D.Disk.content g.D.Disk.fault_count g.D.Disk.moment g.D.Disk.images (record { disk = s.disk; takes = s.takes; memory = m })) (Part_put k c.args.bytes.now) (Refuses Disk) (stand_of g.D.Disk.tells g.D.Disk.content g.D.Disk.fault_count g.D.Disk.moment g.D.Disk.images (record { disk = new; takes = s.takes; memory = m' c.faults.result }))) o.numbered counted in
+    subst (λ (x : Holding g.row.D.Denot). StoreKept (stand_of g.D.Disk.tells g.D.Disk.content g.D.Disk.fault_count g.D.Disk.moment g.D.Disk.images x) (Part_put c.args.part c.args.bytes.now) (Refuses Disk) (stand_of g.D.Disk.tells g.D.Disk.content g.D.Disk.fault_count g.D.Disk.moment g.D.Disk.images (record { disk = new; takes = s.takes; memory = m' c.faults.result }))) c.self.view_is numbered

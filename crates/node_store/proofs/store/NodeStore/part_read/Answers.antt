@@ -8,6 +8,9 @@ use Rattle.node_model.specs.Stores.{IsKept, Read_part, Came, Refuses, StoreKept}
 use Rattle.node_store.specs.Stored.{Holding, Memory, stand_of, state_of, stored_in, sizes_in}
 use Rattle.node_store.proofs.ReadCall.{read_again, same_call, same_sound, same_failed, unchanged, told_files, told_shelf, receipt_found, receipt_kept, receipt_size, stands_kept, came_part}
 use Rattle.node_store.proofs.Known.{none_received}
+use Rattle.node_store.proofs.HeldTakes.{same_takes}
+use Rattle.std.proofs.Common.{refl}
+use Rattle.node_store.specs.Worlds.{takes_in}
 use Rattle.node_store.proofs.store.NodeStore.part_read.Goals as goal
 
 pub receipt_of-requires-clause-none : goal.receipt_of-requires-clause-none
@@ -51,7 +54,7 @@ invariant_of-self g c =
     let room = length c.args.out.now in
     let same = read_again g.D.Disk.tells g.D.Disk.content g.D.Disk.files s.disk new g.met.D.Disk.reads g.met.D.Disk.told c.read_some.ensures.read in
     let stop = c.read_some.ensures.stop in
-    (same_sound g.D.Disk.tells g.D.Disk.content g.D.Disk.fault_count g.D.Disk.moment g.D.Disk.images s.disk new m c.self.invariant.0 whole same stop, c.self.invariant.1, c.self.invariant.2)
+    (same_sound g.D.Disk.tells g.D.Disk.content g.D.Disk.fault_count g.D.Disk.moment g.D.Disk.images s.disk new m c.self.invariant.0 whole same stop, c.self.invariant.1, c.self.invariant.2, λ still. same_takes s.takes g.D.Disk.tells (g.D.Disk.content s.disk) (g.D.Disk.content new) (g.D.Disk.fault_count s.disk) (g.D.Disk.fault_count new) m _ _ refl refl refl (λ t. ap takes_in (same t)) (c.self.invariant.3 still))
 
 pub returns-in-Ok-clause-kept : goal.returns-in-Ok-clause-kept
 returns-in-Ok-clause-kept g c =
@@ -71,7 +74,7 @@ returns-in-Ok-clause-kept g c =
     let stop = c.read_some.ensures.stop in
     let count = c.in-Ok.count in
     let came = subst (λ (n : List ℕ). Every (g.D.Disk.files s.disk) (λ w. (b : List ℕ) → w.own n ≡ Some b → length b ≡ x.key.size → take count out ≡ take room (drop c.args.at b))) c.in_file.ensures c.in-Ok.ensures.told in
-    subst (λ (y : Holding g.row.D.Denot). StoreKept (stand_of g.D.Disk.tells g.D.Disk.content g.D.Disk.fault_count g.D.Disk.moment g.D.Disk.images y) (Read_part c.args.receipt c.args.at room) (Came (take count out)) (stand_of g.D.Disk.tells g.D.Disk.content g.D.Disk.fault_count g.D.Disk.moment g.D.Disk.images (record { disk = new; memory = m }))) c.self.view_is
+    subst (λ (y : Holding g.row.D.Denot). StoreKept (stand_of g.D.Disk.tells g.D.Disk.content g.D.Disk.fault_count g.D.Disk.moment g.D.Disk.images y) (Read_part c.args.receipt c.args.at room) (Came (take count out)) (stand_of g.D.Disk.tells g.D.Disk.content g.D.Disk.fault_count g.D.Disk.moment g.D.Disk.images (record { disk = new; takes = s.takes; memory = m }))) c.self.view_is
     (same_call g.D.Disk.tells g.D.Disk.content g.D.Disk.fault_count g.D.Disk.moment g.D.Disk.images s.disk new m c.self.invariant.0 whole same stop (Read_part c.args.receipt c.args.at room) (Came (take count out)) m (λ t. ap (λ w. shelf_of (stored_in w m)) (same t)) (came_part g.D.Disk.tells g.D.Disk.content g.D.Disk.files g.D.Disk.fault_count s.disk m c.args.receipt g.met.D.Disk.reads g.met.D.Disk.told has_files is same_shelf x.key.size count c.args.at room out size came, unchanged g.D.Disk.tells (g.D.Disk.content s.disk) (g.D.Disk.content new) (g.D.Disk.fault_count s.disk) (g.D.Disk.fault_count new) m same c.in-Ok.ensures.cause.calm))
 
 pub returns-in-Ok-clause-length : goal.returns-in-Ok-clause-length
@@ -111,5 +114,5 @@ returns-in-Err-clause-kept g c =
     let same = read_again g.D.Disk.tells g.D.Disk.content g.D.Disk.files s.disk new g.met.D.Disk.reads g.met.D.Disk.told c.read_some.ensures.read in
     let stop = c.read_some.ensures.stop in
     let failed = same_failed g.D.Disk.tells g.D.Disk.content g.D.Disk.fault_count g.D.Disk.moment g.D.Disk.images s.disk new m c.self.invariant.0 whole same stop (Read_part c.args.receipt c.args.at room) tt c.in-Err.ensures.cause.failed in
-    let counted = subst (λ (k : ℕ). StoreKept (stand_of g.D.Disk.tells g.D.Disk.content g.D.Disk.fault_count g.D.Disk.moment g.D.Disk.images (record { disk = s.disk; memory = m })) (Read_part c.args.receipt c.args.at room) (Refuses Disk) (stand_of g.D.Disk.tells g.D.Disk.content g.D.Disk.fault_count g.D.Disk.moment g.D.Disk.images (record { disk = new; memory = record m { broken = Some k } }))) (sym c.faults.ensures) failed in
-    subst (λ (y : Holding g.row.D.Denot). StoreKept (stand_of g.D.Disk.tells g.D.Disk.content g.D.Disk.fault_count g.D.Disk.moment g.D.Disk.images y) (Read_part c.args.receipt c.args.at room) (Refuses Disk) (stand_of g.D.Disk.tells g.D.Disk.content g.D.Disk.fault_count g.D.Disk.moment g.D.Disk.images (record { disk = new; memory = record m { broken = Some c.faults.result } }))) c.self.view_is counted
+    let counted = subst (λ (k : ℕ). StoreKept (stand_of g.D.Disk.tells g.D.Disk.content g.D.Disk.fault_count g.D.Disk.moment g.D.Disk.images (record { disk = s.disk; takes = s.takes; memory = m })) (Read_part c.args.receipt c.args.at room) (Refuses Disk) (stand_of g.D.Disk.tells g.D.Disk.content g.D.Disk.fault_count g.D.Disk.moment g.D.Disk.images (record { disk = new; takes = s.takes; memory = record m { broken = Some k } }))) (sym c.faults.ensures) failed in
+    subst (λ (y : Holding g.row.D.Denot). StoreKept (stand_of g.D.Disk.tells g.D.Disk.content g.D.Disk.fault_count g.D.Disk.moment g.D.Disk.images y) (Read_part c.args.receipt c.args.at room) (Refuses Disk) (stand_of g.D.Disk.tells g.D.Disk.content g.D.Disk.fault_count g.D.Disk.moment g.D.Disk.images (record { disk = new; takes = s.takes; memory = record m { broken = Some c.faults.result } }))) c.self.view_is counted

@@ -9,6 +9,9 @@ use Rattle.node_store.specs.Stored.{Holding, Memory, stand_of, state_of, stored_
 use Rattle.node_store.proofs.ReadCall.{read_again, same_call, same_sound, unchanged, counted, told_files, told_shelf, entry_found, entry_live, entry_size, stands_live, came_source}
 use Rattle.node_store.proofs.Known.{none_queued}
 use Rattle.node_store.proofs.store.NodeStore.read_source.Goals as goal
+use Rattle.node_store.proofs.HeldTakes.{same_takes}
+use Rattle.std.proofs.Common.{refl}
+use Rattle.node_store.specs.Worlds.{takes_in}
 use Rattle.node_store.proofs.store.NodeStore.read_source.Goals.{in-Ok, in-Err}
 
 pub entry_of-requires-clause-none : goal.entry_of-requires-clause-none
@@ -52,7 +55,7 @@ invariant_of-self g c =
     let room = length c.args.out.now in
     let same = read_again g.D.Disk.tells g.D.Disk.content g.D.Disk.files s.disk new g.met.D.Disk.reads g.met.D.Disk.told c.read_some.ensures.read in
     let stop = c.read_some.ensures.stop in
-    (same_sound g.D.Disk.tells g.D.Disk.content g.D.Disk.fault_count g.D.Disk.moment g.D.Disk.images s.disk new m c.self.invariant.0 whole same stop, c.self.invariant.1, c.self.invariant.2)
+    (same_sound g.D.Disk.tells g.D.Disk.content g.D.Disk.fault_count g.D.Disk.moment g.D.Disk.images s.disk new m c.self.invariant.0 whole same stop, c.self.invariant.1, c.self.invariant.2, λ still. same_takes s.takes g.D.Disk.tells (g.D.Disk.content s.disk) (g.D.Disk.content new) (g.D.Disk.fault_count s.disk) (g.D.Disk.fault_count new) m _ _ refl refl refl (λ t. ap takes_in (same t)) (c.self.invariant.3 still))
 
 pub returns-clause-kept : goal.returns-clause-kept
 returns-clause-kept g c =
@@ -74,10 +77,10 @@ returns-clause-kept g c =
       | in-Ok w ↦ rw w.result-is (
           let count = w.in-Ok.count in
           let came = subst (λ (n : List ℕ). Every (g.D.Disk.files s.disk) (λ w. (b : List ℕ) → w.own n ≡ Some b → length b ≡ x.key.size → take count out ≡ take room (drop c.args.at b))) c.out_file.ensures w.in-Ok.ensures.told in
-          subst (λ (y : Holding g.row.D.Denot). StoreKept (stand_of g.D.Disk.tells g.D.Disk.content g.D.Disk.fault_count g.D.Disk.moment g.D.Disk.images y) (Read_source c.args.number c.args.at room) (Came (take count out)) (stand_of g.D.Disk.tells g.D.Disk.content g.D.Disk.fault_count g.D.Disk.moment g.D.Disk.images (record { disk = new; memory = m }))) c.self.view_is
+          subst (λ (y : Holding g.row.D.Denot). StoreKept (stand_of g.D.Disk.tells g.D.Disk.content g.D.Disk.fault_count g.D.Disk.moment g.D.Disk.images y) (Read_source c.args.number c.args.at room) (Came (take count out)) (stand_of g.D.Disk.tells g.D.Disk.content g.D.Disk.fault_count g.D.Disk.moment g.D.Disk.images (record { disk = new; takes = s.takes; memory = m }))) c.self.view_is
           (same_call g.D.Disk.tells g.D.Disk.content g.D.Disk.fault_count g.D.Disk.moment g.D.Disk.images s.disk new m c.self.invariant.0 whole same stop (Read_source c.args.number c.args.at room) (Came (take count out)) m (λ t. ap (λ w. shelf_of (stored_in w m)) (same t)) (came_source g.D.Disk.tells g.D.Disk.content g.D.Disk.files g.D.Disk.fault_count s.disk m c.args.number g.met.D.Disk.reads g.met.D.Disk.told has_files is x.key.size count c.args.at room out size came, unchanged g.D.Disk.tells (g.D.Disk.content s.disk) (g.D.Disk.content new) (g.D.Disk.fault_count s.disk) (g.D.Disk.fault_count new) m same w.in-Ok.ensures.cause.calm)))
       | in-Err w ↦ rw w.result-is (
-          subst (λ (y : Holding g.row.D.Denot). StoreKept (stand_of g.D.Disk.tells g.D.Disk.content g.D.Disk.fault_count g.D.Disk.moment g.D.Disk.images y) (Read_source c.args.number c.args.at room) (Refuses Read) (stand_of g.D.Disk.tells g.D.Disk.content g.D.Disk.fault_count g.D.Disk.moment g.D.Disk.images (record { disk = new; memory = m }))) c.self.view_is
+          subst (λ (y : Holding g.row.D.Denot). StoreKept (stand_of g.D.Disk.tells g.D.Disk.content g.D.Disk.fault_count g.D.Disk.moment g.D.Disk.images y) (Read_source c.args.number c.args.at room) (Refuses Read) (stand_of g.D.Disk.tells g.D.Disk.content g.D.Disk.fault_count g.D.Disk.moment g.D.Disk.images (record { disk = new; takes = s.takes; memory = m }))) c.self.view_is
           (same_call g.D.Disk.tells g.D.Disk.content g.D.Disk.fault_count g.D.Disk.moment g.D.Disk.images s.disk new m c.self.invariant.0 whole same stop (Read_source c.args.number c.args.at room) (Refuses Read) m (λ t. ap (λ w. shelf_of (stored_in w m)) (same t))
           (tt, w.in-Err.ensures.cause.failed, counted g.D.Disk.tells (g.D.Disk.content s.disk) (g.D.Disk.content new) (g.D.Disk.fault_count s.disk) (g.D.Disk.fault_count new) m same)))
     ]

@@ -9,6 +9,10 @@ use Rattle.std.proofs.Common.{Option}
 use Rattle.node_model.specs.StoreStates.{IfTold}
 use Rattle.node_store.specs.Worlds.{bytes_of}
 use Rattle.node_store.proofs.AskCall.{own_take}
+use Rattle.node_store.proofs.HeldTakes.{same_takes}
+use Rattle.node_model.proofs.Lists.{none_some}
+use Rattle.std.proofs.Common.{refl}
+use Rattle.node_store.specs.Worlds.{takes_in}
 use Rattle.node_store.proofs.store.NodeStore.read_take.Goals as goal
 
 pub invariant_of-self : goal.invariant_of-self
@@ -19,7 +23,7 @@ invariant_of-self g c =
     let new = c.read_own.new.disk in
     let same = read_again g.D.Disk.tells g.D.Disk.content g.D.Disk.files s.disk new g.met.D.Disk.reads g.met.D.Disk.told c.read_own.ensures.read in
     let run = c.read_own.ensures.stop in
-    (asks_sound g.D.Disk.tells g.D.Disk.content g.D.Disk.fault_count g.D.Disk.moment g.D.Disk.images s.disk new m c.self.invariant.0 whole same run, c.self.invariant.1, c.self.invariant.2)
+    (asks_sound g.D.Disk.tells g.D.Disk.content g.D.Disk.fault_count g.D.Disk.moment g.D.Disk.images s.disk new m c.self.invariant.0 whole same run, c.self.invariant.1, c.self.invariant.2, λ still. same_takes s.takes g.D.Disk.tells (g.D.Disk.content s.disk) (g.D.Disk.content new) (g.D.Disk.fault_count s.disk) (g.D.Disk.fault_count new) m _ _ refl refl refl (λ t. ap takes_in (same t)) (c.self.invariant.3 still))
 
 pub invariant_of-self-in-Err : goal.invariant_of-self-in-Err
 invariant_of-self-in-Err g c =
@@ -29,7 +33,7 @@ invariant_of-self-in-Err g c =
     let new = c.read_own.new.disk in
     let same = read_again g.D.Disk.tells g.D.Disk.content g.D.Disk.files s.disk new g.met.D.Disk.reads g.met.D.Disk.told c.read_own.ensures.read in
     let run = c.read_own.ensures.stop in
-    (asks_broken g.D.Disk.tells g.D.Disk.content g.D.Disk.fault_count g.D.Disk.moment g.D.Disk.images s.disk new m c.self.invariant.0 whole same run c.faults.result, c.self.invariant.1, c.self.invariant.2)
+    (asks_broken g.D.Disk.tells g.D.Disk.content g.D.Disk.fault_count g.D.Disk.moment g.D.Disk.images s.disk new m c.self.invariant.0 whole same run c.faults.result, c.self.invariant.1, c.self.invariant.2, λ still. none_some (sym still))
 
 pub returns-in-Ok-clause-asks : goal.returns-in-Ok-clause-asks
 returns-in-Ok-clause-asks g c =
@@ -39,7 +43,7 @@ returns-in-Ok-clause-asks g c =
     let new = c.read_own.new.disk in
     let same = read_again g.D.Disk.tells g.D.Disk.content g.D.Disk.files s.disk new g.met.D.Disk.reads g.met.D.Disk.told c.read_own.ensures.read in
     let run = c.read_own.ensures.stop in
-    subst (λ (x : Holding g.row.D.Denot). Asks false (Ok c.in-Ok.count) (stand_of g.D.Disk.tells g.D.Disk.content g.D.Disk.fault_count g.D.Disk.moment g.D.Disk.images x) (stand_of g.D.Disk.tells g.D.Disk.content g.D.Disk.fault_count g.D.Disk.moment g.D.Disk.images (record { disk = new; memory = m }))) c.self.view_is
+    subst (λ (x : Holding g.row.D.Denot). Asks false (Ok c.in-Ok.count) (stand_of g.D.Disk.tells g.D.Disk.content g.D.Disk.fault_count g.D.Disk.moment g.D.Disk.images x) (stand_of g.D.Disk.tells g.D.Disk.content g.D.Disk.fault_count g.D.Disk.moment g.D.Disk.images (record { disk = new; takes = s.takes; memory = m }))) c.self.view_is
     (asks g.D.Disk.tells g.D.Disk.content g.D.Disk.fault_count g.D.Disk.moment g.D.Disk.images s.disk new m c.self.invariant.0 whole same run false (Ok c.in-Ok.count) m (asks_unchanged g.D.Disk.tells g.D.Disk.content g.D.Disk.fault_count g.D.Disk.moment g.D.Disk.images s.disk new m c.self.invariant.0 whole same run c.in-Ok.ensures.cause.calm))
 
 pub returns-in-Err-clause-asks : goal.returns-in-Err-clause-asks
@@ -51,8 +55,8 @@ returns-in-Err-clause-asks g c =
     let same = read_again g.D.Disk.tells g.D.Disk.content g.D.Disk.files s.disk new g.met.D.Disk.reads g.met.D.Disk.told c.read_own.ensures.read in
     let run = c.read_own.ensures.stop in
     let failed = asks g.D.Disk.tells g.D.Disk.content g.D.Disk.fault_count g.D.Disk.moment g.D.Disk.images s.disk new m c.self.invariant.0 whole same run false (Err Disk) (record m { broken = Some (g.D.Disk.fault_count new) }) (asks_failed g.D.Disk.tells g.D.Disk.content g.D.Disk.fault_count g.D.Disk.moment g.D.Disk.images s.disk new m c.self.invariant.0 whole same run c.in-Err.ensures.cause.failed) in
-    let counted = subst (λ (k : ℕ). Asks false (Err Disk) (stand_of g.D.Disk.tells g.D.Disk.content g.D.Disk.fault_count g.D.Disk.moment g.D.Disk.images (record { disk = s.disk; memory = m })) (stand_of g.D.Disk.tells g.D.Disk.content g.D.Disk.fault_count g.D.Disk.moment g.D.Disk.images (record { disk = new; memory = record m { broken = Some k } }))) (sym c.faults.ensures) failed in
-    subst (λ (x : Holding g.row.D.Denot). Asks false (Err Disk) (stand_of g.D.Disk.tells g.D.Disk.content g.D.Disk.fault_count g.D.Disk.moment g.D.Disk.images x) (stand_of g.D.Disk.tells g.D.Disk.content g.D.Disk.fault_count g.D.Disk.moment g.D.Disk.images (record { disk = new; memory = record { books = s.books; given = s.given.items; parts = s.parts.items; staged = s.staged.items; drawn = s.drawn; last_staged = s.last_staged; seat = s.seat; last_given = s.last_given; fulls = s.fulls; broken = Some c.faults.result } }))) c.self.view_is counted
+    let counted = subst (λ (k : ℕ). Asks false (Err Disk) (stand_of g.D.Disk.tells g.D.Disk.content g.D.Disk.fault_count g.D.Disk.moment g.D.Disk.images (record { disk = s.disk; takes = s.takes; memory = m })) (stand_of g.D.Disk.tells g.D.Disk.content g.D.Disk.fault_count g.D.Disk.moment g.D.Disk.images (record { disk = new; takes = s.takes; memory = record m { broken = Some k } }))) (sym c.faults.ensures) failed in
+    subst (λ (x : Holding g.row.D.Denot). Asks false (Err Disk) (stand_of g.D.Disk.tells g.D.Disk.content g.D.Disk.fault_count g.D.Disk.moment g.D.Disk.images x) (stand_of g.D.Disk.tells g.D.Disk.content g.D.Disk.fault_count g.D.Disk.moment g.D.Disk.images (record { disk = new; takes = s.takes; memory = record { books = s.books; given = s.given.items; parts = s.parts.items; staged = s.staged.items; drawn = s.drawn; last_staged = s.last_staged; seat = s.seat; last_given = s.last_given; fulls = s.fulls; broken = Some c.faults.result } }))) c.self.view_is counted
 
 pub returns-in-Ok-clause-length : goal.returns-in-Ok-clause-length
 returns-in-Ok-clause-length g c =

@@ -28,6 +28,11 @@ use Rattle.node_store.proofs.OpenTold.{unknown_folded}
 use Rattle.node_store.proofs.PartRecord.{broken_sound}
 use Rattle.node_store.proofs.RefuseCall.{IsRefusing, refused_step, reason_fits, refuse_failed, refuse_kept, refuse_sound}
 use Rattle.node_store.proofs.StillKept.{kept_in, kept_same}
+use Rattle.node_store.proofs.HeldTakes.{other_takes, same_takes}
+use Rattle.node_model.proofs.Lists.{none_some}
+use Rattle.node_store.proofs.Alike.{ledger_no_take}
+use Rattle.ledger_file.specs.Ledger.{ledger_name}
+use Rattle.node_store.proofs.OneRecord.{only_content}
 use Rattle.node_store.proofs.store.NodeStore.refuse.Goals as goal
 
 pub returns-in_default : goal.returns-in_default
@@ -104,7 +109,7 @@ invariant_of-self g c =
     let books : IsBooks b = subst IsBooks (sym same) (let mid_books = c.append_record.ensures.books in record { folds = mid_books.folds; room = mid_books.room; since = mid_books.since }) in
     let held = subst (λ (ps : List Part). AllByRecursion (λ (x : Part). is_held x.from x.key b.folding.holds ≡ true) ps) (sym parts) c.close_file.ensures.held in
     let sound = refuse_sound g.D.Disk.tells g.D.Disk.content g.D.Disk.files g.D.Disk.fault_count g.D.Disk.moment g.D.Disk.images s.disk new m r payload p b payloads places opened seats folded c.in-Ok-append_record.ensures.cause.calm durable books held in
-    (subst (λ (ps : List Part). IsSound g.D.Disk.tells g.D.Disk.content g.D.Disk.moment g.D.Disk.images new (record m { books = b; parts = ps })) parts sound, c.spell.ensures.room, kept_same s.kept s.given.items s.books.folding.state.inbox b.folding.state.inbox (ap (λ (x : State). x.inbox) folded) c.self.invariant.2)
+    (subst (λ (ps : List Part). IsSound g.D.Disk.tells g.D.Disk.content g.D.Disk.moment g.D.Disk.images new (record m { books = b; parts = ps })) parts sound, c.spell.ensures.room, kept_same s.kept s.given.items s.books.folding.state.inbox b.folding.state.inbox (ap (λ (x : State). x.inbox) folded) c.self.invariant.2, λ still. same_takes s.takes g.D.Disk.tells (g.D.Disk.content s.disk) (g.D.Disk.content new) (g.D.Disk.fault_count s.disk) (g.D.Disk.fault_count new) m _ _ refl refl (ap (λ (x : State). x.takes) folded) (λ t. other_takes ledger_name ledger_no_take (g.D.Disk.content s.disk) (g.D.Disk.content new) (only_content g.D.Disk.tells g.D.Disk.content g.D.Disk.files ledger_name s.disk new g.met.D.Disk.reads g.met.D.Disk.told c.append_record.ensures.read t).others) (c.self.invariant.3 still))
 
 pub invariant_of-self-in-Err : goal.invariant_of-self-in-Err
 invariant_of-self-in-Err g c =
@@ -112,7 +117,7 @@ invariant_of-self-in-Err g c =
     let m : Memory = record { books = s.books; given = s.given.items; parts = s.parts.items; staged = s.staged.items; drawn = s.drawn; last_staged = s.last_staged; seat = s.seat; last_given = s.last_given; fulls = s.fulls; broken = s.broken } in
     let is = c.self.invariant.0.memory in
     let sound = broken_sound g.D.Disk.tells g.D.Disk.content g.D.Disk.moment g.D.Disk.images c.append_record.new.disk (record m { broken = Some c.faults.result }) c.faults.result refl (memory_broken m c.faults.result is) in
-    (subst (λ (b : Books). IsSound g.D.Disk.tells g.D.Disk.content g.D.Disk.moment g.D.Disk.images c.append_record.new.disk (record m { books = b; broken = Some c.faults.result })) (sym c.in-Err.ensures.same) sound, c.spell.ensures.room, kept_in s.kept s.given.items s.books c.append_record.new.self (ap (λ (x : Books). x.folding.state) c.in-Err.ensures.same) c.self.invariant.2)
+    (subst (λ (b : Books). IsSound g.D.Disk.tells g.D.Disk.content g.D.Disk.moment g.D.Disk.images c.append_record.new.disk (record m { books = b; broken = Some c.faults.result })) (sym c.in-Err.ensures.same) sound, c.spell.ensures.room, kept_in s.kept s.given.items s.books c.append_record.new.self (ap (λ (x : Books). x.folding.state) c.in-Err.ensures.same) c.self.invariant.2, λ still. none_some (sym still))
 
 pub returns-in-Ok-append_record : goal.returns-in-Ok-append_record
 returns-in-Ok-append_record g c =
@@ -141,8 +146,8 @@ returns-in-Ok-append_record g c =
     let durable = subst (λ (l : List (List ℕ)). Every (Now g.D.Disk.moment g.D.Disk.images new) (LedgerIs l)) (sym (ap (λ (x : Books). x.payloads) same)) c.in-Ok-append_record.ensures.durable in
     let parts : without_file from key s.parts.items ≡ c.close_file.new.parts.items = sym c.close_file.ensures.parts in
     let kept = refuse_kept g.D.Disk.tells g.D.Disk.content g.D.Disk.files g.D.Disk.fault_count g.D.Disk.moment g.D.Disk.images s.disk new m r payload p b payloads places opened seats folded c.in-Ok-append_record.ensures.cause.calm durable in
-    let moved = subst (λ (ps : List Part). StoreKept (stand_of g.D.Disk.tells g.D.Disk.content g.D.Disk.fault_count g.D.Disk.moment g.D.Disk.images (record { disk = s.disk; memory = m })) (Refuse_file from key c.args.session c.args.reason) Well (stand_of g.D.Disk.tells g.D.Disk.content g.D.Disk.fault_count g.D.Disk.moment g.D.Disk.images (record { disk = new; memory = record m { books = b; parts = ps } }))) parts kept in
-    subst (λ (x : Holding g.row.D.Denot). StoreKept (stand_of g.D.Disk.tells g.D.Disk.content g.D.Disk.fault_count g.D.Disk.moment g.D.Disk.images x) (Refuse_file from key c.args.session c.args.reason) Well (stand_of g.D.Disk.tells g.D.Disk.content g.D.Disk.fault_count g.D.Disk.moment g.D.Disk.images (record { disk = new; memory = record m { books = b; parts = c.close_file.new.parts.items } }))) c.self.view_is moved
+    let moved = subst (λ (ps : List Part). StoreKept (stand_of g.D.Disk.tells g.D.Disk.content g.D.Disk.fault_count g.D.Disk.moment g.D.Disk.images (record { disk = s.disk; takes = s.takes; memory = m })) (Refuse_file from key c.args.session c.args.reason) Well (stand_of g.D.Disk.tells g.D.Disk.content g.D.Disk.fault_count g.D.Disk.moment g.D.Disk.images (record { disk = new; takes = s.takes; memory = record m { books = b; parts = ps } }))) parts kept in
+    subst (λ (x : Holding g.row.D.Denot). StoreKept (stand_of g.D.Disk.tells g.D.Disk.content g.D.Disk.fault_count g.D.Disk.moment g.D.Disk.images x) (Refuse_file from key c.args.session c.args.reason) Well (stand_of g.D.Disk.tells g.D.Disk.content g.D.Disk.fault_count g.D.Disk.moment g.D.Disk.images (record { disk = new; takes = s.takes; memory = record m { books = b; parts = c.close_file.new.parts.items } }))) c.self.view_is moved
 
 pub returns-in-Err : goal.returns-in-Err
 returns-in-Err g c =
@@ -159,6 +164,6 @@ returns-in-Err g c =
     let spells : record_in payload ≡ Ok (Refused r) = ap record_in c.as_slice.ensures ∙ c.spell.ensures.spells ∙ ap Ok c.in-Ok.ensures in
     let p : IsRefusing g.D.Disk.tells g.D.Disk.content g.D.Disk.files g.D.Disk.moment g.D.Disk.images s.disk new m r payload =
     record { sound = c.self.invariant.0; whole = whole; in_session = c.requires.session; unknown = unknown; reads = g.met.D.Disk.reads; told = g.met.D.Disk.told; read = c.append_record.ensures.read; run = c.append_record.ensures.stop; spells = spells } in
-    let failed = subst (λ (k : ℕ). StoreKept (stand_of g.D.Disk.tells g.D.Disk.content g.D.Disk.fault_count g.D.Disk.moment g.D.Disk.images (record { disk = s.disk; memory = m })) (Refuse_file from key c.args.session c.args.reason) (Refuses Disk) (stand_of g.D.Disk.tells g.D.Disk.content g.D.Disk.fault_count g.D.Disk.moment g.D.Disk.images (record { disk = new; memory = record m { broken = Some k } }))) (sym c.faults.ensures) (refuse_failed g.D.Disk.tells g.D.Disk.content g.D.Disk.files g.D.Disk.fault_count g.D.Disk.moment g.D.Disk.images s.disk new m r payload p c.in-Err.ensures.cause.failed) in
-    let booked = subst (λ (b : Books). StoreKept (stand_of g.D.Disk.tells g.D.Disk.content g.D.Disk.fault_count g.D.Disk.moment g.D.Disk.images (record { disk = s.disk; memory = m })) (Refuse_file from key c.args.session c.args.reason) (Refuses Disk) (stand_of g.D.Disk.tells g.D.Disk.content g.D.Disk.fault_count g.D.Disk.moment g.D.Disk.images (record { disk = new; memory = record m { books = b; broken = Some c.faults.result } }))) (sym c.in-Err.ensures.same) failed in
-    subst (λ (x : Holding g.row.D.Denot). StoreKept (stand_of g.D.Disk.tells g.D.Disk.content g.D.Disk.fault_count g.D.Disk.moment g.D.Disk.images x) (Refuse_file from key c.args.session c.args.reason) (Refuses Disk) (stand_of g.D.Disk.tells g.D.Disk.content g.D.Disk.fault_count g.D.Disk.moment g.D.Disk.images (record { disk = new; memory = record m { books = c.append_record.new.self; broken = Some c.faults.result } }))) c.self.view_is booked
+    let failed = subst (λ (k : ℕ). StoreKept (stand_of g.D.Disk.tells g.D.Disk.content g.D.Disk.fault_count g.D.Disk.moment g.D.Disk.images (record { disk = s.disk; takes = s.takes; memory = m })) (Refuse_file from key c.args.session c.args.reason) (Refuses Disk) (stand_of g.D.Disk.tells g.D.Disk.content g.D.Disk.fault_count g.D.Disk.moment g.D.Disk.images (record { disk = new; takes = s.takes; memory = record m { broken = Some k } }))) (sym c.faults.ensures) (refuse_failed g.D.Disk.tells g.D.Disk.content g.D.Disk.files g.D.Disk.fault_count g.D.Disk.moment g.D.Disk.images s.disk new m r payload p c.in-Err.ensures.cause.failed) in
+    let booked = subst (λ (b : Books). StoreKept (stand_of g.D.Disk.tells g.D.Disk.content g.D.Disk.fault_count g.D.Disk.moment g.D.Disk.images (record { disk = s.disk; takes = s.takes; memory = m })) (Refuse_file from key c.args.session c.args.reason) (Refuses Disk) (stand_of g.D.Disk.tells g.D.Disk.content g.D.Disk.fault_count g.D.Disk.moment g.D.Disk.images (record { disk = new; takes = s.takes; memory = record m { books = b; broken = Some c.faults.result } }))) (sym c.in-Err.ensures.same) failed in
+    subst (λ (x : Holding g.row.D.Denot). StoreKept (stand_of g.D.Disk.tells g.D.Disk.content g.D.Disk.fault_count g.D.Disk.moment g.D.Disk.images x) (Refuse_file from key c.args.session c.args.reason) (Refuses Disk) (stand_of g.D.Disk.tells g.D.Disk.content g.D.Disk.fault_count g.D.Disk.moment g.D.Disk.images (record { disk = new; takes = s.takes; memory = record m { books = c.append_record.new.self; broken = Some c.faults.result } }))) c.self.view_is booked
