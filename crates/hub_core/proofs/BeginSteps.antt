@@ -17,6 +17,7 @@ use Rattle.node_model.proofs.StepSound.{step_sound}
 use Rattle.hub_core.specs.Hubs.{Sitting, Chair, HubState, HubFits, SittingFits, IfClaimed, IfHeld, Taking, IsNewSitting, chair_in, begun_with, sitting_at, session_over, node_with, sitting_part, seat_part}
 use Rattle.hub_core.specs.HubCalls.{HasTurn, Does, ShelfPasses}
 use Rattle.hub_core.specs.HubLaws.{session_of}
+use Rattle.hub_core.specs.Skips.{AllBehind}
 use Rattle.hub_core.specs.Steps.{Leaves, StaysSettled, OneOf, RefusedBy, counted_full, loses_none, fault_in}
 use Rattle.hub_core.proofs.Nodes.{seats_put, chair_at, sits_at, sittings_put}
 use Rattle.hub_core.proofs.Keeping.{leaves_as, leaves_none}
@@ -55,7 +56,7 @@ begin_does v h seat role peers secure moment x b closed limits few new =
       fits = record {
         stock = fits.stock;
         sittings = sittings_put (λ (y : Sitting). SittingFits v.state y) h seat (Some x) (λ k y apart at. fits.sittings k y at)
-            (λ y is. subst (λ (z : Sitting). SittingFits v.state z) (some_same is) (record { first = All-head IsAddress x.first x.others (subst (All IsAddress) (sym new.peers_are) limits); claim = subst (IfClaimed v.state.stock.state.queue) (sym (ap (λ (y : Sitting). y.claim) new.is)) tt; hold = subst (λ (o : Option Taking). IfHeld v.state x.first o) (sym (ap (λ (y : Sitting). y.hold) new.is)) tt }));
+            (λ y is. subst (λ (z : Sitting). SittingFits v.state z) (some_same is) (record { first = All-head IsAddress x.first x.others (subst (All IsAddress) (sym new.peers_are) limits); claim = subst (IfClaimed v.state.stock.state.queue) (sym (ap (λ (y : Sitting). y.claim) new.is)) tt; passed = subst (AllBehind (x.first ∷ x.others) x.skipped v.state.stock.state.queue) (sym (ap (λ (y : Sitting). y.passed) new.is)) (λ e free. tt); hold = subst (λ (o : Option Taking). IfHeld v.state x.first o) (sym (ap (λ (y : Sitting). y.hold) new.is)) tt }));
         parts = fits.parts;
         sound = step_sound seat n (Open_call role peers secure moment) (Begun (h.begun + 1)) (node_with f.keeps v.state (begun_with seat x h)) step (λ unbroken. fits.sound) b.whole;
       };
@@ -77,7 +78,7 @@ begin_no_memory v h seat role peers secure moment b =
 pub full_fits : (a : Stored) (s : StoreState) (h : HubState) → HubFits a s h → HubFits a (counted_full s) h
 full_fits a s h f = record {
   stock = f.stock;
-  sittings = λ k x at. let y = f.sittings k x at in record { first = y.first; claim = y.claim; hold = go x.first x.hold y.hold };
+  sittings = λ k x at. let y = f.sittings k x at in record { first = y.first; claim = y.claim; passed = y.passed; hold = go x.first x.hold y.hold };
   parts = f.parts;
   sound = record { queue = f.sound.queue; inbox = f.sound.inbox; sessions = record { numbers = f.sound.sessions.numbers; apart = f.sound.sessions.apart }; claims = record { each = f.sound.claims.each; apart = f.sound.claims.apart }; holds = record { each = λ k z w at is. let o = f.sound.holds.each k z w at is in record { from_first = o.from_first; new = o.new; wanted = o.wanted; stored = o.stored; begins = o.begins; fits = o.fits }; apart = f.sound.holds.apart }; parts = record { marks = f.sound.parts.marks; receipts = f.sound.parts.receipts; apart = f.sound.parts.apart; held_mark = f.sound.parts.held_mark; held_receipt = f.sound.parts.held_receipt; held_apart = f.sound.parts.held_apart; marks_drawn = f.sound.parts.marks_drawn; receipts_drawn = f.sound.parts.receipts_drawn; holds_drawn = f.sound.parts.holds_drawn; queue_staged = f.sound.parts.queue_staged; drawn_few = f.sound.parts.drawn_few }; places = record { claims = f.sound.places.claims; holds = f.sound.places.holds; all = f.sound.places.all; room = f.sound.places.room } };
 }

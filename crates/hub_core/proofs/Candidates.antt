@@ -16,7 +16,8 @@ use Rattle.node_model.proofs.Distinct.{distinct_one}
 use Rattle.node_model.proofs.Lists.{decide_line, off, or_true, or_true_right}
 use Rattle.hub_core.specs.Hubs.{Sitting, HubState, HubFits, with_sitting, sitting_at, session_over, node_with}
 use Rattle.hub_core.specs.HubLaws.{session_of}
-use Rattle.hub_core.specs.Sending.{claims, sitting_claims, ClaimedBy, is_skipped, KeptBack, Comes, place_of, IsFree, NextOf, dests_of}
+use Rattle.hub_core.specs.Sending.{claims, sitting_claims, ClaimedBy, KeptBack, Comes, place_of, NextOf, dests_of}
+use Rattle.hub_core.specs.Skips.{IsFree, is_skipped}
 use Rattle.hub_core.proofs.Finding.{member_map, map_member}
 use Rattle.hub_core.proofs.Nodes.{sits_at, sits_apart}
 use Rattle.hub_core.proofs.OpenParts.{same_number as numbers_are, number_same}

@@ -16,7 +16,8 @@ use Rattle.hub_core.specs.Hubs.{Sitting, Chair, HubState, dropped_sitting, chair
 use Rattle.hub_core.specs.HubCalls.{Does, OwnCall}
 use Rattle.hub_core.specs.Indices.{Claims, ClaimsOf, KeptFrom, claimer, is_just}
 use Rattle.hub_core.specs.Opening.{with_seat}
-use Rattle.hub_core.specs.Sending.{ClaimedBy, IsFree, KeptBack, NextFree, Offers, claims, number_of, sitting_claims, unclaimed_sitting}
+use Rattle.hub_core.specs.Sending.{ClaimedBy, KeptBack, NextFree, Offers, claims, number_of, sitting_claims, unclaimed_sitting}
+use Rattle.hub_core.proofs.Going.{free_alike}
 use Rattle.hub_core.proofs.Indexing.{finds_after, finds_still, in_others, in_own, out_others, out_own}
 use Rattle.hub_core.proofs.Nodes.{sits_at, chair_at, chair_apart}
 use Rattle.hub_core.proofs.Seating.{chair_still}
@@ -54,9 +55,6 @@ to_back index chairs skipped n finds (inr skip) = inr skip
 from_back : (index : ClaimIndex) (chairs : List Chair) (skipped : List ℕ) (n : ℕ) → ClaimsOf index chairs → KeptBack chairs skipped n → KeptFrom index skipped n
 from_back index chairs skipped n finds (inl claimed) = inl (by_seats index chairs n finds claimed)
 from_back index chairs skipped n finds (inr skip) = inr skip
-
-free_alike : (dests : List Address) (B C : ℕ → Type 0) (queue : List (EntryOf ℕ)) (e : EntryOf ℕ) → ((n : ℕ) → C n → B n) → IsFree dests B queue e → IsFree dests C queue e
-free_alike dests B C queue e from is = record { there = is.there; live = is.live; addressed = is.addressed; free = λ back. is.free (from e.number back) }
 
 next_alike : (dests : List Address) (B C : ℕ → Type 0) (queue : List (EntryOf ℕ)) (r : Option (Flavour × ℕ)) → ((n : ℕ) → B n → C n) → ((n : ℕ) → C n → B n) → NextFree dests B queue r → NextFree dests C queue r
 next_alike dests B C queue None to from none = λ f is. none f (free_alike dests C B queue f to is)

@@ -23,6 +23,7 @@ use Rattle.hub_core.proofs.BeginSteps.{one_passes}
 use Rattle.hub_core.proofs.Breaking.{same_but}
 use Rattle.hub_core.proofs.Ends.{same_content}
 use Rattle.hub_core.proofs.Finding.{member_map}
+use Rattle.hub_core.proofs.Going.{behind_done, behind_skipped}
 use Rattle.hub_core.proofs.Keeping.{leaves_as, leaves_none}
 use Rattle.hub_core.proofs.Marking.{sitting_stays}
 use Rattle.hub_core.proofs.Nodes.{seats_put, session_is, sits_at, sittings_put, chair_at}
@@ -70,7 +71,7 @@ claim_done m queue (Some c) k = key_done m c.number c.key queue k
 
 sitting_done : (number session : ℕ) (s : StoreState) (x : Sitting) → SittingFits s x → SittingFits (settled number session s) x
 sitting_done number session s x f =
-    record { first = f.first; claim = claim_done number s.stock.state.queue x.claim f.claim; hold = go x.hold f.hold }
+    record { first = f.first; claim = claim_done number s.stock.state.queue x.claim f.claim; passed = behind_done number (x.first ∷ x.others) x.skipped s.stock.state.queue x.passed f.passed; hold = go x.hold f.hold }
   where
     go : (o : Option Taking) → IfHeld s x.first o → IfHeld (settled number session s) x.first o
     go None held = tt
@@ -106,7 +107,7 @@ got_stepped a s h seat x c f at sits claimed whole =
         stock = ap (on_state (with_done c.number)) f.stock ∙ ap (λ (d : DurableOf ℕ). record (sizes a.stock) { state = d }) (sym (with_done-map length c.number a.stock.state));
         sittings = sittings_put (λ (w : Sitting). SittingFits t w) h seat (Some y)
             (λ k w apart is. sitting_done c.number x.number s w (f.sittings k w is))
-            (λ w is. subst (λ (q : Sitting). SittingFits t q) (some_same is) (record { first = mine.first; claim = tt; hold = mine.hold }));
+            (λ w is. subst (λ (q : Sitting). SittingFits t q) (some_same is) (record { first = mine.first; claim = tt; passed = mine.passed; hold = mine.hold }));
         parts = λ p there. let q = f.parts p there in record { marks = q.marks; receipts = q.receipts };
         sound = step_sound seat (node_with a s h) (Got_call c.number) Settled (node_with b t g) step (λ unbroken. f.sound) whole;
       };
@@ -173,7 +174,7 @@ skip_stepped a s h seat x c f sits claimed whole =
         stock = f.stock;
         sittings = sittings_put (λ (w : Sitting). SittingFits t w) h seat (Some y)
             (λ k w apart is. sitting_stays s t w refl refl (f.sittings k w is))
-            (λ w is. subst (λ (q : Sitting). SittingFits t q) (some_same is) (record { first = mine.first; claim = tt; hold = mine.hold }));
+            (λ w is. subst (λ (q : Sitting). SittingFits t q) (some_same is) (record { first = mine.first; claim = tt; passed = behind_skipped c.number (x.first ∷ x.others) x.skipped s.stock.state.queue x.passed mine.passed; hold = mine.hold }));
         parts = f.parts;
         sound = step_sound seat (node_with a s h) (Skip_call c.number) Settled (node_with a t g) step (λ unbroken. f.sound) whole;
       };

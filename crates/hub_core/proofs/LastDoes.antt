@@ -18,6 +18,7 @@ use Rattle.node_model.proofs.StockMaps.{by_part-map, part_committed-map}
 use Rattle.hub_core.specs.Hubs.{Taking, Sitting, HubState, HubFits, SittingFits, IfClaimed, IfHeld, PartFits, with_sitting, sitting_at, session_over, hold_over, hold_places_of, node_with, taken_part}
 use Rattle.hub_core.specs.HubCalls.{HasTurn, Does}
 use Rattle.hub_core.specs.HubLaws.{HeldTold, held_part}
+use Rattle.hub_core.specs.Skips.{AllBehind}
 use Rattle.hub_core.specs.Steps.{Leaves, StaysSettled, OneOf, BrokeBy, is_part, part_under, put_received, fault_in}
 use Rattle.hub_core.proofs.Breaking.{same_but}
 use Rattle.hub_core.proofs.Data.{put_stored, parts_apart, put_sizes, fits_same, put_from}
@@ -115,8 +116,8 @@ last_fits a s h seat x t bytes d sound =
       stock = ap (λ (st : Sizes). by_part t.part (λ part stock. part_committed part x.secure stock) st) (put_sizes a s t.part bytes f.stock)
           ∙ sym (by_part-map length t.part (λ part stock. part_committed part x.secure stock) (λ part stock. part_committed part x.secure stock) (λ part stock. part_committed-map length part x.secure stock) (put_stored t.part bytes s.seat a).stock);
       sittings = sittings_put (λ (z : Sitting). SittingFits (put_received x.first t bytes x.number x.secure s) z) h seat (Some (unheld_sitting x))
-          (λ k z apart at. let fit = f.sittings k z at in record { first = fit.first; claim = subst (λ (q : List (EntryOf ℕ)). IfClaimed q z.claim) (sym (last_queue x.first t bytes x.number x.secure s)) fit.claim; hold = stays k z apart at z.hold refl fit.hold })
-          (λ z is. subst (λ (u : Sitting). SittingFits (put_received x.first t bytes x.number x.secure s) u) (some_same is) (record { first = (f.sittings seat x d.sits.sits).first; claim = subst (λ (q : List (EntryOf ℕ)). IfClaimed q x.claim) (sym (last_queue x.first t bytes x.number x.secure s)) (f.sittings seat x d.sits.sits).claim; hold = tt }));
+          (λ k z apart at. let fit = f.sittings k z at in record { first = fit.first; claim = subst (λ (q : List (EntryOf ℕ)). IfClaimed q z.claim) (sym (last_queue x.first t bytes x.number x.secure s)) fit.claim; passed = subst (λ (q : List (EntryOf ℕ)). AllBehind (z.first ∷ z.others) z.skipped q z.passed) (sym (last_queue x.first t bytes x.number x.secure s)) fit.passed; hold = stays k z apart at z.hold refl fit.hold })
+          (λ z is. subst (λ (u : Sitting). SittingFits (put_received x.first t bytes x.number x.secure s) u) (some_same is) (record { first = (f.sittings seat x d.sits.sits).first; claim = subst (λ (q : List (EntryOf ℕ)). IfClaimed q x.claim) (sym (last_queue x.first t bytes x.number x.secure s)) (f.sittings seat x d.sits.sits).claim; passed = subst (λ (q : List (EntryOf ℕ)). AllBehind (x.first ∷ x.others) x.skipped q x.passed) (sym (last_queue x.first t bytes x.number x.secure s)) (f.sittings seat x d.sits.sits).passed; hold = tt }));
       parts = λ q there. parts q (subst (λ (st : Sizes). Member q st.parts) (sizes_last s x.first t bytes x.secure held.part) there);
       sound = sound;
     }

@@ -16,6 +16,7 @@ pub mod FileNeeds
 pub mod FileSteps
 pub mod Filing
 pub mod Finding
+pub mod Going
 pub mod GotSteps
 pub mod HoldSteps
 pub mod Holding

@@ -1,5 +1,5 @@
 -- What fits a store goes on to fit it once a part was marked.
-use Rattle.std.proofs.Common.{◌≡◌, ℕ, Bool, true, false, ◌==◌, List, Option, Some, None, length, refl, sym, ◌∙◌, ap, subst}
+use Rattle.std.proofs.Common.{◌∷◌, ◌≡◌, ℕ, Bool, true, false, ◌==◌, List, Option, Some, None, length, refl, sym, ◌∙◌, ap, subst}
 use Rattle.ftn_addr.specs.Address.{Address}
 use Rattle.ftn_addr.specs.Files.{is_same}
 use Rattle.ftn_addr.specs.Key.{Key}
@@ -17,6 +17,7 @@ use Rattle.node_model.proofs.Seats.{fits, sound}
 use Rattle.node_model.proofs.Leaving.{released_fits}
 use Rattle.node_model.proofs.StockMaps.{by_part-map, part_marked-map}
 use Rattle.hub_core.specs.Hubs.{Taking, Sitting, HubState, IfClaimed, IfHeld, SittingFits, PartFits, HubFits, with_sitting, session_over, node_with}
+use Rattle.hub_core.specs.Skips.{AllBehind}
 use Rattle.hub_core.specs.Steps.{part_under, ended}
 use Rattle.hub_core.proofs.Finding.{found}
 use Rattle.hub_core.proofs.OpenParts.{one_part}
@@ -104,7 +105,7 @@ ended_fits_part a s from (Some t) p is tied held here f =
 
 -- a session fits a store with the same open parts
 pub sitting_stays : (s s' : StoreState) (x : Sitting) → s'.stock.parts ≡ s.stock.parts → s'.stock.state.queue ≡ s.stock.state.queue → SittingFits s x → SittingFits s' x
-sitting_stays s s' x same queued f = record { first = f.first; claim = subst (λ (q : List (EntryOf ℕ)). IfClaimed q x.claim) (sym queued) f.claim; hold = go x.hold f.hold }
+sitting_stays s s' x same queued f = record { first = f.first; claim = subst (λ (q : List (EntryOf ℕ)). IfClaimed q x.claim) (sym queued) f.claim; passed = subst (λ (q : List (EntryOf ℕ)). AllBehind (x.first ∷ x.others) x.skipped q x.passed) (sym queued) f.passed; hold = go x.hold f.hold }
   where
     go : (o : Option Taking) → IfHeld s x.first o → IfHeld s' x.first o
     go None held = tt
@@ -120,7 +121,7 @@ ended_fits a s h seat x sits =
       stock = ended_sizes a s x.first x.hold f.stock;
       sittings = sittings_put (λ (y : Sitting). SittingFits (ended x.first x.hold s) y) h seat (Some (unheld_sitting x))
           (λ k y apart at. sitting_stays s (ended x.first x.hold s) y parts queued (f.sittings k y at))
-          (λ y is. subst (λ (z : Sitting). SittingFits (ended x.first x.hold s) z) (some_same is) (record { first = mine.first; claim = subst (λ (q : List (EntryOf ℕ)). IfClaimed q x.claim) (sym queued) mine.claim; hold = tt }));
+          (λ y is. subst (λ (z : Sitting). SittingFits (ended x.first x.hold s) z) (some_same is) (record { first = mine.first; claim = subst (λ (q : List (EntryOf ℕ)). IfClaimed q x.claim) (sym queued) mine.claim; passed = subst (λ (q : List (EntryOf ℕ)). AllBehind (x.first ∷ x.others) x.skipped q x.passed) (sym queued) mine.passed; hold = tt }));
       parts = λ p there. let there' = subst (λ (ps : List (MarkOf ℕ)). Member p ps) parts there in ended_fits_part a s x.first x.hold p f.stock sits.tied mine.hold there' (f.parts p there');
       sound = subst Sound (sym (released_is a s h seat x sits)) (sound (released seat (session_over a.stock x) (node_with a s h)) (released_fits (node_with a s h) seat (session_over a.stock x) (session_is a s h seat x sits.sits) (fits (node_with a s h) f.sound)));
     }

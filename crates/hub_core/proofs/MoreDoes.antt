@@ -15,6 +15,7 @@ use Rattle.node_model.proofs.StepSound.{step_sound}
 use Rattle.hub_core.specs.Hubs.{Taking, Sitting, HubState, HubFits, SittingFits, IfClaimed, IfHeld, PartFits, with_sitting, sitting_at, session_over, hold_over, node_with, seat_part, sitting_part, taken_part, unless_dropped}
 use Rattle.hub_core.specs.HubCalls.{ShelfPasses, HasTurn, Does}
 use Rattle.hub_core.specs.HubLaws.{HeldTold}
+use Rattle.hub_core.specs.Skips.{AllBehind}
 use Rattle.hub_core.specs.Steps.{Leaves, StaysSettled, OneOf, BrokeBy, is_part, part_under, more_taking, reaches, put_marked, fault_in}
 use Rattle.hub_core.proofs.Breaking.{OthersApart, same_but}
 use Rattle.hub_core.proofs.Data.{put_stored, parts_apart, put_told, put_sizes, put_marked_is, stride_is, fits_same, put_from}
@@ -75,10 +76,11 @@ more_fits a s h seat x t bytes b d sound =
     record {
       stock = marked_sizes (put_stored t.part bytes s.seat a) s' b p (put_sizes a s t.part bytes f.stock);
       sittings = sittings_put (λ (z : Sitting). SittingFits (marked_by b p s') z) h seat (Some (grown_sitting b (length bytes) t x))
-          (λ k z apart at. let fit = f.sittings k z at in record { first = fit.first; claim = subst (λ (q : List (EntryOf ℕ)). IfClaimed q z.claim) (sym (marked_queue b p s')) fit.claim; hold = stays k z apart at z.hold refl fit.hold })
+          (λ k z apart at. let fit = f.sittings k z at in record { first = fit.first; claim = subst (λ (q : List (EntryOf ℕ)). IfClaimed q z.claim) (sym (marked_queue b p s')) fit.claim; passed = subst (λ (q : List (EntryOf ℕ)). AllBehind (z.first ∷ z.others) z.skipped q z.passed) (sym (marked_queue b p s')) fit.passed; hold = stays k z apart at z.hold refl fit.hold })
           (λ z is. subst (λ (u : Sitting). SittingFits (marked_by b p s') u) (some_same is) (record {
             first = (f.sittings seat x d.sits.sits).first;
             claim = subst (λ (q : List (EntryOf ℕ)). IfClaimed q x.claim) (sym (marked_queue b p s')) (f.sittings seat x d.sits.sits).claim;
+            passed = subst (λ (q : List (EntryOf ℕ)). AllBehind (x.first ∷ x.others) x.skipped q x.passed) (sym (marked_queue b p s')) (f.sittings seat x d.sits.sits).passed;
             hold = record { part = ap (λ (ps : List (MarkOf ℕ)). part_in t.part ps) (marked_parts b p s') ∙ own_put t.part (λ (n : ℕ). n + length bytes) s.stock.parts (part_under x.first t) held.part; kept = held.kept };
           }));
       parts = λ q there.

@@ -1,22 +1,24 @@
 -- Offering: the next entry is claimed, which is a step of the hub's node, or there is none.
-use Rattle.std.proofs.Common.{◌≡◌, ℕ, ◌+◌, false, List, [], ◌∷◌, Option, Some, None, option_map, refl, sym, ◌∙◌, ap, subst, inl, Ok}
+use Rattle.std.proofs.Common.{◌≡◌, ℕ, ◌+◌, ◌<◌, false, List, [], ◌∷◌, map, length, Option, Some, None, option_map, refl, sym, ◌∙◌, ap, subst, inl, Ok}
 use Rattle.ftn_addr.specs.Key.{Key, key_of}
 use Rattle.ftn_addr.specs.Limits.{IsKey}
 use Rattle.node_model.specs.declared.desk.Offer.{Offer}
 use Rattle.node_model.specs.declared.desk.Offer.TheVariants as O
 use Rattle.node_model.specs.declared.store.StoreFault.{StoreFault}
+use Rattle.node_model.specs.declared.words.Flavour.{Flavour}
 use Rattle.node_model.specs.declared.store.StoreFault.TheVariants as D
 use Rattle.node_model.specs.Items.{MarkOf, Entry}
 use Rattle.node_model.specs.Desks.{Claim, part_after, offer_answer}
-use Rattle.node_model.specs.Node.{with_session}
+use Rattle.node_model.specs.Node.{put_seat, seat_in, with_session}
 use Rattle.node_model.specs.SendRows.{OfferNothing, OfferFull}
 use Rattle.node_model.specs.Calls.{Offer_call, Offered, Nothing, Refused, Full, No_memory, NodeStep, Counts, Logs}
+use Rattle.node_model.specs.Sound.{Sound}
 use Rattle.node_model.specs.Stocks.{part_in}
 use Rattle.node_model.specs.Stores.{Shelf, Stored, StoreState, StoreStand, StoreCall, Reserve, StoreAnswer, Staged_as, Copied_as, Slots, Part_opened, Came, Gave_so, Acted_on, Well, Refuses, StoreDoes, StoreMade, StorePasses, Before_it, Source_first, After_it, BreaksStore, PartsStay, MayLose, TellsOn, IsShelf, shelf_of}
 use Rattle.node_model.proofs.StepSound.{step_sound}
-use Rattle.hub_core.specs.Hubs.{Sitting, Chair, HubState, HubFits, SittingFits, chair_in, with_sitting, sitting_at, session_over, node_with, sitting_part, seat_part}
+use Rattle.hub_core.specs.Hubs.{Sitting, Chair, HubState, HubFits, SittingFits, chair_in, with_sitting, sitting_at, session_over, seat_over, node_with, sitting_part, seat_part}
 use Rattle.hub_core.specs.HubCalls.{HasTurn, Does}
-use Rattle.hub_core.specs.Sending.{OffersFile, OffersNothing, Offers, OffersFull, claimed_sitting}
+use Rattle.hub_core.specs.Sending.{OffersFile, OffersNothing, Offers, OffersFull, claimed_sitting, passed_sitting}
 use Rattle.hub_core.specs.Steps.{Leaves, StaysSettled, OneOf, RefusedBy, Broke, Stays, LacksOne, loses_none, fault_in, counted_full, reserved_more}
 use Rattle.hub_core.proofs.BeginSteps.{full_fits, full_caused, one_passes}
 use Rattle.hub_core.proofs.Breaking.{same_but}
@@ -25,7 +27,7 @@ use Rattle.hub_core.proofs.Ends.{same_content}
 use Rattle.hub_core.proofs.Keeping.{leaves_as}
 use Rattle.hub_core.proofs.Marking.{sitting_stays}
 use Rattle.hub_core.proofs.Nodes.{seats_put, session_is, sits_at, sittings_put, chair_at}
-use Rattle.hub_core.proofs.Sittings.{sit_twice, sit_back}
+use Rattle.hub_core.proofs.Sittings.{sit_twice, sit_same, sit_back}
 use Rattle.hub_core.proofs.Stepping.{Stepped}
 use Rattle.hub_core.proofs.Owning.{own_same, own_sits}
 use Rattle.hub_core.proofs.Turning.{fitted_now, made_does, broken_does}
@@ -72,22 +74,22 @@ reserve_refused cause D.NoMemory s t why made = made.1
 
 -- The step.
 
-offered_node : (a : Stored) (s : StoreState) (h : HubState) (seat : ℕ) (x : Sitting) (number : ℕ) (key : Key) (e : Entry) → e.number ≡ number → node_with a (reserved_more 1 s) (with_sitting seat (Some (claimed_sitting number key x)) h) ≡ record (with_session seat (Some (record (session_over a.stock x) { claim = Some e.number; claim_places = 1 })) (node_with a s h)) { reserved = s.reserved + 1 }
-offered_node a s h seat x number key e numbered = λ i. record (node_with a s h) {
-  seats = seats_put a.stock a.stock h seat (Some (claimed_sitting number key x)) (Some (record (session_over a.stock x) { claim = Some e.number; claim_places = 1 })) (λ k y apart at. refl) (λ j. Some (record (session_over a.stock x) { claim = Some (sym numbered j); claim_places = 1 })) i;
+offered_node : (a : Stored) (s : StoreState) (h : HubState) (seat : ℕ) (x : Sitting) (at : Option (Flavour × ℕ)) (number : ℕ) (key : Key) (e : Entry) → e.number ≡ number → node_with a (reserved_more 1 s) (with_sitting seat (Some (claimed_sitting number key (passed_sitting at x))) h) ≡ record (with_session seat (Some (record (session_over a.stock x) { claim = Some e.number; claim_places = 1 })) (node_with a s h)) { reserved = s.reserved + 1 }
+offered_node a s h seat x at number key e numbered = λ i. record (node_with a s h) {
+  seats = seats_put a.stock a.stock h seat (Some (claimed_sitting number key (passed_sitting at x))) (Some (record (session_over a.stock x) { claim = Some e.number; claim_places = 1 })) (λ k y apart is. refl) (λ j. Some (record (session_over a.stock x) { claim = Some (sym numbered j); claim_places = 1 })) i;
   reserved = s.reserved + 1;
 }
 
-offered_stepped : (a : Stored) (s : StoreState) (h : HubState) (seat : ℕ) (x : Sitting) (number : ℕ) (key : Key) (t : StoreState) (y : Sitting) → HubFits a s h → sitting_at h seat ≡ Some x → x.claim ≡ None → s.counts.broken ≡ None → OffersFile (with_sitting seat None h).chairs x number key s t y → Stepped seat Offer_call (Offered number key) s h a (reserved_more 1 s) (with_sitting seat (Some (claimed_sitting number key x)) h)
+offered_stepped : (a : Stored) (s : StoreState) (h : HubState) (seat : ℕ) (x : Sitting) (number : ℕ) (key : Key) (t : StoreState) (y : Sitting) → HubFits a s h → sitting_at h seat ≡ Some x → x.claim ≡ None → s.counts.broken ≡ None → (o : OffersFile (with_sitting seat None h).chairs x number key s t y) → Stepped seat Offer_call (Offered number key) s h a (reserved_more 1 s) (with_sitting seat (Some (claimed_sitting number key (passed_sitting o.passed x))) h)
 offered_stepped a s h seat x number key t y f sits unclaimed whole o =
     let told = next_told a s h seat x (o.flavour, number) f sits unclaimed o.first in
     let e = told.entry in
-    let z = claimed_sitting number key x in
+    let z = claimed_sitting number key (passed_sitting o.passed x) in
     let m = node_with a (reserved_more 1 s) (with_sitting seat (Some z) h) in
     let keyed = next_keyed a s h e number key f told.candidate.queued told.numbered o.keyed in
     let free : (session_over a.stock x).claim ≡ None = ap (option_map (λ (c : Claim). c.number)) unclaimed in
     let step : NodeStep seat (node_with a s h) Offer_call (Offered number key) m =
-    (inl whole, (e, told.numbered, keyed, record { session = session_over a.stock x; has = session_is a s h seat x sits; free = free; candidate = told.candidate; least = told.least; room = o.room; after = offered_node a s h seat x number key e told.numbered })) in
+    (inl whole, (e, told.numbered, keyed, record { session = session_over a.stock x; has = session_is a s h seat x sits; free = free; candidate = told.candidate; least = told.least; room = o.room; after = offered_node a s h seat x o.passed number key e told.numbered })) in
     let c : Chair = record (chair_in h.chairs seat) { sitting = Some z } in
     let mine = sitting_stays s (reserved_more 1 s) x refl refl (f.sittings seat x sits) in
     record {
@@ -98,9 +100,39 @@ offered_stepped a s h seat x number key t y f sits unclaimed whole o =
         stock = f.stock;
         sittings = sittings_put (λ (w : Sitting). SittingFits (reserved_more 1 s) w) h seat (Some z)
             (λ k w apart at. sitting_stays s (reserved_more 1 s) w refl refl (f.sittings k w at))
-            (λ w is. subst (λ (q : Sitting). SittingFits (reserved_more 1 s) q) (some_same is) (record { first = mine.first; claim = o.keyed; hold = mine.hold }));
+            (λ w is. subst (λ (q : Sitting). SittingFits (reserved_more 1 s) q) (some_same is) (record { first = mine.first; claim = o.keyed; passed = o.goes_on; hold = mine.hold }));
         parts = f.parts;
         sound = step_sound seat (node_with a s h) Offer_call (Offered number key) m step (λ unbroken. f.sound) whole;
+      };
+      counts = (ap (λ (w : Chair). w.busy) (chair_at seat c h.chairs), ap (λ (w : Chair). w.reads) (chair_at seat c h.chairs));
+    }
+
+passed_node : (a : Stored) (s : StoreState) (h : HubState) (seat : ℕ) (x : Sitting) (at : Option (Flavour × ℕ)) → seat < length h.chairs → sitting_at h seat ≡ Some x → node_with a s (with_sitting seat (Some (passed_sitting at x)) h) ≡ node_with a s h
+passed_node a s h seat x at given sits =
+    (λ i. record (node_with a s h) { seats = (put (passed_sitting at x) refl ∙ sym (put x refl)) i })
+    ∙ ap (node_with a s) (sit_same h seat (Some x) given (sym sits))
+  where
+    put : (y : Sitting) → Some (session_over a.stock y) ≡ Some (session_over a.stock x) → map (seat_over a.stock) (with_sitting seat (Some y) h).chairs ≡ put_seat seat (record (seat_in (map (seat_over a.stock) h.chairs) seat) { session = Some (session_over a.stock x) }) (map (seat_over a.stock) h.chairs)
+    put y same = seats_put a.stock a.stock h seat (Some y) (Some (session_over a.stock x)) (λ k w apart is. refl) same
+
+nothing_stepped : (a : Stored) (s : StoreState) (h : HubState) (seat : ℕ) (x : Sitting) (t : StoreState) (y : Sitting) → HubFits a s h → seat < length h.chairs → sitting_at h seat ≡ Some x → x.claim ≡ None → s.counts.broken ≡ None → (o : OffersNothing (with_sitting seat None h).chairs x s t y) → Stepped seat Offer_call Nothing s h a s (with_sitting seat (Some (passed_sitting o.passed x)) h)
+nothing_stepped a s h seat x t y f given sits unclaimed whole o =
+    let z = passed_sitting o.passed x in
+    let mine = f.sittings seat x sits in
+    let same = passed_node a s h seat x o.passed given sits in
+    let free : (session_over a.stock x).claim ≡ None = ap (option_map (λ (c : Claim). c.number)) unclaimed in
+    let none : OfferNothing seat (node_with a s h) (node_with a s (with_sitting seat (Some z) h)) = record { session = session_over a.stock x; has = session_is a s h seat x sits; free = free; none = none_told a s h seat x f o.none; after = same } in
+    let c : Chair = record (chair_in h.chairs seat) { sitting = Some z } in
+    record {
+      change = λ b. b;
+      content = same_content s.content;
+      step = (inl whole, none);
+      fits = record {
+        stock = f.stock;
+        sittings = sittings_put (λ (w : Sitting). SittingFits s w) h seat (Some z) (λ k w apart at. f.sittings k w at)
+            (λ w is. subst (λ (q : Sitting). SittingFits s q) (some_same is) (record { first = mine.first; claim = mine.claim; passed = o.goes_on; hold = mine.hold }));
+        parts = f.parts;
+        sound = subst Sound (sym same) f.sound;
       };
       counts = (ap (λ (w : Chair). w.busy) (chair_at seat c h.chairs), ap (λ (w : Chair). w.reads) (chair_at seat c h.chairs));
     }
@@ -111,7 +143,7 @@ pub offer_file_does : (v w : StoreStand) (h : HubState) (seat : ℕ) (x y : Sitt
 offer_file_does v w h seat x y number key b sits unclaimed o l settled =
     let f = fitted_now v h seat b in
     let g = with_sitting seat (Some y) h in
-    let z = claimed_sitting number key x in
+    let z = claimed_sitting number key (passed_sitting o.passed x) in
     let step : Stepped seat Offer_call (Offered number key) v.state h f.keeps w.state g =
     subst (λ (t : StoreState). Stepped seat Offer_call (Offered number key) v.state h f.keeps t g) (sym o.after)
     (subst (λ (q : Sitting). Stepped seat Offer_call (Offered number key) v.state h f.keeps (reserved_more 1 v.state) (with_sitting seat (Some q) h)) (sym o.claimed)
@@ -123,17 +155,20 @@ offer_file_does v w h seat x y number key b sits unclaimed o l settled =
     (ap sitting_part (sits_at h seat (Some y)) ∙ (ap (λ (q : Sitting). sitting_part (Some q)) o.claimed ∙ ap (λ (p : Option Sitting). part_after (sitting_part p) Offer_call (Offered number key)) (sym sits)))
     (own_sits seat (Some y) h w b.ready.given (ap (λ (t : StoreState). t.seat) o.after ∙ b.seat_is))
 
-pub offer_nothing_does : (v w : StoreStand) (h : HubState) (seat : ℕ) (x y : Sitting) → HasTurn v h seat → sitting_at h seat ≡ Some x → x.claim ≡ None → OffersNothing (with_sitting seat None h).chairs x v.state w.state y → Leaves (OneOf (v.state.content ∷ [])) v w → StaysSettled v w → Does v h seat Offer_call Nothing w h
+pub offer_nothing_does : (v w : StoreStand) (h : HubState) (seat : ℕ) (x y : Sitting) → HasTurn v h seat → sitting_at h seat ≡ Some x → x.claim ≡ None → OffersNothing (with_sitting seat None h).chairs x v.state w.state y → Leaves (OneOf (v.state.content ∷ [])) v w → StaysSettled v w → Does v h seat Offer_call Nothing w (with_sitting seat (Some y) h)
 offer_nothing_does v w h seat x y b sits unclaimed o l settled =
     let f = fitted_now v h seat b in
-    let free : (session_over f.keeps.stock x).claim ≡ None = ap (option_map (λ (c : Claim). c.number)) unclaimed in
-    let none : OfferNothing seat (node_with f.keeps v.state h) (node_with f.keeps v.state h) = record { session = session_over f.keeps.stock x; has = session_is f.keeps v.state h seat x sits; free = free; none = none_told f.keeps v.state h seat x f.fits o.none; after = refl } in
-    let step : Stepped seat Offer_call Nothing v.state h f.keeps v.state h = record { change = λ a. a; content = same_content v.state.content; step = (inl b.whole, none); fits = f.fits; counts = (refl, refl) } in
+    let g = with_sitting seat (Some y) h in
+    let step : Stepped seat Offer_call Nothing v.state h f.keeps w.state g =
+    subst (λ (t : StoreState). Stepped seat Offer_call Nothing v.state h f.keeps t g) (sym o.after)
+    (subst (λ (q : Sitting). Stepped seat Offer_call Nothing v.state h f.keeps v.state (with_sitting seat (Some q) h)) (sym o.same)
+    (nothing_stepped f.keeps v.state h seat x w.state y f.fits b.ready.given sits unclaimed b.whole o)) in
     let counts : w.state.counts ≡ v.state.counts = ap (λ (t : StoreState). t.counts) o.after in
-    made_does v w h h seat Offer_call Nothing b (inl b.whole, counts)
-    (subst (λ (t : StoreState). Stepped seat Offer_call Nothing v.state h f.keeps t h) (sym o.after) step)
+    made_does v w h g seat Offer_call Nothing b (inl b.whole, counts) step
     (leaves_as _ _ v w (one_passes v h seat Offer_call) l)
-    (settled (b.ready.settled b.whole) (ap (λ (c : Counts). c.broken) counts ∙ b.whole)) refl (own_same seat h w (ap (λ (t : StoreState). t.seat) o.after ∙ b.seat_is))
+    (settled (b.ready.settled b.whole) (ap (λ (c : Counts). c.broken) counts ∙ b.whole))
+    (ap sitting_part (sits_at h seat (Some y)) ∙ (ap (λ (q : Sitting). sitting_part (Some q)) o.same ∙ ap (λ (p : Option Sitting). part_after (sitting_part p) Offer_call Nothing) (sym sits)))
+    (own_sits seat (Some y) h w b.ready.given (ap (λ (t : StoreState). t.seat) o.after ∙ b.seat_is))
 
 pub offer_refused : (v w : StoreStand) (h : HubState) (seat : ℕ) (x : Sitting) (fault : StoreFault) → HasTurn v h seat → sitting_at h seat ≡ Some x → x.claim ≡ None → RefusedBy (OneOf (v.state.content ∷ [])) loses_none (OffersFull (with_sitting seat None h).chairs x v.state) fault v.state w.state → Leaves (OneOf (v.state.content ∷ [])) v w → StaysSettled v w → Does v h seat Offer_call (Refused (fault_in fault w.state.counts.faults)) w h
 offer_refused v w h seat x D.Disk b sits unclaimed r l settled =
@@ -165,7 +200,7 @@ offer_does v w h k seat x y (O.File number key) b sits free put o l settled =
     subst (Does v h seat Offer_call (Offered number (key_of key)) w) (sym (put ∙ sit_twice h seat (Some y) None))
     (offer_file_does v w h seat x y number (key_of key) b sits (unclaimed_at h seat x sits free) o l settled)
 offer_does v w h k seat x y O.Nothing b sits free put o l settled =
-    subst (Does v h seat Offer_call Nothing w) (sym (put ∙ sit_back h seat (Some y) b.ready.given (ap Some o.same ∙ sym sits)))
+    subst (Does v h seat Offer_call Nothing w) (sym (put ∙ sit_twice h seat (Some y) None))
     (offer_nothing_does v w h seat x y b sits (unclaimed_at h seat x sits free) o l settled)
 
 pub offer_err : (v w : StoreStand) (h k : HubState) (seat : ℕ) (x y : Sitting) (fault : StoreFault) → HasTurn v h seat → sitting_at h seat ≡ Some x → (seat_part h seat).claim ≡ None → k ≡ with_sitting seat (Some y) (with_sitting seat None h) → y ≡ x → RefusedBy (OneOf (v.state.content ∷ [])) loses_none (OffersFull (with_sitting seat None h).chairs x v.state) fault v.state w.state → Leaves (OneOf (v.state.content ∷ [])) v w → StaysSettled v w → Does v h seat Offer_call (Refused (fault_in fault w.state.counts.faults)) w k

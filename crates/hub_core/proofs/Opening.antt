@@ -104,8 +104,8 @@ opened_fits a s h seat x key taking missed places free sound =
     record {
       stock = opened_sizes a s x.first key places f.stock;
       sittings = sittings_put (λ (z : Sitting). SittingFits s' z) h seat (Some y)
-          (λ k z apart at. let fit = f.sittings k z at in record { first = fit.first; claim = fit.claim; hold = stays k z apart at z.hold refl fit.hold })
-          (λ z is. subst (λ (u : Sitting). SittingFits s' u) (some_same is) (record { first = (f.sittings seat x free.sits).first; claim = (f.sittings seat x free.sits).claim; hold = record { part = own; kept = refl } }));
+          (λ k z apart at. let fit = f.sittings k z at in record { first = fit.first; claim = fit.claim; passed = fit.passed; hold = stays k z apart at z.hold refl fit.hold })
+          (λ z is. subst (λ (u : Sitting). SittingFits s' u) (some_same is) (record { first = (f.sittings seat x free.sits).first; claim = (f.sittings seat x free.sits).claim; passed = (f.sittings seat x free.sits).passed; hold = record { part = own; kept = refl } }));
       parts = λ p there. new_or p (pushed (unmarked x.first key s.stock.parts) _ p there) (record { marks = sound.parts.held_mark seat w held; receipts = sound.parts.held_receipt seat w held });
       sound = sound;
     }

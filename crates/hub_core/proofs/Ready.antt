@@ -61,7 +61,7 @@ claim_reserved a s h seat x sits =
 pub turn_fits : (a : Stored) (s t : StoreState) (h : HubState) (seat : ℕ) → t ≡ record s { seat = seat } → HubFits a s h → HubFits a t h
 turn_fits a s t h seat is f =
     subst (λ (x : StoreState). HubFits a x h) (sym is)
-    (record { stock = f.stock; sittings = λ k x at. let y = f.sittings k x at in record { first = y.first; claim = y.claim; hold = go x.first x.hold y.hold }; parts = f.parts; sound = f.sound })
+    (record { stock = f.stock; sittings = λ k x at. let y = f.sittings k x at in record { first = y.first; claim = y.claim; passed = y.passed; hold = go x.first x.hold y.hold }; parts = f.parts; sound = f.sound })
   where
     go : (from : Address) (o : Option Taking) → IfHeld s from o → IfHeld (record s { seat = seat }) from o
     go from None held = tt

@@ -15,6 +15,7 @@ use Rattle.node_model.specs.Stores.{Stored, StoreState, stored_after}
 use Rattle.node_model.proofs.Lists.{Each-without, Each-append, decide_line}
 use Rattle.node_model.proofs.StockMaps.{by_part-map, part_committed-map}
 use Rattle.hub_core.specs.Hubs.{Taking, Sitting, HubState, HubFits, PartFits, IfClaimed, IfHeld, chair_in, sitting_at, session_over, node_with}
+use Rattle.hub_core.specs.Skips.{AllBehind}
 use Rattle.hub_core.specs.Steps.{OpensWhole, opened_under, received_whole, whole_under, is_file, part_under}
 use Rattle.hub_core.proofs.Finding.{first-without, pushed, left_there}
 use Rattle.hub_core.proofs.OpenParts.{same_number, number_apart, number_same}
@@ -128,7 +129,7 @@ received_fits a s h seat x key free sound =
     record {
       stock = ap (λ (st : Sizes). by_part number (λ part stock. part_committed part x.secure stock) st) (opened_sizes a s x.first key 1 f.stock)
           ∙ sym (by_part-map length number (λ part stock. part_committed part x.secure stock) (λ part stock. part_committed part x.secure stock) (λ part stock. part_committed-map length part x.secure stock) (opened_stored x.first key s a).stock);
-      sittings = λ k y at. let fit = f.sittings k y at in record { first = fit.first; claim = subst (λ (q : List (EntryOf ℕ)). IfClaimed q y.claim) (sym (received_queue x.first key x.number x.secure s)) fit.claim; hold = ⊎_elim (λ (here : k ≡ seat). own k y here at) (λ (apart : k ≢ seat). stays k y apart at y.hold refl fit.hold) (decide_line k seat) };
+      sittings = λ k y at. let fit = f.sittings k y at in record { first = fit.first; claim = subst (λ (q : List (EntryOf ℕ)). IfClaimed q y.claim) (sym (received_queue x.first key x.number x.secure s)) fit.claim; passed = subst (λ (q : List (EntryOf ℕ)). AllBehind (y.first ∷ y.others) y.skipped q y.passed) (sym (received_queue x.first key x.number x.secure s)) fit.passed; hold = ⊎_elim (λ (here : k ≡ seat). own k y here at) (λ (apart : k ≢ seat). stays k y apart at y.hold refl fit.hold) (decide_line k seat) };
       parts = λ p there. parts p (subst (λ (st : Sizes). Member p st.parts) (sizes_received a s h seat x key x.secure free) there);
       sound = sound;
     }

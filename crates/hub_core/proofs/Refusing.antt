@@ -73,7 +73,7 @@ refused_fits a s h seat x key reason free sound =
     let f = free.fits in
     record {
       stock = ap (λ (st : Sizes). file_refused (refusal_of x.first key) st) f.stock ∙ sym (file_refused-map length (refusal_of x.first key) a.stock);
-      sittings = λ k y at. let fit = f.sittings k y at in record { first = fit.first; claim = fit.claim; hold = ⊎_elim (λ (here : k ≡ seat). subst (λ (o : Option Taking). IfHeld (file_refused_under x.first key x.number reason s) y.first o) (sym (own_none a s h seat x key free k y here at)) tt) (λ (apart : k ≢ seat). stays k y apart at y.hold refl fit.hold) (decide_line k seat) };
+      sittings = λ k y at. let fit = f.sittings k y at in record { first = fit.first; claim = fit.claim; passed = fit.passed; hold = ⊎_elim (λ (here : k ≡ seat). subst (λ (o : Option Taking). IfHeld (file_refused_under x.first key x.number reason s) y.first o) (sym (own_none a s h seat x key free k y here at)) tt) (λ (apart : k ≢ seat). stays k y apart at y.hold refl fit.hold) (decide_line k seat) };
       parts = λ p there. let fit = f.parts p (left_there (is_file x.first key) s.stock.parts p there).0 in
           record { marks = Each-without (λ (m : Mark). (m.number ≡ p.number → is_same p.from p.key m.from m.key ≡ true) × (is_same p.from p.key m.from m.key ≡ true → m.number ≡ p.number)) (λ (m : Mark). is_same x.first key m.from m.key) a.stock.state.marks fit.marks; receipts = fit.receipts };
       sound = sound;

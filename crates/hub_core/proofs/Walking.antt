@@ -8,7 +8,11 @@ use Rattle.node_model.specs.Lists.{Member}
 use Rattle.node_model.specs.SendRows.{rank}
 use Rattle.node_model.specs.Stocks.{is_live, IsBehind, IsOffered, NextLive}
 use Rattle.node_model.proofs.Lists.{Member-append, Member-append_right, Member-append_cases, off}
-use Rattle.hub_core.specs.Sending.{Comes, EarlierOf, place_of, IsFree, FirstFree, NextFree}
+use Rattle.hub_core.specs.declared.claim_index.ClaimIndex.{ClaimIndex}
+use Rattle.hub_core.specs.Indices.{KeptIf}
+use Rattle.hub_core.specs.Sending.{Comes, EarlierOf, place_of, FirstFree, NextFree}
+use Rattle.hub_core.specs.Skips.{AllBehind, IsFree, Skipped}
+use Rattle.hub_core.proofs.Going.{free_alike, skipped_kept}
 
 pub comes_then : (a b c : Flavour × ℕ) → Comes a b → Comes b c → Comes a c
 comes_then a b c (inl x) (inl y) = inl (omega (arith, x, y))
@@ -139,8 +143,10 @@ walks_from dest Back queue after behind None next =
 walks_from dest Back queue after behind (Some at) next =
     record { entry = next.entry; there = next.offered.there; live = next.offered.live; addressed = next.offered.addressed; flavoured = next.flavoured; numbered = next.numbered; least = λ f free. next.least f (free_offered dest Back queue after f free (behind f free)) }
 
-pub walk_begins : (dest : Address) (Back : ℕ → Type 0) (queue : List (EntryOf ℕ)) (r : Option (Flavour × ℕ)) → NextLive dest None queue r → Walks dest Back queue r
-walk_begins dest Back queue r next = walks_from dest Back queue None (λ f free. tt) r next
+-- it begins at a place that only skipped entries stand before
+pub walk_begins : (dest : Address) (o : Option ClaimIndex) (skipped : List ℕ) (queue : List (EntryOf ℕ)) (at r : Option (Flavour × ℕ)) → AllBehind (dest ∷ []) skipped queue at → NextLive dest at queue r → Walks dest (KeptIf o skipped) queue r
+walk_begins dest o skipped queue at r all next =
+    walks_from dest (KeptIf o skipped) queue at (λ f free. all f (free_alike (dest ∷ []) (KeptIf o skipped) (Skipped skipped) queue f (skipped_kept o skipped) free)) r next
 
 -- an entry that is kept back is left behind
 pub walk_on : (dest : Address) (Back : ℕ → Type 0) (queue : List (EntryOf ℕ)) (at : Flavour × ℕ) (r : Option (Flavour × ℕ)) → Walked dest Back queue at → Back at.1 → NextLive dest (Some at) queue r → Walks dest Back queue r

@@ -1,10 +1,11 @@
 -- What contracts see of a hub over a store, and the node that it tells (own).
-use Rattle.std.specs.Prelude.{◌≡◌, ◌≢◌, zero, suc, ℕ, Bool, true, false, ◌-◌, ◌<◌, List, [], ◌∷◌, Option, Some, None, map, option_map, length, slice_index_or}
+use Rattle.std.specs.Prelude.{◌≡◌, ◌≢◌, zero, suc, ℕ, Bool, true, false, ◌-◌, ◌<◌, List, [], ◌∷◌, Option, Some, None, map, option_map, length, reverse, slice_index_or}
 use Rattle.ftn_addr.specs.Address.{Address, address}
 use Rattle.ftn_addr.specs.Counts.{next_count}
 use Rattle.ftn_addr.specs.Files.{is_same}
 use Rattle.ftn_addr.specs.Key.{Key, key_of}
 use Rattle.ftn_addr.specs.Limits.{IsAddress}
+use Rattle.node_model.specs.declared.words.Flavour.{Flavour}
 use Rattle.node_model.specs.declared.words.Role.{Role}
 use Rattle.node_model.specs.Items.{EntryOf, Receipt, Mark, MarkOf}
 use Rattle.node_model.specs.Lists.{Member, Each}
@@ -24,6 +25,7 @@ use Rattle.hub_core.specs.declared.places.Open.{Open}
 use Rattle.hub_core.specs.declared.places.Place.{Place}
 use Rattle.hub_core.specs.declared.places.HubConf.{HubConf}
 use Rattle.hub_core.specs.declared.places.Seats.{Seats}
+use Rattle.hub_core.specs.Skips.{AllBehind}
 
 -- the file that a session holds: its part in the store, its key, how many bytes of it came, whether data is taken, its
 -- places, and whether the session was told, over a broken store, that it holds it no more
@@ -35,7 +37,7 @@ pub record Taking : Type 0 where
   pub places : ℕ
   pub dropped : Bool
 
--- an open session
+-- an open session; the entries that it skipped, the last one first, and the place that its search goes on from
 pub record Sitting : Type 0 where
   pub number : ℕ
   pub role : Role
@@ -45,6 +47,7 @@ pub record Sitting : Type 0 where
   pub moment : ℕ
   pub claim : Option Claim
   pub skipped : List ℕ
+  pub passed : Option (Flavour × ℕ)
   pub hold : Option Taking
   pub missed : List Key
 
@@ -70,7 +73,7 @@ claim_of c = record { number = c.number; key = key_of c.key }
 
 abbrev pub sitting_of : Open → Sitting
 sitting_of o =
-    record { number = o.number; role = o.role; first = address o.first; others = map address o.others.items; secure = o.secure; moment = o.moment; claim = option_map claim_of o.offers.claim; skipped = o.offers.skipped.items; hold = option_map taking_of o.hold; missed = map key_of o.missed.items }
+    record { number = o.number; role = o.role; first = address o.first; others = map address o.others.items; secure = o.secure; moment = o.moment; claim = option_map claim_of o.offers.claim; skipped = reverse o.offers.skips.list.items; passed = o.offers.passed; hold = option_map taking_of o.hold; missed = map key_of o.missed.items }
 
 abbrev pub chair_of : Place → Chair
 chair_of p = record { busy = p.busy; reads = p.reads; sitting = option_map sitting_of p.session }
@@ -193,7 +196,7 @@ seat_part h seat = sitting_part (sitting_at h seat)
 -- a new session with these peers
 pub record IsNewSitting (number : ℕ) (role : Role) (peers : List Address) (secure : Bool) (moment : ℕ) (x : Sitting) : Type 0 where
   pub peers_are : x.first ∷ x.others ≡ peers
-  pub is : x ≡ record { number = number; role = role; first = x.first; others = x.others; secure = secure; moment = moment; claim = None; skipped = []; hold = None; missed = [] }
+  pub is : x ≡ record { number = number; role = role; first = x.first; others = x.others; secure = secure; moment = moment; claim = None; skipped = []; passed = None; hold = None; missed = [] }
 
 -- What holds between two calls.
 
@@ -211,9 +214,11 @@ abbrev pub IfClaimed : List (EntryOf ℕ) → Option Claim → Type 0
 IfClaimed queue None = Unit {0}
 IfClaimed queue (Some c) = KeyOf c.number c.key queue
 
+-- what is queued for its peer and not skipped stands behind the place that it goes on from
 pub record SittingFits (s : StoreState) (x : Sitting) : Type 0 where
   pub first : IsAddress x.first
   pub claim : IfClaimed s.stock.state.queue x.claim
+  pub passed : AllBehind (x.first ∷ x.others) x.skipped s.stock.state.queue x.passed
   pub hold : IfHeld s x.first x.hold
 
 -- an open part has the number of its mark and no other's, and no receipt's

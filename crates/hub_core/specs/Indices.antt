@@ -6,7 +6,8 @@ use Rattle.node_model.specs.declared.desk.Offer.{Offer}
 use Rattle.node_model.specs.declared.desk.Offer.TheVariants as O
 use Rattle.hub_core.specs.declared.claim_index.ClaimIndex.{ClaimIndex}
 use Rattle.hub_core.specs.Hubs.{Sitting, Chair, chair_in}
-use Rattle.hub_core.specs.Sending.{is_skipped, sitting_claims}
+use Rattle.hub_core.specs.Sending.{sitting_claims}
+use Rattle.hub_core.specs.Skips.{Skipped, is_skipped}
 
 -- it is that number
 abbrev pub is_just : ℕ → Option ℕ → Bool
@@ -28,6 +29,11 @@ ClaimsOf index chairs = Finds sitting_claims (claimer index) chairs
 -- a seat has claimed it, as the index finds, or the session has skipped it
 abbrev pub KeptFrom : ClaimIndex → List ℕ → ℕ → Type 0
 KeptFrom index skipped number = (is_some (claimer index number) ≡ true) ⊎ (is_skipped skipped number ≡ true)
+
+-- the session has skipped it, or, where an index of claims counts, a seat has claimed it
+abbrev pub KeptIf : Option ClaimIndex → List ℕ → ℕ → Type 0
+KeptIf None skipped number = Skipped skipped number
+KeptIf (Some index) skipped number = KeptFrom index skipped number
 
 -- what an offer does with the index: the entry, which no seat had claimed, is this seat's
 abbrev pub Claims : ℕ → Offer → ClaimIndex → ClaimIndex → Type 0

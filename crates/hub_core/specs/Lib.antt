@@ -4,5 +4,6 @@ pub mod HubLaws
 pub mod Hubs
 pub mod Indices
 pub mod Sending
+pub mod Skips
 pub mod Steps
 pub mod Opening

@@ -1,14 +1,11 @@
 -- What a hub's session offers, reads, settles and skips, before it is told as steps of the node (own).
 use Rattle.std.specs.Prelude.{◌≡◌, ◌⊎◌, ℕ, Bool, true, false, ◌==◌, ◌+◌, ◌<◌, ◌≤◌, List, [], ◌∷◌, Option, Some, None, option_map, take, drop}
-use Rattle.std.specs.List.{list_any}
 use Rattle.ftn_addr.specs.Address.{Address}
 use Rattle.node_model.specs.declared.words.Flavour.{Flavour}
 use Rattle.node_model.specs.declared.words.TheConstants.{MOST_RECORDS}
 use Rattle.node_model.specs.Items.{EntryOf}
-use Rattle.node_model.specs.Lists.{Member}
 use Rattle.node_model.specs.Desks.{Claim}
 use Rattle.node_model.specs.SendRows.{rank}
-use Rattle.node_model.specs.Stocks.{is_live}
 use Rattle.node_model.specs.Stores.{StoreState, IfTold, Source}
 use Rattle.node_model.specs.declared.store.StoreFault.{StoreFault}
 use Rattle.node_model.specs.declared.store.StoreFault.TheVariants.{Disk, Read, Full, NoMemory}
@@ -19,6 +16,7 @@ use Rattle.ftn_addr.specs.Counts.{Increased, next_count}
 use Rattle.ftn_addr.specs.Key.{Key, key_of}
 use Rattle.ftn_addr.specs.Limits.{IsKey}
 use Rattle.hub_core.specs.Hubs.{Sitting, Chair, HubState, chair_in, put_chair, sitting_at}
+use Rattle.hub_core.specs.Skips.{IsFree, AllBehind, is_skipped}
 use Rattle.hub_core.specs.Steps.{Broke, OneOf, loses_none, reserved_more, LacksOne}
 
 -- Entries that aren't offered.
@@ -40,9 +38,6 @@ pub record ClaimedBy (chairs : List Chair) (number : ℕ) : Type 0 where
   pub other : ℕ
   pub claims : chair_claims number (chair_in chairs other) ≡ true
 
-abbrev pub is_skipped : List ℕ → ℕ → Bool
-is_skipped skipped number = list_any (λ n. n == number) skipped
-
 -- a seat has claimed it, or the session has skipped it
 abbrev pub KeptBack : List Chair → List ℕ → ℕ → Type 0
 KeptBack chairs skipped number = ClaimedBy chairs number ⊎ (is_skipped skipped number ≡ true)
@@ -61,13 +56,6 @@ EarlierOf (Some a) (Some b) least = ((least ≡ Some a) × Comes a b) ⊎ ((leas
 
 abbrev pub place_of : EntryOf ℕ → Flavour × ℕ
 place_of e = (e.flavour, e.number)
-
--- a live entry for one of these addresses that isn't kept back
-pub record IsFree (dests : List Address) (Back : ℕ → Type 0) (queue : List (EntryOf ℕ)) (e : EntryOf ℕ) : Type 0 where
-  pub there : Member e queue
-  pub live : is_live e.body ≡ true
-  pub addressed : Member e.dest dests
-  pub free : Back e.number → ⊥
 
 -- the first of these by flavour, then by number
 pub record FirstFree (dests : List Address) (Back : ℕ → Type 0) (queue : List (EntryOf ℕ)) (at : Flavour × ℕ) : Type 0 where
@@ -92,12 +80,20 @@ unclaimed_sitting x = record x { claim = None }
 abbrev pub skipped_sitting : ℕ → Sitting → Sitting
 skipped_sitting number x = record x { claim = None; skipped = number ∷ x.skipped }
 
+-- it goes on from another place
+abbrev pub passed_sitting : Option (Flavour × ℕ) → Sitting → Sitting
+passed_sitting at x = record x { passed = at }
+
 -- the addresses of the session's peer
 abbrev pub dests_of : Sitting → List Address
 dests_of x = x.first ∷ x.others
 
 abbrev pub NextOf : List Chair → Sitting → StoreState → Option (Flavour × ℕ) → Type 0
 NextOf chairs x s at = NextFree (dests_of x) (KeptBack chairs x.skipped) s.stock.state.queue at
+
+-- a place that the session may go on from
+abbrev pub GoesOnFrom : Sitting → StoreState → Option (Flavour × ℕ) → Type 0
+GoesOnFrom x s at = AllBehind (dests_of x) x.skipped s.stock.state.queue at
 
 -- the next is claimed, with its key, under a place of its own
 pub record OffersFile (chairs : List Chair) (x : Sitting) (number : ℕ) (key : Key) (old new : StoreState) (y : Sitting) : Type 0 where
@@ -107,13 +103,17 @@ pub record OffersFile (chairs : List Chair) (x : Sitting) (number : ℕ) (key : 
   pub limits : IsKey key
   pub room : old.records + old.reserved + 1 ≤ MOST_RECORDS
   pub after : new ≡ reserved_more 1 old
-  pub claimed : y ≡ claimed_sitting number key x
+  pub passed : Option (Flavour × ℕ)
+  pub goes_on : GoesOnFrom x old passed
+  pub claimed : y ≡ claimed_sitting number key (passed_sitting passed x)
 
 -- there is none
 pub record OffersNothing (chairs : List Chair) (x : Sitting) (old new : StoreState) (y : Sitting) : Type 0 where
   pub none : NextOf chairs x old None
   pub after : new ≡ old
-  pub same : y ≡ x
+  pub passed : Option (Flavour × ℕ)
+  pub goes_on : GoesOnFrom x old passed
+  pub same : y ≡ passed_sitting passed x
 
 abbrev pub Offers : List Chair → Sitting → Offer → StoreState → StoreState → Sitting → Type 0
 Offers chairs x (O.File number key) old new y = OffersFile chairs x number (key_of key) old new y

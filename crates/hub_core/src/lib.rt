@@ -31,6 +31,7 @@ mod parts;
 mod places;
 mod seats;
 mod sending;
+mod skips;
 mod taking;
 #[cfg(test)]
 mod tests;

@@ -7,7 +7,7 @@ ghost use Rattle.node_model.specs.Stores.{IsLive, settled};
 ghost use Rattle.hub_core.specs.Hubs.{Chair, hub_state, sitting_of};
 ghost use Rattle.hub_core.specs.Indices.{Claims, ClaimsOf, claimer, is_just};
 ghost use Rattle.hub_core.specs.Steps.{Leaves, StaysSettled, BrokeBy, RefusedBy, OneOf, given_back, loses_none};
-ghost use Rattle.hub_core.specs.Sending.{NextOf, Offers as IsOffer, OffersFull, ReadRefused, ReadsBytes, claimed_sitting, unclaimed_sitting, claimed_at, claim_number, number_of, skipped_sitting, read_once_more};
+ghost use Rattle.hub_core.specs.Sending.{GoesOnFrom, NextOf, Offers as IsOffer, OffersFull, ReadRefused, ReadsBytes, claimed_sitting, unclaimed_sitting, claimed_at, claim_number, number_of, skipped_sitting, read_once_more};
 
 use crate::claim_index::ClaimIndex;
 use crate::places::{Claimed, Open, Seats};
@@ -15,18 +15,54 @@ use crate::seats::one_more;
 use crate::sending::next_for;
 use crate::{DeskFault, Offer};
 use ftn_addr::{FileKey, NoMemory};
-use node_model::{LivePlace, Store, StoreFault};
+use node_model::{Flavour, LivePlace, Store, StoreFault};
 use std::alloc::Global;
 
+// Behind it no entry stands.
+const LAST_PLACE: LivePlace = (Flavour::Hold, u32::MAX);
+
 impl Open {
+    // The place behind which its search goes on: right before the first entry for its peer that it hasn't skipped.
+    fn pass<S: Store>(&self, store: &S) -> Option<LivePlace>
+        requires { GoesOnFrom (sitting_of self.now) (S.stand store.now).state (sitting_of self.now).passed }
+        ensures { GoesOnFrom (sitting_of self.now) (S.stand store.now).state result }
+    {
+        let offers = &self.offers;
+        match next_for(
+            store,
+            None,
+            &offers.skips,
+            offers.passed,
+            &self.first,
+            &self.others,
+        ) {
+            Some((flavour, number)) if 0 < number => Some((flavour, number - 1)),
+            Some(_) => offers.passed,
+            None => Some(LAST_PLACE),
+        }
+    }
+
     // The first entry for its peer that no session has claimed and this one hasn't skipped.
-    fn next<S: Store>(&self, store: &S, claims: &ClaimIndex) -> Option<LivePlace>
+    fn next<S: Store>(
+        &self,
+        store: &S,
+        claims: &ClaimIndex,
+        passed: Option<LivePlace>,
+    ) -> Option<LivePlace>
+        requires { GoesOnFrom (sitting_of self.now) (S.stand store.now).state passed }
         ensures next { (chairs : List Chair) → ClaimsOf claims.now chairs → NextOf chairs (sitting_of self.now) (S.stand store.now).state result }
         ensures queued { IfSome result (λ at. HasEntry at.1 (S.stand store.now).state.stock.state.queue) }
         ensures free { IfSome result (λ at. claimer claims.now at.1 ≡ None) }
     {
         let offers = &self.offers;
-        next_for(store, claims, &offers.skipped, &self.first, &self.others)
+        next_for(
+            store,
+            Some(claims),
+            &offers.skips,
+            passed,
+            &self.first,
+            &self.others,
+        )
     }
 
     /// The number of the entry that it has claimed.
@@ -49,10 +85,7 @@ impl Open {
         };
         let offers = &mut self.offers;
         offers.claim = None;
-        match offers.skipped.insert(0, number) {
-            Ok(()) => {}
-            Err(_) => unreachable!(),
-        }
+        offers.skips.add(number);
     }
 
     // Claims an entry for a seat, with room for the note of a skip, and copies its key.
@@ -75,7 +108,7 @@ impl Open {
         let key = store.key_of(number);
         let offered = key.copy(alloc)?;
         let noted = key.copy(alloc)?;
-        self.offers.skipped.reserve(1)?;
+        self.offers.skips.make_room(number)?;
         claims.note(number, seat)?;
         self.offers.claim = Some(Claimed { number, key: noted });
         Ok(offered)
@@ -91,7 +124,8 @@ pub fn claim_next<S: Store>(
     seat: u32,
     session: &mut Open,
 ) -> Result<Offer, StoreFault>
-    requires { (S.stand store.old).state.counts.broken ≡ None }
+    requires whole { (S.stand store.old).state.counts.broken ≡ None }
+    requires passed { GoesOnFrom (sitting_of session.old) (S.stand store.old).state (sitting_of session.old).passed }
     ensures ok { (chairs : List Chair) → ClaimsOf claims.old chairs → IfOk result (λ offer. IsOffer chairs (sitting_of session.old) offer (S.stand store.old).state (S.stand store.new).state (sitting_of session.new)) }
     ensures err { (chairs : List Chair) → ClaimsOf claims.old chairs → IfErr result (λ fault. RefusedBy (OneOf ((S.stand store.old).state.content ∷ [])) loses_none (OffersFull chairs (sitting_of session.old) (S.stand store.old).state) fault (S.stand store.old).state (S.stand store.new).state) }
     ensures kept { OnErr result (sitting_of session.new ≡ sitting_of session.old) }
@@ -100,7 +134,9 @@ pub fn claim_next<S: Store>(
     ensures leaves { Leaves (OneOf ((S.stand store.old).state.content ∷ [])) (S.stand store.old) (S.stand store.new) }
     ensures settled { StaysSettled (S.stand store.old) (S.stand store.new) }
 {
-    let Some(next) = session.next(store, claims) else {
+    let passed = session.pass(store);
+    let Some(next) = session.next(store, claims, passed) else {
+        session.offers.passed = passed;
         return Ok(Offer::Nothing);
     };
     match store.reserve(1) {
@@ -108,7 +144,10 @@ pub fn claim_next<S: Store>(
         Err(fault) => return Err(fault),
     }
     match session.claim(store, alloc, claims, seat, next.1) {
-        Ok(key) => Ok(Offer::File(next.1, key)),
+        Ok(key) => {
+            session.offers.passed = passed;
+            Ok(Offer::File(next.1, key))
+        }
         Err(NoMemory) => {
             store.release(1);
             Err(StoreFault::NoMemory)

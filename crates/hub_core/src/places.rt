@@ -1,10 +1,10 @@
 //! The seats of a hub, and what their sessions hold.
-ghost use Rattle.std.specs.Prelude.{◌<◌, vec_len};
-ghost use Rattle.std.specs.Vec.{vec_capacity};
 ghost use Rattle.std.specs.Option.{ForSome};
+ghost use Rattle.hub_core.specs.Skips.{HasRoom};
 
+use crate::skips::Skips;
 use ftn_addr::{Addr, Bytes, FileKey};
-use node_model::Role;
+use node_model::{LivePlace, Role};
 
 /// The file that a session holds: its part in the store, how many bytes of it came, and the places that it has left.
 #[derive(Drop)]
@@ -26,13 +26,15 @@ pub struct Claimed {
     pub key: FileKey,
 }
 
-/// What a session offers: the entry that it has claimed, and those that it doesn't offer again, the last one first, with
-/// room for one more while it has a claim.
+/// What a session offers: the entry that it has claimed, and those that it doesn't offer again, with room for the claimed
+/// one.
 #[derive(Drop)]
 pub struct Offers {
     pub claim: Option<Claimed>,
-    pub skipped: Vec<u32>,
-    ghost room: { ForSome claim (λ c. vec_len skipped < vec_capacity skipped) },
+    pub skips: Skips,
+    /// Its search goes on behind this place: what is queued for its peer up to there is skipped or settled.
+    pub passed: Option<LivePlace>,
+    ghost room: { ForSome claim (λ c. HasRoom c.number skips.noted skips.list) },
 }
 
 /// An open session.

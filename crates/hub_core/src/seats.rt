@@ -8,6 +8,7 @@ ghost use Rattle.hub_core.specs.Steps.{chair_answers};
 
 use crate::judging::answering;
 use crate::places::{Offers, Open, Seats};
+use crate::skips::Skips;
 use ftn_addr::{Addr, NoMemory};
 use node_model::Role;
 use std::alloc::Global;
@@ -52,7 +53,8 @@ impl Open {
                 moment,
                 offers: Offers {
                     claim: None,
-                    skipped: Vec::new(alloc),
+                    skips: Skips::new(alloc),
+                    passed: None,
                 },
                 hold: None,
                 missed: Vec::new(alloc),

@@ -1,11 +1,13 @@
 //! What a hub's session offers: the next entry that no session has claimed and this one hasn't skipped.
-ghost use Rattle.std.specs.Prelude.{◌≡◌, ◌∷◌, [], true, false, map};
+ghost use Rattle.std.specs.Prelude.{◌≡◌, ◌∷◌, [], true, false, map, option_copied, reverse};
 ghost use Rattle.ftn_addr.specs.Address.{address};
 ghost use Rattle.node_model.specs.SendRows.{rank};
-ghost use Rattle.hub_core.specs.Indices.{KeptFrom};
-ghost use Rattle.hub_core.specs.Sending.{Comes, EarlierOf, NextFree, is_skipped as was_skipped};
+ghost use Rattle.hub_core.specs.Indices.{KeptIf};
+ghost use Rattle.hub_core.specs.Sending.{Comes, EarlierOf, NextFree};
+ghost use Rattle.hub_core.specs.Skips.{AllBehind};
 
 use crate::claim_index::ClaimIndex;
+use crate::skips::Skips;
 use ftn_addr::Addr;
 use node_model::{Flavour, LivePlace, Store};
 
@@ -42,32 +44,31 @@ fn earlier(a: Option<LivePlace>, b: Option<LivePlace>) -> Option<LivePlace>
     }
 }
 
-fn is_skipped(skipped: &[u32], number: u32) -> bool
-    ensures { result ≡ was_skipped skipped.now number }
+// Whether an entry is skipped, or, where claims count, claimed by a seat's session.
+fn is_kept_back(claims: Option<&ClaimIndex>, skips: &Skips, number: u32) -> bool
+    ensures back { result ≡ true → KeptIf (option_copied claims.entry) (reverse skips.now.list.items) number }
+    ensures free { result ≡ false → KeptIf (option_copied claims.entry) (reverse skips.now.list.items) number → ⊥ }
 {
-    skipped.iter().any(|n| *n == number)
+    match claims {
+        Some(claims) => claims.has(number) || skips.has(number),
+        None => skips.has(number),
+    }
 }
 
-// Whether an entry is claimed by a seat's session, or skipped.
-fn is_kept_back(claims: &ClaimIndex, skipped: &[u32], number: u32) -> bool
-    ensures back { result ≡ true → KeptFrom claims.now skipped.now number }
-    ensures free { result ≡ false → KeptFrom claims.now skipped.now number → ⊥ }
-{
-    claims.has(number) || is_skipped(skipped, number)
-}
-
-// The first live entry for an address that isn't kept back. It takes no memory.
+// The first live entry for an address that isn't kept back, searched from a place on. It takes no memory.
 fn next_free<S: Store>(
     store: &S,
-    claims: &ClaimIndex,
-    skipped: &[u32],
+    claims: Option<&ClaimIndex>,
+    skips: &Skips,
+    passed: Option<LivePlace>,
     dest: &Addr,
 ) -> Option<LivePlace>
-    ensures { NextFree (address dest.now ∷ []) (KeptFrom claims.now skipped.now) (S.stand store.now).state.stock.state.queue result }
+    requires { AllBehind (address dest.now ∷ []) (reverse skips.now.list.items) (S.stand store.now).state.stock.state.queue passed }
+    ensures { NextFree (address dest.now ∷ []) (KeptIf (option_copied claims.entry) (reverse skips.now.list.items)) (S.stand store.now).state.stock.state.queue result }
 {
-    let mut at = store.next_live(dest, None);
+    let mut at = store.next_live(dest, passed);
     while let Some(place) = at {
-        if !is_kept_back(claims, skipped, place.1) {
+        if !is_kept_back(claims, skips, place.1) {
             return Some(place);
         }
         at = store.next_live(dest, Some(place));
@@ -75,20 +76,22 @@ fn next_free<S: Store>(
     None
 }
 
-/// The first live entry for a peer that no session has claimed and that isn't skipped, by flavour and then by number.
-/// It takes no memory.
+/// The first live entry for a peer that isn't skipped and, where claims count, that no session has claimed, by flavour
+/// and then by number. It is searched from a place on that only skipped entries stand before. It takes no memory.
 pub fn next_for<S: Store>(
     store: &S,
-    claims: &ClaimIndex,
-    skipped: &[u32],
+    claims: Option<&ClaimIndex>,
+    skips: &Skips,
+    passed: Option<LivePlace>,
     first: &Addr,
     others: &[Addr],
 ) -> Option<LivePlace>
-    ensures { NextFree (address first.now ∷ map address others.now) (KeptFrom claims.now skipped.now) (S.stand store.now).state.stock.state.queue result }
+    requires { AllBehind (address first.now ∷ map address others.now) (reverse skips.now.list.items) (S.stand store.now).state.stock.state.queue passed }
+    ensures { NextFree (address first.now ∷ map address others.now) (KeptIf (option_copied claims.entry) (reverse skips.now.list.items)) (S.stand store.now).state.stock.state.queue result }
 {
-    let mut least = next_free(store, claims, skipped, first);
+    let mut least = next_free(store, claims, skips, passed, first);
     for peer in others {
-        least = earlier(least, next_free(store, claims, skipped, peer));
+        least = earlier(least, next_free(store, claims, skips, passed, peer));
     }
     least
 }

@@ -1,9 +1,9 @@
-use Rattle.std.proofs.Common.{subst}
+use Rattle.std.proofs.Common.{ap, subst}
 use Rattle.ftn_addr.specs.Key.{key_of}
 use Rattle.node_model.specs.StoreWords.{KeyOf}
 use Rattle.node_model.specs.Stores.{StoreState}
 use Rattle.hub_core.specs.Hubs.{sitting_of}
-use Rattle.hub_core.specs.Sending.{OffersFull}
+use Rattle.hub_core.specs.Sending.{OffersFull, passed_sitting}
 use Rattle.hub_core.proofs.OfferSteps.{reserve_refused}
 use Rattle.hub_core.proofs.offering.claim_next.Goals as goal
 
@@ -22,5 +22,7 @@ returns-in-Ok-claim-clause-ok g c = λ chairs has. record {
   limits = c.in-Ok-claim.ensures.limits;
   room = c.in-Ok.ensures.made.0;
   after = c.in-Ok.ensures.made.1;
-  claimed = c.in-Ok-claim.ensures.claimed;
+  passed = c.pass-passed.result;
+  goes_on = c.pass-passed.ensures;
+  claimed = ap (passed_sitting c.pass-passed.result) c.in-Ok-claim.ensures.claimed;
 }

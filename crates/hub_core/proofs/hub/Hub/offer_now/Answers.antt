@@ -9,6 +9,7 @@ use Rattle.hub_core.specs.Steps.{RefusedBy, OneOf, loses_none}
 use Rattle.hub_core.proofs.Claiming.{out_finds}
 use Rattle.hub_core.proofs.OfferSteps.{offer_does, offer_err, put_fits, offer_fits, same_fits}
 use Rattle.hub_core.proofs.Sittings.{given_still}
+use Rattle.hub_core.proofs.Turning.{fitted_now}
 use Rattle.hub_core.specs.Indices.{ClaimsOf}
 use Rattle.hub_core.proofs.Claiming.{claimed_finds}
 use Rattle.hub_core.proofs.Sittings.{sit_twice}
@@ -20,6 +21,12 @@ pub put_session-requires : goal.put_session-requires
 put_session-requires g c =
     let h = hub_state c.args.self.now.seats in
     subst (λ (k : HubState). c.args.seat < length k.chairs) (sym c.take_session.ensures.after) (given_still h c.args.seat None c.requires.turn.ready.given)
+
+pub claim_next-claimed-requires-clause-passed : goal.claim_next-claimed-requires-clause-passed
+claim_next-claimed-requires-clause-passed g c =
+    let v = g.S.Store.stand c.args.self.now.store in
+    let h = hub_state c.args.self.now.seats in
+    ((fitted_now v h c.args.seat c.requires.turn).fits.sittings c.args.seat (sitting_of c.in-Some.session) (sym c.in-Some.ensures.session)).passed
 
 pub returns-in-Ok-clause-does : goal.returns-in-Ok-clause-does
 returns-in-Ok-clause-does g c =
