@@ -6,7 +6,8 @@ ghost use Rattle.hub_core.specs.Hubs.{IsReady, hub_state};
 ghost use Rattle.hub_core.specs.Opening.{IsWhole, no_seats};
 
 use super::{
-    begin, conf, desk_over, has_claim, is_free, is_open, key, new_store, node, queued, sender, turn,
+    begin, conf, desk_over, has_claim, is_free, is_open, key, named, new_store, node, queued,
+    sender, turn,
 };
 use crate::{Desk, DeskFault, HubDesk, Offer};
 use list_store::{ListStore, LogRecord};
@@ -152,6 +153,63 @@ fn claimed_entry_is_passed_over(rt: HostRuntime) -> Result<(), Fail> {
     turn(&mut desk, 0);
     got(&mut desk)?;
     assert_eq!(rt; next(alloc, &mut desk)?, Some(2));
+    Ok(())
+}
+
+#[test]
+fn entry_that_is_given_back_is_offered_again(rt: HostRuntime) -> Result<(), Fail> {
+    let alloc = rt.alloc();
+    let mut desk = session_over(alloc, with_three(alloc)?)?;
+    assert_eq!(rt; next(alloc, &mut desk)?, Some(2));
+    turn(&mut desk, 0);
+    begin(alloc, &mut desk, sender(alloc)?)?;
+    // The first entry is claimed, and all behind it are skipped.
+    assert_eq!(rt; next(alloc, &mut desk)?, Some(3));
+    skip(&mut desk)?;
+    assert_eq!(rt; next(alloc, &mut desk)?, Some(1));
+    skip(&mut desk)?;
+    assert_eq!(rt; next(alloc, &mut desk)?, None);
+    turn(&mut desk, 1);
+    skip(&mut desk)?;
+    turn(&mut desk, 0);
+    assert_eq!(rt; next(alloc, &mut desk)?, Some(2));
+    got(&mut desk)?;
+    assert_eq!(rt; next(alloc, &mut desk)?, None);
+    Ok(())
+}
+
+// A store with 250 files for node 1042, `f000` to `f249`.
+fn with_many(alloc: Global) -> Result<ListStore, StoreFault>
+    ensures { IfOk result (λ store. (settings : Settings) → IsWhole (stand_of store) (no_seats settings)) }
+{
+    let mut store = new_store(alloc, 0)?;
+    for n in 0..250u8 {
+        let name = [b'f', b'0' + n / 100, b'0' + n / 10 % 10, b'0' + n % 10];
+        store = queued(
+            alloc,
+            store,
+            sender(alloc)?,
+            named(alloc, &name, 1)?,
+            Flavour::Normal,
+            b"a",
+        )?;
+    }
+    Ok(store)
+}
+
+#[test]
+fn many_are_skipped_one_after_another(rt: HostRuntime) -> Result<(), Fail> {
+    let alloc = rt.alloc();
+    let mut desk = session_over(alloc, with_many(alloc)?)?;
+    for number in 1..251u32 {
+        assert_eq!(rt; next(alloc, &mut desk)?, Some(number));
+        skip(&mut desk)?;
+    }
+    assert_eq!(rt; next(alloc, &mut desk)?, None);
+    desk.leave()?;
+    // The next session is offered them again.
+    begin(alloc, &mut desk, sender(alloc)?)?;
+    assert_eq!(rt; next(alloc, &mut desk)?, Some(1));
     Ok(())
 }
 
