@@ -1,0 +1,9 @@
+pub mod Bases
+pub mod Four
+pub mod HexText
+pub mod KindNames
+pub mod Numbers
+pub mod Readings
+pub mod Slashes
+pub mod SpotNames
+pub mod Texts
