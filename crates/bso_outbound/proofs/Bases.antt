@@ -196,3 +196,10 @@ one_name base domain default a b j k x y is =
     let point : a.point ≡ b.point = spot.1 in
     let domains : a.domain ≡ b.domain = x.1 ∙ sym y.1 in
     (rw (zone, net, node, point, domains) refl, spot.2)
+
+pub read_back : (base domain : List ℕ) (default : ℕ) (a : Address) (kind : Kind) (found : Option (Address × Kind)) → IsOfDomain domain (a, kind)
+    → AddressOf base default domain (outbound_name a kind base default) found → found ≡ Some (a, kind)
+read_back base domain default a kind (Some (b, k)) own (fits, same) =
+    let one = one_name base domain default b a k kind fits own (sym same) in
+    ap Some (λ i. (one.0 i, one.1 i))
+read_back base domain default a kind None own none = absurd (none (a, kind) own refl)

@@ -36,7 +36,7 @@ mod zone;
 
 pub use base::{folder_above, last_part};
 pub use kind::{Kind, ending_of};
-pub use laws::each_name_has_one_address;
+pub use laws::{each_name_has_one_address, names_are_read_back};
 pub use naming::{name_of, zone_folder};
 pub use reading::addr_of;
 pub use spot::point_folder_of;
