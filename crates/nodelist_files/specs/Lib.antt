@@ -1,0 +1,5 @@
+pub mod Compiling
+pub mod Files
+pub mod IndexFile
+pub mod Reading
+pub mod Staging
