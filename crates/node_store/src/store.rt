@@ -25,6 +25,7 @@ use disk_model::Disk;
 use file_index::NumberSet;
 use ftn_addr::{Addr, Bytes, FileKey, MAX_NUMBER};
 use ledger_file::AppendFault;
+use ledger_rec::Folded;
 use node_model::{Known, PartAt, StoreFault};
 use std::marker::Model;
 
@@ -89,6 +90,13 @@ impl<D: Disk> NodeStore<D> {
         ensures { result ≡ self.disk }
     {
         self.disk
+    }
+
+    /// The queue, the inbox, the refusals and the marks, as the ledger's records leave them. It takes no memory.
+    pub fn state(&self) -> &Folded
+        ensures { result.now ≡ self.now.memory.books.folding }
+    {
+        self.books.folded()
     }
 
     /// What a whole store tells, over a disk that tells, is what an opening of that disk finds, as it reads and as each stop now
