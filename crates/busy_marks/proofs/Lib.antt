@@ -1,0 +1,5 @@
+mod Runs
+mod MarkLemmas
+mod NoteLemmas
+mod UndoLemmas
+mod ClearLemmas

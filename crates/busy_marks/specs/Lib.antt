@@ -1,0 +1,5 @@
+pub mod Causes
+pub mod Ends
+pub mod Marking
+pub mod Text
+pub mod Undoing
