@@ -1,8 +1,12 @@
+ghost use Rattle.std.specs.Prelude.{IfOk};
+ghost use Rattle.ftn_addr.specs.Address.{address};
+ghost use Rattle.ftn_addr.specs.Limits.{IsAddress};
+
 use crate::{
     Kind, addr_of, ending_of, folder_above, last_part, name_of, point_folder_of, zone_folder,
     zone_of,
 };
-use ftn_addr::{Addr, Bytes};
+use ftn_addr::{Addr, Bytes, NoMemory};
 use node_model::Flavour;
 use std::alloc::Global;
 use std::test::Fail;
@@ -27,6 +31,32 @@ fn addr(alloc: Global, numbers: [u16; 4]) -> Result<Addr, Fail> {
     })
 }
 
+/// The node's own address, of the domain `fidonet`.
+fn home(alloc: Global) -> Result<Addr, NoMemory>
+    ensures { IfOk result (λ addr. IsAddress (address addr)) }
+{
+    Ok(Addr {
+        zone: 2,
+        net: 5020,
+        node: 1042,
+        point: 0,
+        domain: Bytes::from_slice(alloc, b"fidonet")?,
+    })
+}
+
+/// An address of the domain `othernet`.
+fn home_elsewhere(alloc: Global) -> Result<Addr, NoMemory>
+    ensures { IfOk result (λ addr. IsAddress (address addr)) }
+{
+    Ok(Addr {
+        zone: 2,
+        net: 1,
+        node: 1,
+        point: 0,
+        domain: Bytes::from_slice(alloc, b"othernet")?,
+    })
+}
+
 /// The name of a normal flow file at the base `b`, where the zone 2 is the default one.
 fn flow_of(alloc: Global, numbers: [u16; 4]) -> Result<Bytes, Fail> {
     let base = Bytes::from_slice(alloc, b"b")?;
@@ -36,7 +66,7 @@ fn flow_of(alloc: Global, numbers: [u16; 4]) -> Result<Bytes, Fail> {
 
 /// The numbers and the kind of a file in the outbound `/ftn/outbound`, where the zone 2 is the default one.
 fn read(alloc: Global, folder: &[u8], name: &[u8]) -> Result<Option<([u16; 4], Kind)>, Fail> {
-    let home = addr(alloc, [2, 5020, 1042, 0])?;
+    let home = home(alloc)?;
     let base = Bytes::from_slice(alloc, b"/ftn/outbound")?;
     match addr_of(alloc, folder, name, &home, &base, 2)? {
         Some((a, kind)) => Ok(Some(([a.zone, a.net, a.node, a.point], kind))),
@@ -159,8 +189,7 @@ fn other_names_are_no_addresses(rt: HostRuntime) -> Result<(), Fail> {
 #[test]
 fn the_address_has_the_domain_of_home(rt: HostRuntime) -> Result<(), Fail> {
     let alloc = rt.alloc();
-    let mut home = addr(alloc, [2, 1, 1, 0])?;
-    home.domain = Bytes::from_slice(alloc, b"othernet")?;
+    let home = home_elsewhere(alloc)?;
     let base = Bytes::from_slice(alloc, b"out")?;
     let kind = Kind::Mail(Flavour::Normal);
     let name = name_of(alloc, &addr(alloc, [2, 3, 4, 0])?, kind, &base, 2)?;
