@@ -8,11 +8,14 @@ use crate::frame::{Frame, head_of};
 use ftn_addr::{Bytes, NoMemory};
 use std::alloc::Global;
 use std::marker::Model;
+use std::mem::swap;
 
 /// Reads the frames of a stream that comes in pieces. It holds the bytes that are no whole frame yet.
 #[derive(Drop)]
 pub struct Decoder {
     rest: Bytes,
+    // Room in which the rest behind whole frames is put together.
+    room: Bytes,
 }
 
 impl Model for Decoder {
@@ -91,6 +94,38 @@ fn take_frames(alloc: Global, bytes: &[u8], out: &mut Vec<Frame>) -> Result<usiz
     Ok(bytes.len() - rest.len())
 }
 
+/// Leaves the bytes behind the first `taken`. They are copied into `room`, and the two change places, so that a long list costs no
+/// more for each byte than a short one.
+fn keep_behind(rest: &mut Bytes, room: &mut Bytes, taken: usize) -> Result<(), NoMemory>
+    requires { taken ≤ length rest.old.list }
+    ensures ok { OnOk result (rest.new.list ≡ drop taken rest.old.list) }
+    ensures err { OnErr result (rest.new.list ≡ rest.old.list) }
+{
+    room.clear();
+    room.push_slice(&rest.as_slice()[taken..])?;
+    swap(rest, room);
+    Ok(())
+}
+
+/// Moves the whole frames at the front of the rest to the end of `out`.
+fn split_off(
+    alloc: Global,
+    rest: &mut Bytes,
+    room: &mut Bytes,
+    out: &mut Vec<Frame>,
+) -> Result<(), NoMemory>
+    ensures ok { OnOk result (Feeds (frame_texts out.old.items) rest.old.list (frame_texts out.new.items) rest.new.list) }
+    ensures err { OnErr result (rest.new.list ≡ rest.old.list) }
+    ensures kept { Extends out.old.items out.new.items }
+{
+    match take_frames(alloc, rest.as_slice(), out) {
+        // A piece that makes no frame whole moves no byte that is held.
+        Ok(0) => Ok(()),
+        Ok(taken) => keep_behind(rest, room, taken),
+        Err(error) => Err(error),
+    }
+}
+
 impl Decoder {
     /// A decoder at the start of a stream. This takes no memory.
     pub fn new(alloc: Global) -> Decoder
@@ -98,6 +133,7 @@ impl Decoder {
     {
         Decoder {
             rest: Bytes::new(alloc),
+            room: Bytes::new(alloc),
         }
     }
 
@@ -119,13 +155,8 @@ impl Decoder {
         let held = self.rest.len();
         let before = out.len();
         self.rest.push_slice(piece)?;
-        match take_frames(alloc, self.rest.as_slice(), out) {
-            // A piece that makes no frame whole moves no byte that is held.
-            Ok(0) => Ok(()),
-            Ok(taken) => {
-                self.rest.drop_front(taken);
-                Ok(())
-            }
+        match split_off(alloc, &mut self.rest, &mut self.room, out) {
+            Ok(()) => Ok(()),
             Err(error) => {
                 self.rest.truncate(held);
                 out.truncate(before);

@@ -2,21 +2,24 @@
 use Rattle.std.proofs.Common.{◌≡◌, ◌⊎◌, ◌∙◌, ℕ, List, Option, refl, sym, ap, subst, inl, inr}
 use Rattle.ftn_addr.specs.Counts.{next_count}
 use Rattle.binkp_link.specs.Lines.{LineState, SinkState}
-use Rattle.mail_conf.specs.Conf.{ConfText}
 use Rattle.node_model.specs.Stores.{StoreState}
 use Rattle.session_core.specs.Ends.{End}
 use Rattle.session_core.specs.Ends as E
 use Rattle.session_run.specs.Reports.{ReportText, report_text}
 use Rattle.binkp_mailer.specs.declared.report.Outcome.{Outcome}
 use Rattle.binkp_mailer.specs.declared.report.Outcome.TheVariants as O
-use Rattle.binkp_mailer.specs.declared.settings.SettingsFault.{SettingsFault}
-use Rattle.binkp_mailer.specs.declared.settings.SettingsFault.TheVariants as U
+use Rattle.command_base.specs.declared.settings.SettingsFault.{SettingsFault}
+use Rattle.command_base.specs.declared.settings.SettingsFault.TheVariants as U
 use Rattle.binkp_mailer.specs.Completeness.{HasFinished, IsDoneWhere, IsDoneBehind}
-use Rattle.binkp_mailer.specs.Reports.{Prints, lines_put, no_room, all_put, put_failed, had_of, told_of}
-use Rattle.binkp_mailer.specs.Statuses as S
+use Rattle.command_base.specs.Printing.{lines_put, no_room, all_put, put_failed}
+use Rattle.binkp_mailer.specs.Reports.{Prints, had_of, told_of}
+use Rattle.command_base.specs.Statuses as S
+use Rattle.nodelist_files.specs.Files.{index_name}
+use Rattle.nodelist_files.specs.declared.fault.IndexFileFault.{IndexFileFault}
+use Rattle.nodelist_files.specs.declared.fault.IndexFileFault.TheVariants as I
 use Rattle.node_store.specs.declared.opening.fault.StoreOpenFault.{StoreOpenFault}
 use Rattle.node_store.specs.declared.opening.fault.StoreOpenFault.TheVariants as F
-use Rattle.binkp_mailer.specs.Statuses.{Status, status_after, status_unopened, status_unset}
+use Rattle.command_base.specs.Statuses.{Status, status_after, status_unindexed, status_unopened, status_unset}
 use Rattle.binkp_mailer.specs.TopCall.{Given, Declines, Asks_nothing, Has_no_host, Has_no_memory, Answers_line, Turned_away, Held_one}
 
 after_done : (end : End) → status_after end ≡ S.Done → end ≡ E.Finished
@@ -39,6 +42,7 @@ finished_had : (outcome : Outcome) → HasFinished (told_of outcome) → (had_of
 finished_had O.Usage h = absurd h
 finished_had O.NoMemory h = absurd h
 finished_had O.NotFound h = absurd h
+finished_had (O.Unindexed fault faults) h = absurd h
 finished_had (O.Unset fault faults) h = absurd h
 finished_had (O.Unopened fault faults) h = absurd h
 finished_had (O.Held report) h = inl (ap status_after h)
@@ -55,10 +59,16 @@ unset_not_done (U.Refused fault) faults is = let clash : S.ConfBad fault ≡ S.D
 unset_not_done U.Disk faults is = let clash : S.DiskFault faults ≡ S.Done = is in cc
 unset_not_done U.NoMemory faults is = let clash : S.NoMemory ≡ S.Done = is in cc
 
+unindexed_not_done : (fault : IndexFileFault) (faults : ℕ) → status_unindexed fault faults ≡ S.Done → ⊥
+unindexed_not_done I.Disk faults is = let clash : S.DiskFault faults ≡ S.Done = is in cc
+unindexed_not_done I.Bad faults is = let clash : S.FileBad index_name ≡ S.Done = is in cc
+unindexed_not_done I.NoMemory faults is = let clash : S.NoMemory ≡ S.Done = is in cc
+
 had_finished : (outcome : Outcome) → had_of outcome ≡ S.Done → HasFinished (told_of outcome)
 had_finished O.Usage is = absurd (let clash : S.Usage ≡ S.Done = is in cc)
 had_finished O.NoMemory is = absurd (let clash : S.NoMemory ≡ S.Done = is in cc)
 had_finished O.NotFound is = absurd (let clash : S.NotFound ≡ S.Done = is in cc)
+had_finished (O.Unindexed fault faults) is = absurd (unindexed_not_done fault faults is)
 had_finished (O.Unset fault faults) is = absurd (unset_not_done fault faults is)
 had_finished (O.Unopened fault faults) is = absurd (unopened_not_done fault faults is)
 had_finished (O.Held report) is = after_done (report_text report).end is
@@ -66,13 +76,13 @@ had_finished (O.Ungiven report faults) is = absurd (let clash : S.DiskFault faul
 
 -- The same of a call over a store.
 
-declines_not : (words : List (List ℕ)) (conf : ConfText) (had : Status) → Declines words conf had → had ≡ S.Done → ⊥
-declines_not words conf had (Asks_nothing is none) done = let clash : S.Usage ≡ S.Done = sym is ∙ done in cc
-declines_not words conf had (Has_no_host is side are none) done = let clash : S.NotFound ≡ S.Done = sym is ∙ done in cc
-declines_not words conf had (Has_no_memory is) done = let clash : S.NoMemory ≡ S.Done = sym is ∙ done in cc
+declines_not : (words : List (List ℕ)) (given : Given) (had : Status) → Declines words given had → had ≡ S.Done → ⊥
+declines_not words given had (Asks_nothing is none) done = let clash : S.Usage ≡ S.Done = sym is ∙ done in cc
+declines_not words given had (Has_no_host is side are none) done = let clash : S.NotFound ≡ S.Done = sym is ∙ done in cc
+declines_not words given had (Has_no_memory is) done = let clash : S.NoMemory ≡ S.Done = sym is ∙ done in cc
 
 pub answers_finished : (words : List (List ℕ)) (given : Given) (line : LineState) (store : StoreState) (told : Option ReportText) (had : Status) (line' : LineState) (store' : StoreState) → Answers_line words given line store told had line' store' → had ≡ S.Done → HasFinished told
-answers_finished words given line store told had line' store' (Turned_away none why line_is store_is) done = absurd (declines_not words given.conf had why done)
+answers_finished words given line store told had line' store' (Turned_away none why line_is store_is) done = absurd (declines_not words given had why done)
 answers_finished words given line store told had line' store' (Held_one side are hosted held) done = subst HasFinished (sym held.told_is) (after_done held.report.end (sym held.status_is ∙ done))
 
 pub finished_answers : (words : List (List ℕ)) (given : Given) (line : LineState) (store : StoreState) (told : Option ReportText) (had : Status) (line' : LineState) (store' : StoreState) → Answers_line words given line store told had line' store' → HasFinished told → had ≡ S.Done

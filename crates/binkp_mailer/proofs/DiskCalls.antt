@@ -26,10 +26,11 @@ use Rattle.node_store.specs.Stored.{Holding, Memory, state_of, stand_of, stored_
 use Rattle.node_store.specs.Worlds.{OpensAs, Opens}
 use Rattle.node_store.proofs.Openings.{one_shelf, opens_to}
 use Rattle.session_run.specs.Reports.{ReportText}
-use Rattle.binkp_mailer.specs.DiskCall.{OpensTo, KeepsReceipts, HasOpened, Serves, Over_disk, Not_asked, Not_set, No_call, Not_opened, Over_store}
+use Rattle.command_base.specs.Opening.{HasOpened}
+use Rattle.binkp_mailer.specs.DiskCall.{OpensTo, KeepsReceipts, Serves, Over_disk, Not_asked, Not_set, No_call, Not_opened, No_index, Bad_index, Over_store}
 use Rattle.binkp_mailer.specs.Inbound.{Gives_behind, Gives_none, Gives_round}
-use Rattle.binkp_mailer.specs.Settings.{OnlyRead}
-use Rattle.binkp_mailer.specs.Statuses.{Status}
+use Rattle.command_base.specs.Settings.{OnlyRead}
+use Rattle.command_base.specs.Statuses.{Status}
 use Rattle.binkp_mailer.specs.TopCall.{Given, Answers_line, Turned_away, Held_one, StopsOf, IsCall, EachStop, OnceAfter, StaysTold}
 
 -- A store that was just opened fits a hub without seats.
@@ -180,10 +181,13 @@ module _ {D : Type 0} (tells : Bool) (content : D → World) (faults : D → ℕ
   keeps_receipts words challenge now line disk told had line' disk' telling (No_call conf settings none why only line_is) = read_still disk disk' only
   keeps_receipts words challenge now line disk told had line' disk' telling (Not_opened conf settings side are fault none had_is line_is refused) = λ d reads all k w e from to image op.
       leaves_still d disk disk' (refused.stop telling) all k w e from to image op
-  keeps_receipts words challenge now line disk told had line' disk' telling (Over_store conf settings opened held left h was serves gives disk_is) = λ d reads all k w e from to image op.
+  keeps_receipts words challenge now line disk told had line' disk' telling (No_index conf settings side are unhosted none why only line_is) = read_still disk disk' only
+  keeps_receipts words challenge now line disk told had line' disk' telling (Bad_index conf settings side are unhosted bad opened h none had_is line_is disk_is) = λ d reads all k w e from to image op.
+      leaves_still d disk opened.disk (h.stop telling) all k w e from (subst (λ (x : D). k ≤ moment x) disk_is to) (subst (λ (x : D). images x k w) disk_is image) op
+  keeps_receipts words challenge now line disk told had line' disk' telling (Over_store conf settings side are listed lists opened held left h was serves gives disk_is) = λ d reads all k w e from to image op.
       let here : images left.disk k w = subst (λ (x : D). images x k w) disk_is image in
       let until : k ≤ moment left.disk = subst (λ (x : D). k ≤ moment x) disk_is to in
-      let given : Given = record { conf = conf; challenge = challenge; moment = now } in
+      let given : Given = record { conf = conf; listed = listed; challenge = challenge; moment = now } in
       let kept = behind_keeps conf told was had held left gives in
       let is = opened_state d disk opened telling h reads in
       ⊎_elim

@@ -1,5 +1,5 @@
 -- What the status of a call over a disk tells of the disk.
-use Rattle.std.proofs.Common.{◌≡◌, ◌⊎◌, ℕ, Bool, List, Option, Result, Err, refl, sym, subst, inl, inr}
+use Rattle.std.proofs.Common.{◌≡◌, ℕ, Bool, List, Option, Result, Err, refl, sym, subst, inl, inr}
 use Rattle.binkp_mailer.proofs.TopCalls.{answers_grow}
 use Rattle.ftn_addr.specs.Counts.{Increased, CountGrew}
 use Rattle.ftn_addr.proofs.CountsGrow.{count_grew-refl, count_grew-then, then-increased}
@@ -11,18 +11,17 @@ use Rattle.disk_model.specs.World.{World}
 use Rattle.mail_conf.specs.Conf.{ConfText}
 use Rattle.node_model.specs.Stores.{StoreState}
 use Rattle.node_store.specs.Stored.{Holding, stand_of}
-use Rattle.node_store.specs.declared.opening.fault.StoreOpenFault.{StoreOpenFault}
-use Rattle.node_store.specs.declared.opening.fault.StoreOpenFault.TheVariants as F
 use Rattle.binkp_link.specs.Lines.{LineState, SinkState}
 use Rattle.session_core.specs.Ends.{End}
 use Rattle.session_core.specs.Ends as E
 use Rattle.session_run.specs.Reports.{ReportText}
-use Rattle.binkp_mailer.specs.DiskCall.{DiskCause, HasRefused, IsNoCall, Over_disk, Not_asked, Not_set, No_call, Not_opened, Over_store}
-use Rattle.binkp_mailer.specs.Settings.{NoSettings, Is_refused, Has_failed, Had_no_memory}
+use Rattle.binkp_mailer.specs.DiskCall.{IsNoCall, Over_disk, Not_asked, Not_set, No_call, Not_opened, No_index, Bad_index, Over_store}
+use Rattle.command_base.specs.Causes.{DiskCause}
+use Rattle.command_base.proofs.Causes.{had_no_memory, printed_disk, refused_so, said_none, unindexed_so, unset_so}
 use Rattle.binkp_mailer.specs.Inbound.{Gives_behind, Gives_none, Gives_round, status_behind}
-use Rattle.binkp_mailer.specs.Reports.{Prints, lines_put, no_room, all_put, put_failed}
-use Rattle.binkp_mailer.specs.Statuses as S
-use Rattle.binkp_mailer.specs.Statuses.{Status, status_after, status_unopened}
+use Rattle.binkp_mailer.specs.Reports.{Prints, lines_told}
+use Rattle.command_base.specs.Statuses as S
+use Rattle.command_base.specs.Statuses.{Status, status_after, status_unopened}
 use Rattle.binkp_mailer.specs.TopCall.{Given, Asks_nothing, Has_no_host, Has_no_memory, Answers_line, Turned_away, Held_one, StatusCause}
 
 -- a status of a call over a store that is there
@@ -54,31 +53,9 @@ answers_so words given line store told had line' store' (Turned_away none (Has_n
 answers_so words given line store told had line' store' (Held_one side are hosted held) = subst OfSession (sym held.status_is) (ends_so held.report.end)
 
 module _ {D : Type 0} (tells : Bool) (content : D → World) (faults : D → ℕ) (moment : D → ℕ) (images : D → ℕ → World → Type 0) where
-  said_none : (disk disk' : D) (had : Status) → had ≡ S.Usage → DiskCause tells content faults had disk disk'
-  said_none disk disk' had is = subst (λ (x : Status). DiskCause tells content faults x disk disk') (sym is) tt
-
-  had_no_memory : (disk disk' : D) (had : Status) → had ≡ S.NoMemory → DiskCause tells content faults had disk disk'
-  had_no_memory disk disk' had is = subst (λ (x : Status). DiskCause tells content faults x disk disk') (sym is) tt
-
-  unset_so : (disk disk' : D) (had : Status) → NoSettings tells content faults moment images disk disk' had → DiskCause tells content faults had disk disk'
-  unset_so disk disk' had (Is_refused fault is own why) = subst (λ (x : Status). DiskCause tells content faults x disk disk') (sym is) why
-  unset_so disk disk' had (Has_failed is rose) = subst (λ (x : Status). DiskCause tells content faults x disk disk') (sym is) (rose, count_grew-refl (faults disk'))
-  unset_so disk disk' had (Had_no_memory is) = had_no_memory disk disk' had is
-
   no_call_so : (words : List (List ℕ)) (conf : ConfText) (disk disk' : D) (had : Status) → IsNoCall words conf had → DiskCause tells content faults had disk disk'
-  no_call_so words conf disk disk' had (inl none) = said_none disk disk' had none.0
-  no_call_so words conf disk disk' had (inr is) = had_no_memory disk disk' had is
-
-  why_not : {A : Type 0} (fault : StoreOpenFault) → (fault ≡ F.Disk → ⊥) → (fault ≡ F.NoMemory → ⊥) → (fault ≡ F.Disk) ⊎ ((fault ≡ F.NoMemory) ⊎ A) → A
-  why_not fault disk memory (inl is) = absurd (disk is)
-  why_not fault disk memory (inr (inl is)) = absurd (memory is)
-  why_not fault disk memory (inr (inr why)) = why
-
-  refused_so : (fault : StoreOpenFault) (disk disk' : D) → HasRefused tells content faults moment images fault disk disk' → DiskCause tells content faults (status_unopened fault (faults disk')) disk disk'
-  refused_so F.Disk disk disk' r = (r.failed refl, count_grew-refl (faults disk'))
-  refused_so (F.LedgerBad place) disk disk' r = why_not (F.LedgerBad place) (λ is. let clash : F.LedgerBad place ≡ F.Disk = is in cc) (λ is. let clash : F.LedgerBad place ≡ F.NoMemory = is in cc) r.why
-  refused_so (F.FileBad name) disk disk' r = why_not (F.FileBad name) (λ is. let clash : F.FileBad name ≡ F.Disk = is in cc) (λ is. let clash : F.FileBad name ≡ F.NoMemory = is in cc) r.why
-  refused_so F.NoMemory disk disk' r = tt
+  no_call_so words conf disk disk' had (inl none) = said_none tells content faults moment images disk disk' had none.0
+  no_call_so words conf disk disk' had (inr is) = had_no_memory tells content faults moment images disk disk' had is
 
   served_so : (limit : ℕ) (had : Status) (line line' : LineState) (opened left : Holding D) (disk : D) → faults opened.disk ≡ faults disk → OfSession had
       → StatusCause limit had line line' (stand_of tells content faults moment images opened).state.counts (stand_of tells content faults moment images left).state.counts → DiskCause tells content faults had disk left.disk
@@ -101,6 +78,8 @@ module _ {D : Type 0} (tells : Bool) (content : D → World) (faults : D → ℕ
   served_so limit S.NoMemory line line' opened left disk calm of cause = tt
   served_so limit S.NotFound line line' opened left disk calm of cause = tt
   served_so limit S.TurnedAway line line' opened left disk calm of cause = tt
+  served_so limit (S.ListBad fault) line line' opened left disk calm of cause = tt
+  served_so limit S.NoFile line line' opened left disk calm of cause = tt
 
   -- behind a session
 
@@ -124,6 +103,8 @@ module _ {D : Type 0} (tells : Bool) (content : D → World) (faults : D → ℕ
   still_so S.NoMemory disk held left of grew cause = tt
   still_so S.NotFound disk held left of grew cause = tt
   still_so S.TurnedAway disk held left of grew cause = tt
+  still_so (S.ListBad fault) disk held left of grew cause = tt
+  still_so S.NoFile disk held left of grew cause = tt
 
   round_so : (conf : ConfText) (was : Status) (held left : Holding D) (disk : D) (files : ℕ) (result : Result (Unit {0}) StoreFault)
       → OfSession was → DiskCause tells content faults was disk held.disk → CountGrew (faults disk) (faults held.disk)
@@ -141,22 +122,21 @@ module _ {D : Type 0} (tells : Bool) (content : D → World) (faults : D → ℕ
       subst (λ (x : Status). DiskCause tells content faults x disk left.disk) (sym had_is) (round_so conf was held left disk _ result of cause grew gives)
 
   had_so : (words : List (List ℕ)) (challenge : List ℕ) (now : ℕ) (line : LineState) (disk : D) (told : Option ReportText) (had : Status) (line' : LineState) (disk' : D) → Over_disk tells content faults moment images words challenge now line disk told had line' disk' → DiskCause tells content faults had disk disk'
-  had_so words challenge now line disk told had line' disk' (Not_asked none is form line_is disk_is) = said_none disk disk' had is
-  had_so words challenge now line disk told had line' disk' (Not_set none form why only line_is) = unset_so disk disk' had why
+  had_so words challenge now line disk told had line' disk' (Not_asked none is form line_is disk_is) = said_none tells content faults moment images disk disk' had is
+  had_so words challenge now line disk told had line' disk' (Not_set none form why only line_is) = unset_so tells content faults moment images disk disk' had why
   had_so words challenge now line disk told had line' disk' (No_call conf settings none why only line_is) = no_call_so words conf disk disk' had why
-  had_so words challenge now line disk told had line' disk' (Not_opened conf settings side are fault none had_is line_is refused) = subst (λ (x : Status). DiskCause tells content faults x disk disk') (sym had_is) (refused_so fault disk disk' refused)
-  had_so words challenge now line disk told had line' disk' (Over_store conf settings opened held left h was serves gives disk_is) =
+  had_so words challenge now line disk told had line' disk' (Not_opened conf settings side are fault none had_is line_is refused) = subst (λ (x : Status). DiskCause tells content faults x disk disk') (sym had_is) (refused_so tells content faults moment images fault disk disk' refused)
+  had_so words challenge now line disk told had line' disk' (No_index conf settings side are unhosted none why only line_is) = unindexed_so tells content faults moment images disk disk' had why
+  had_so words challenge now line disk told had line' disk' (Bad_index conf settings side are unhosted bad opened h none had_is line_is disk_is) = subst (λ (x : Status). DiskCause tells content faults x disk disk') (sym had_is) (λ telling. inr (refl, bad telling))
+  had_so words challenge now line disk told had line' disk' (Over_store conf settings side are listed lists opened held left h was serves gives disk_is) =
       subst (λ (x : D). DiskCause tells content faults had disk x) (sym disk_is)
       (behind_so conf told was had held left disk
-      (answers_so words (record { conf = conf; challenge = challenge; moment = now }) line _ told was line' _ serves.call.answers)
-      (served_so conf.session_limit was line line' opened held disk h.calm (answers_so words (record { conf = conf; challenge = challenge; moment = now }) line _ told was line' _ serves.call.answers) serves.cause)
-      (subst (λ (n : ℕ). CountGrew n (faults held.disk)) h.calm (answers_grow words (record { conf = conf; challenge = challenge; moment = now }) line _ told was line' _ serves.call.answers))
+      (answers_so words (record { conf = conf; listed = listed; challenge = challenge; moment = now }) line _ told was line' _ serves.call.answers)
+      (served_so conf.session_limit was line line' opened held disk h.calm (answers_so words (record { conf = conf; listed = listed; challenge = challenge; moment = now }) line _ told was line' _ serves.call.answers) serves.cause)
+      (subst (λ (n : ℕ). CountGrew n (faults held.disk)) h.calm (answers_grow words (record { conf = conf; listed = listed; challenge = challenge; moment = now }) line _ told was line' _ serves.call.answers))
       gives)
 
   -- a status that is told is the one that was had, or one that says nothing of the disk
   pub told_cause : (words : List (List ℕ)) (challenge : List ℕ) (now : ℕ) (line : LineState) (disk : D) (told : Option ReportText) (had status : Status) (line' : LineState) (disk' : D) (out out' : SinkState)
       → Over_disk tells content faults moment images words challenge now line disk told had line' disk' → Prints told had status out out' → DiskCause tells content faults status disk disk'
-  told_cause words challenge now line disk told had status line' disk' out out' call (lines_put (all_put is puts)) = subst (λ (x : Status). DiskCause tells content faults x disk disk') (sym is) (had_so words challenge now line disk told had line' disk' call)
-  told_cause words challenge now line disk told had status line' disk' out out' call (lines_put (put_failed is puts)) = subst (λ (x : Status). DiskCause tells content faults x disk disk') (sym is) tt
-  told_cause words challenge now line disk told had status line' disk' out out' call (no_room (all_put is puts)) = subst (λ (x : Status). DiskCause tells content faults x disk disk') (sym is) tt
-  told_cause words challenge now line disk told had status line' disk' out out' call (no_room (put_failed is puts)) = subst (λ (x : Status). DiskCause tells content faults x disk disk') (sym is) tt
+  told_cause words challenge now line disk told had status line' disk' out out' call prints = printed_disk tells content faults moment images (lines_told told) had status disk disk' out out' (had_so words challenge now line disk told had line' disk' call) prints

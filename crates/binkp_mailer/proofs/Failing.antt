@@ -6,7 +6,7 @@ use Rattle.node_model.specs.contracts.store.StoreFaultPartialEq.TheImpl.{eq-valu
 use Rattle.node_model.specs.declared.store.StoreFault.{StoreFault}
 use Rattle.node_model.specs.declared.store.StoreFault.TheVariants.{Disk, Read, Full, NoMemory}
 use Rattle.binkp_mailer.specs.Inbound.{status_behind}
-use Rattle.binkp_mailer.specs.Statuses.{Status, DiskFault}
+use Rattle.command_base.specs.Statuses.{Status, DiskFault}
 
 pub failed_so : (result : Result (Unit {0}) StoreFault) (was : Status) (faults : ℕ) → result_eq unit_eq.it fault_eq.it result (Err Disk) ≡ true → status_behind result was faults ≡ DiskFault faults
 failed_so (Ok done) was faults is = absurd (let clash : false ≡ true = is in cc)

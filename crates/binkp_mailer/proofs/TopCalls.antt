@@ -29,9 +29,9 @@ use Rattle.session_run.specs.Laws.{IsSession, Facts, OwnCause, OwnCauseAt, EndCo
 use Rattle.hub_core.specs.Hubs.{HubState, Fitted, knows_over, node_with, hub_stand, state_of}
 use Rattle.hub_core.specs.Opening.{no_seats}
 use Rattle.hub_core.proofs.Seating.{fitted_more}
-use Rattle.binkp_mailer.specs.Statuses.{Status, status_after}
-use Rattle.binkp_mailer.specs.TopCall.{Given, Declines, Asks_nothing, Has_no_host, Has_no_memory, Calls_in_turn, none_yet, one_more, ReachesLimit, HeldSession, HasOnceTold, OnceAfter, StaysTold, StatusCause, Answers_line, Turned_away, Held_one, StopsOf, IsCall, EachStop, IfTells, new_hub, first_seat, lent}
-use Rattle.binkp_mailer.specs.Settings.{has_host, hub_settings}
+use Rattle.command_base.specs.Statuses.{Status, status_after}
+use Rattle.binkp_mailer.specs.TopCall.{Given, Declines, Asks_nothing, Has_no_host, Has_no_memory, Calls_in_turn, none_yet, one_more, ReachesLimit, HeldSession, HasOnceTold, OnceAfter, StaysTold, StatusCause, Answers_line, Turned_away, Held_one, StopsOf, IsCall, EachStop, IfTells, is_reached, new_hub, first_seat, lent}
+use Rattle.binkp_mailer.specs.Settings.{hub_settings}
 use Rattle.binkp_mailer.specs.Words.{AreWords}
 
 -- Endless comes only where the limit was reached
@@ -200,18 +200,18 @@ calls_once store new (one_more {old} before may words given told status line lin
     go (Some a) None stays once = absurd stays
     go (Some a) (Some b) stays once = λ before. once
 
-declined_causes : (words : List (List ℕ)) (conf : ConfText) (limit : ℕ) (status : Status) (line : LineState) (counts : Counts) → Declines words conf status → StatusCause limit status line line counts counts
-declined_causes words conf limit status line counts (Asks_nothing is none) = subst (λ (x : Status). StatusCause limit x line line counts counts) (sym is) refl
-declined_causes words conf limit status line counts (Has_no_host is side are none) = subst (λ (x : Status). StatusCause limit x line line counts counts) (sym is) refl
-declined_causes words conf limit status line counts (Has_no_memory is) = subst (λ (x : Status). StatusCause limit x line line counts counts) (sym is) refl
+declined_causes : (words : List (List ℕ)) (given : Given) (limit : ℕ) (status : Status) (line : LineState) (counts : Counts) → Declines words given status → StatusCause limit status line line counts counts
+declined_causes words given limit status line counts (Asks_nothing is none) = subst (λ (x : Status). StatusCause limit x line line counts counts) (sym is) refl
+declined_causes words given limit status line counts (Has_no_host is side are none) = subst (λ (x : Status). StatusCause limit x line line counts counts) (sym is) refl
+declined_causes words given limit status line counts (Has_no_memory is) = subst (λ (x : Status). StatusCause limit x line line counts counts) (sym is) refl
 
 pub answers_causes : (words : List (List ℕ)) (given : Given) (line : LineState) (store : StoreState) (told : Option ReportText) (status : Status) (line' : LineState) (store' : StoreState) → Answers_line words given line store told status line' store' → store.counts.broken ≡ None → StatusCause given.conf.session_limit status line line' store.counts store'.counts
 answers_causes words given line store told status line' store' (Turned_away none why line_is store_is) whole =
-    subst (λ (x : LineState). StatusCause given.conf.session_limit status line x store.counts store'.counts) (sym line_is) (subst (λ (x : StoreState). StatusCause given.conf.session_limit status line line store.counts x.counts) (sym store_is) (declined_causes words given.conf given.conf.session_limit status line store.counts why))
+    subst (λ (x : LineState). StatusCause given.conf.session_limit status line x store.counts store'.counts) (sym line_is) (subst (λ (x : StoreState). StatusCause given.conf.session_limit status line line store.counts x.counts) (sym store_is) (declined_causes words given given.conf.session_limit status line store.counts why))
 answers_causes words given line store told status line' store' (Held_one side are hosted h) whole = held_causes side given line store told status line' store' h whole
 
 -- a call of which nothing comes
-pub declined_call : (words : List (List ℕ)) (given : Given) (line : LineState) (store : StoreStand) (status : Status) → Declines words given.conf status → IsCall words given line store None status line store
+pub declined_call : (words : List (List ℕ)) (given : Given) (line : LineState) (store : StoreStand) (status : Status) → Declines words given status → IsCall words given line store None status line store
 declined_call words given line store status why = record { answers = Turned_away refl why refl refl; stops = record { moment = refl; images = λ k e i. i } }
 
 -- The seat of a session is the same at its end.
@@ -231,7 +231,7 @@ shelf_opens P None o = absurd o
 shelf_opens P (Some s) o = o
 
 -- the call, from the session that its seat held
-pub held_call : (words : List (List ℕ)) (side : Side) (given : Given) (line : LineState) (store : StoreStand) (told : Option ReportText) (status : Status) (line' : LineState) (store' : StoreStand) (report : ReportText) (hub : HubState) → AreWords words (home_of given.conf.addresses) side → has_host given.conf side ≡ true → told ≡ Some report → status ≡ status_after report.end → IsSession true (lent side given) line (hub_stand store (new_hub given.conf) 0) report line' (hub_stand store' hub 0) → IsCall words given line store told status line' store'
+pub held_call : (words : List (List ℕ)) (side : Side) (given : Given) (line : LineState) (store : StoreStand) (told : Option ReportText) (status : Status) (line' : LineState) (store' : StoreStand) (report : ReportText) (hub : HubState) → AreWords words (home_of given.conf.addresses) side → is_reached given side ≡ true → told ≡ Some report → status ≡ status_after report.end → IsSession true (lent side given) line (hub_stand store (new_hub given.conf) 0) report line' (hub_stand store' hub 0) → IsCall words given line store told status line' store'
 held_call words side given line store told status line' store' report hub are hosted tells is x = record {
   answers = Held_one side are hosted (record { report = report; told_is = tells; status_is = is; hub = hub; session = x.whole });
   stops = record { ran = x.ran; kept = λ k e after until i. kept_receipts true (hub_stand store (new_hub given.conf) 0) x.whole.last.events (hub_stand store' hub 0) x.ran k e.state after until (Some e, i, refl) };
@@ -277,7 +277,7 @@ stops_stay words given line store told status line' store' call = go store.state
         (stops_past words given line store told status line' store' call k e after until i)
 
 -- the call, from the session of the first seat of a new hub
-pub seated_call : (words : List (List ℕ)) (side : Side) (given : Given) (line : LineState) (store : StoreStand) (told : Option ReportText) (status : Status) (line' : LineState) (store' : StoreStand) (report : ReportText) (hub hub' : HubState) (seat seat' : ℕ) → AreWords words (home_of given.conf.addresses) side → has_host given.conf side ≡ true → told ≡ Some report → status ≡ status_after report.end → hub ≡ new_hub given.conf → seat ≡ 0 → IsSession true (lent side given) line (hub_stand store hub seat) report line' (hub_stand store' hub' seat') → IsCall words given line store told status line' store'
+pub seated_call : (words : List (List ℕ)) (side : Side) (given : Given) (line : LineState) (store : StoreStand) (told : Option ReportText) (status : Status) (line' : LineState) (store' : StoreStand) (report : ReportText) (hub hub' : HubState) (seat seat' : ℕ) → AreWords words (home_of given.conf.addresses) side → is_reached given side ≡ true → told ≡ Some report → status ≡ status_after report.end → hub ≡ new_hub given.conf → seat ≡ 0 → IsSession true (lent side given) line (hub_stand store hub seat) report line' (hub_stand store' hub' seat') → IsCall words given line store told status line' store'
 seated_call words side given line store told status line' store' report hub hub' seat seat' are hosted tells is hub_is seat_is x =
     let s = lent side given in
     let still : seat' ≡ 0 = session_seat true s line (hub_stand store hub seat) report line' (hub_stand store' hub' seat') x ∙ seat_is in

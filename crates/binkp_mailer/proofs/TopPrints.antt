@@ -1,5 +1,5 @@
 -- What the put of a call's lines makes of its status.
-use Rattle.std.proofs.Common.{◌≡◌, ℕ, Option, sym, subst}
+use Rattle.std.proofs.Common.{ℕ, Option, sym, subst}
 use Rattle.node_model.specs.Calls.{Counts}
 use Rattle.binkp_link.specs.Lines.{LineState, SinkState}
 use Rattle.session_core.specs.Ends.{End}
@@ -8,19 +8,18 @@ use Rattle.session_run.specs.Reports.{ReportText}
 use Rattle.binkp_mailer.specs.declared.report.Outcome.{Outcome}
 use Rattle.binkp_mailer.specs.declared.report.Outcome.TheVariants as O
 use Rattle.session_core.specs.Ends.{end_text}
-use Rattle.binkp_mailer.specs.declared.settings.SettingsFault.{SettingsFault}
-use Rattle.binkp_mailer.specs.declared.settings.SettingsFault.TheVariants as U
-use Rattle.binkp_mailer.specs.Reports.{Prints, lines_put, no_room, all_put, put_failed, had_of}
-use Rattle.binkp_mailer.specs.Statuses as S
+use Rattle.command_base.specs.declared.settings.SettingsFault.{SettingsFault}
+use Rattle.command_base.specs.declared.settings.SettingsFault.TheVariants as U
+use Rattle.command_base.specs.Printing.{lines_put, no_room, all_put, put_failed}
+use Rattle.command_base.proofs.Printed.{NotOut}
+use Rattle.binkp_mailer.specs.Reports.{Prints, had_of}
+use Rattle.command_base.specs.Statuses as S
+use Rattle.nodelist_files.specs.declared.fault.IndexFileFault.{IndexFileFault}
+use Rattle.nodelist_files.specs.declared.fault.IndexFileFault.TheVariants as I
 use Rattle.node_store.specs.declared.opening.fault.StoreOpenFault.{StoreOpenFault}
 use Rattle.node_store.specs.declared.opening.fault.StoreOpenFault.TheVariants as F
-use Rattle.binkp_mailer.specs.Statuses.{Status, status_after, status_unopened, status_unset}
-use Rattle.binkp_mailer.specs.TopCall.{OutCause, StatusCause, TurnedCause}
-
--- no put failed yet
-abbrev pub NotOut : Status → Type 0
-NotOut S.OutFault = ⊥
-NotOut status = Unit {0}
+use Rattle.command_base.specs.Statuses.{Status, status_after, status_unindexed, status_unopened, status_unset}
+use Rattle.binkp_mailer.specs.TopCall.{StatusCause, TurnedCause}
 
 after_not_out : (end : End) → NotOut (status_after end)
 after_not_out E.Finished = tt
@@ -48,35 +47,20 @@ unset_not_out (U.Refused fault) faults = tt
 unset_not_out U.Disk faults = tt
 unset_not_out U.NoMemory faults = tt
 
+unindexed_not_out : (fault : IndexFileFault) (faults : ℕ) → NotOut (status_unindexed fault faults)
+unindexed_not_out I.Disk faults = tt
+unindexed_not_out I.Bad faults = tt
+unindexed_not_out I.NoMemory faults = tt
+
 pub had_not_out : (outcome : Outcome) → NotOut (had_of outcome)
 had_not_out O.Usage = tt
 had_not_out O.NoMemory = tt
 had_not_out O.NotFound = tt
 had_not_out (O.Unset fault faults) = unset_not_out fault faults
+had_not_out (O.Unindexed fault faults) = unindexed_not_out fault faults
 had_not_out (O.Unopened fault faults) = unopened_not_out fault faults
 had_not_out (O.Held report) = after_not_out (end_text report.end)
 had_not_out (O.Ungiven report faults) = tt
-
-same_faults : (status : Status) (out out' : SinkState) → NotOut status → out'.faults ≡ out.faults → OutCause status out out'
-same_faults S.Done out out' own same = same
-same_faults S.Usage out out' own same = same
-same_faults (S.ConfBad fault) out out' own same = same
-same_faults S.NotFound out out' own same = same
-same_faults (S.DiskFault count) out out' own same = same
-same_faults (S.LedgerBad place) out out' own same = same
-same_faults S.LedgerFull out out' own same = same
-same_faults S.LineFault out out' own same = same
-same_faults S.Dropped out out' own same = same
-same_faults S.Quiet out out' own same = same
-same_faults (S.PeerError text) out out' own same = same
-same_faults S.PeerBusy out out' own same = same
-same_faults S.BadPassword out out' own same = same
-same_faults (S.Broke cause n) out out' own same = same
-same_faults S.Endless out out' own same = same
-same_faults S.OutFault out out' own same = absurd own
-same_faults S.NoMemory out out' own same = same
-same_faults (S.FileBad name) out out' own same = same
-same_faults S.TurnedAway out out' own same = same
 
 turned : (limit : ℕ) (status : Status) (line line' : LineState) (counts counts' : Counts) → StatusCause limit status line line' counts counts' → TurnedCause limit status line line' counts counts'
 turned limit S.Done line line' counts counts' h = h
@@ -98,15 +82,11 @@ turned limit S.OutFault line line' counts counts' h = tt
 turned limit S.NoMemory line line' counts counts' h = tt
 turned limit (S.FileBad name) line line' counts counts' h = h
 turned limit S.TurnedAway line line' counts counts' h = h
+turned limit (S.ListBad fault) line line' counts counts' h = h
+turned limit S.NoFile line line' counts counts' h = h
 
 pub printed_cause : (limit : ℕ) (told : Option ReportText) (had status : Status) (out out' : SinkState) (line line' : LineState) (counts counts' : Counts) → Prints told had status out out' → StatusCause limit had line line' counts counts' → TurnedCause limit status line line' counts counts'
 printed_cause limit told had status out out' line line' counts counts' (lines_put (all_put is puts)) h = subst (λ (x : Status). TurnedCause limit x line line' counts counts') (sym is) (turned limit had line line' counts counts' h)
 printed_cause limit told had status out out' line line' counts counts' (lines_put (put_failed is puts)) h = subst (λ (x : Status). TurnedCause limit x line line' counts counts') (sym is) tt
 printed_cause limit told had status out out' line line' counts counts' (no_room (all_put is puts)) h = subst (λ (x : Status). TurnedCause limit x line line' counts counts') (sym is) tt
 printed_cause limit told had status out out' line line' counts counts' (no_room (put_failed is puts)) h = subst (λ (x : Status). TurnedCause limit x line line' counts counts') (sym is) tt
-
-pub printed_out : (told : Option ReportText) (had status : Status) (out out' : SinkState) → Prints told had status out out' → NotOut had → OutCause status out out'
-printed_out told had status out out' (lines_put (all_put is puts)) own = subst (λ (x : Status). OutCause x out out') (sym is) (same_faults had out out' own puts.faults)
-printed_out told had status out out' (lines_put (put_failed is puts)) own = subst (λ (x : Status). OutCause x out out') (sym is) puts.faults
-printed_out told had status out out' (no_room (all_put is puts)) own = subst (λ (x : Status). OutCause x out out') (sym is) puts.faults
-printed_out told had status out out' (no_room (put_failed is puts)) own = subst (λ (x : Status). OutCause x out out') (sym is) puts.faults

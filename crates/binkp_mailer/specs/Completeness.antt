@@ -4,7 +4,7 @@ use Rattle.ftn_addr.specs.Counts.{next_count}
 use Rattle.binkp_link.specs.Lines.{SinkState}
 use Rattle.session_core.specs.Ends as E
 use Rattle.session_run.specs.Reports.{ReportText}
-use Rattle.binkp_mailer.specs.Statuses.{Status, Done, DiskFault, NoMemory, OutFault}
+use Rattle.command_base.specs.Statuses.{Status, Done, DiskFault, NoMemory, OutFault}
 
 -- a session was held, and it finished
 abbrev pub HasFinished : Option ReportText → Type 0

@@ -1,30 +1,32 @@
 -- What the program's call does over a disk (own).
-use Rattle.std.specs.Prelude.{◌≡◌, ◌⊎◌, ℕ, ◌≤◌, Bool, true, List, Option, None, Err}
+use Rattle.std.specs.Prelude.{◌≡◌, ◌⊎◌, ℕ, ◌≤◌, Bool, true, false, List, Option, None, Ok}
 use Rattle.disk_model.specs.Changes.{Every}
-use Rattle.disk_model.specs.Moments.{Now, Leaves}
+use Rattle.disk_model.specs.Moments.{Now}
 use Rattle.disk_model.specs.World.{World}
-use Rattle.ftn_addr.specs.Counts.{Increased, CountGrew}
 use Rattle.inbound_files.specs.Giving.{StillHas}
 use Rattle.node_model.specs.Durable.{Durable}
 use Rattle.node_model.specs.Receipts.{HasOnce, SettledStays}
 use Rattle.node_model.specs.Stores.{Shelf, StoreStand, OpensShelf}
 use Rattle.binkp_link.specs.Lines.{LineState, SinkState}
-use Rattle.node_store.specs.Finding.{IsNewMemory, IsOpened}
-use Rattle.node_store.specs.Opening.{IsRefused, IsBadLedger, HasBadFile, Recovers}
 use Rattle.node_store.specs.Stored.{Holding, stand_of}
 use Rattle.node_store.specs.Worlds.{OpensAs, Opens}
 use Rattle.node_store.specs.declared.opening.fault.StoreOpenFault.{StoreOpenFault}
-use Rattle.node_store.specs.declared.opening.fault.StoreOpenFault.TheVariants as F
+use Rattle.nodelist_comp.specs.Node.{ListedNode}
+use Rattle.nodelist_files.specs.Files.{index_name}
+use Rattle.nodelist_files.specs.IndexFile.{index_at}
 use Rattle.mail_conf.specs.Conf.{ConfText}
 use Rattle.session_auth.specs.Sides.{Side}
 use Rattle.session_core.specs.Stages.{home_of}
 use Rattle.session_run.specs.Reports.{ReportText}
+use Rattle.command_base.specs.Causes.{IsBadIndex, NoIndex}
+use Rattle.command_base.specs.Opening.{HasOpened, HasRefused}
+use Rattle.command_base.specs.Settings.{HasSettings, NoSettings, OnlyRead}
+use Rattle.command_base.specs.Statuses as S
+use Rattle.command_base.specs.Statuses.{Status, status_unopened}
 use Rattle.binkp_mailer.specs.Completeness.{IsDoneBehind}
 use Rattle.binkp_mailer.specs.Inbound.{Gives_behind}
 use Rattle.binkp_mailer.specs.Reports.{Prints}
-use Rattle.binkp_mailer.specs.Settings.{HasSettings, NoSettings, OnlyRead, settings_in}
-use Rattle.binkp_mailer.specs.Statuses as S
-use Rattle.binkp_mailer.specs.Statuses.{Status, status_unopened}
+use Rattle.binkp_mailer.specs.Settings.{has_host, lists}
 use Rattle.binkp_mailer.specs.TopCall.{Given, IsCall, StatusCause, OnceAfter, StaysTold, IfTells}
 use Rattle.binkp_mailer.specs.Words.{AreWords, HaveForm}
 
@@ -55,42 +57,27 @@ module _ {D : Type 0} (content : D → World) (moment : D → ℕ) (images : D �
       → (k : ℕ) (w : World) (e : Option Shelf) → moment disk ≤ k → k ≤ moment disk' → images disk' k w → Opens w e
       → OpensShelf (λ s. StillHas d s.state) e
 
-module _ {D : Type 0} (tells : Bool) (content : D → World) (faults : D → ℕ) where
-  -- What a status tells of the disk. The number of a DiskFault is a count to which its faults rose; ConfBad, LedgerBad and
-  -- FileBad come only where the settings, or the world that it reads, are refused so.
-  abbrev pub DiskCause : Status → D → D → Type 0
-  DiskCause (S.DiskFault count) disk disk' = Increased (faults disk) count × CountGrew count (faults disk')
-  DiskCause (S.ConfBad fault) disk disk' = tells ≡ true → settings_in (content disk) ≡ Err fault
-  DiskCause (S.LedgerBad place) disk disk' = tells ≡ true → IsBadLedger place (content disk)
-  DiskCause (S.FileBad name) disk disk' = tells ≡ true → HasBadFile name (content disk)
-  DiskCause status disk disk' = Unit {0}
-
 module _ {D : Type 0} (tells : Bool) (content : D → World) (faults : D → ℕ) (moment : D → ℕ) (images : D → ℕ → World → Type 0) where
-  -- A store was opened: nothing is open in it, the disk read what it tells, and at each moment a stop left what opens as before.
-  pub record HasOpened (disk : D) (opened : Holding D) : Type 0 where
-    pub memory : IsNewMemory opened.memory
-    pub told : tells ≡ true → IsOpened (content disk) (content opened.disk) opened.memory
-    pub stop : tells ≡ true → Leaves moment images Recovers disk opened.disk
-    pub calm : faults opened.disk ≡ faults disk
+  -- the index of the disk says whether it has a host for the node that is called
+  abbrev pub IsListed : D → Side → Bool → Type 0
+  IsListed disk side listed = (index : Option (List ListedNode)) × (tells ≡ true → index_at ((content disk).own index_name) ≡ Ok index) × (listed ≡ lists index side)
 
-  -- None was opened: the disk failed, or there was no memory, or the world that it reads is refused. At each moment a stop left
-  -- what opens as before, and so does the end.
-  pub record HasRefused (fault : StoreOpenFault) (disk disk' : D) : Type 0 where
-    pub why : (fault ≡ F.Disk) ⊎ ((fault ≡ F.NoMemory) ⊎ (tells ≡ true → IsRefused fault (content disk)))
-    pub failed : fault ≡ F.Disk → Increased (faults disk) (faults disk')
-    pub stop : tells ≡ true → Leaves moment images Recovers disk disk'
-    pub read : tells ≡ true → Recovers (content disk) (content disk')
-
-  -- The words have no form of a call, and nothing was done; or the settings weren't read, or ask for no session by these words,
-  -- and the disk was read only; or no store was opened; or a call was made over the store of the disk,
-  -- and then received files were given.
+  -- The words have no form of a call, and nothing was done; or the settings weren't read, or ask for no session by these words, or
+  -- have no host for the node that is called and the index couldn't be read, and the disk was read only; or no store was opened; or
+  -- one was, and the index is bad; or a call was made over the store of the disk, and then received files were given.
   pub data Over_disk (words : List (List ℕ)) (challenge : List ℕ) (now : ℕ) (line : LineState) (disk : D) (told : Option ReportText) (had : Status) (line' : LineState) (disk' : D) : Type 0 where
     Not_asked : told ≡ None → had ≡ S.Usage → (HaveForm words → ⊥) → line' ≡ line → disk' ≡ disk → Over_disk words challenge now line disk told had line' disk'
     Not_set : told ≡ None → HaveForm words → NoSettings tells content faults moment images disk disk' had → OnlyRead tells content faults moment images disk disk' → line' ≡ line → Over_disk words challenge now line disk told had line' disk'
     No_call : (conf : ConfText) → HasSettings tells content faults moment images disk conf → told ≡ None → IsNoCall words conf had → OnlyRead tells content faults moment images disk disk' → line' ≡ line → Over_disk words challenge now line disk told had line' disk'
-    Not_opened : (conf : ConfText) → HasSettings tells content faults moment images disk conf → (side : Side) → AreWords words (home_of conf.addresses) side → (fault : StoreOpenFault) → told ≡ None → had ≡ status_unopened fault (faults disk') → line' ≡ line → HasRefused fault disk disk' → Over_disk words challenge now line disk told had line' disk'
-    Over_store : (conf : ConfText) → HasSettings tells content faults moment images disk conf → (opened held left : Holding D) → HasOpened disk opened
-        → (was : Status) → Serves words (record { conf = conf; challenge = challenge; moment = now }) line (stand_of tells content faults moment images opened) told was line' (stand_of tells content faults moment images held)
+    Not_opened : (conf : ConfText) → HasSettings tells content faults moment images disk conf → (side : Side) → AreWords words (home_of conf.addresses) side → (fault : StoreOpenFault) → told ≡ None → had ≡ status_unopened fault (faults disk') → line' ≡ line → HasRefused tells content faults moment images fault disk disk' → Over_disk words challenge now line disk told had line' disk'
+    No_index : (conf : ConfText) → HasSettings tells content faults moment images disk conf → (side : Side) → AreWords words (home_of conf.addresses) side → has_host conf side ≡ false
+        → told ≡ None → NoIndex faults disk disk' had → OnlyRead tells content faults moment images disk disk' → line' ≡ line → Over_disk words challenge now line disk told had line' disk'
+    Bad_index : (conf : ConfText) → HasSettings tells content faults moment images disk conf → (side : Side) → AreWords words (home_of conf.addresses) side → has_host conf side ≡ false
+        → (tells ≡ true → IsBadIndex (content disk)) → (opened : Holding D) → HasOpened tells content faults moment images disk opened
+        → told ≡ None → had ≡ S.FileBad index_name → line' ≡ line → disk' ≡ opened.disk → Over_disk words challenge now line disk told had line' disk'
+    Over_store : (conf : ConfText) → HasSettings tells content faults moment images disk conf → (side : Side) → AreWords words (home_of conf.addresses) side
+        → (listed : Bool) → (has_host conf side ≡ false → IsListed disk side listed) → (opened held left : Holding D) → HasOpened tells content faults moment images disk opened
+        → (was : Status) → Serves words (record { conf = conf; listed = listed; challenge = challenge; moment = now }) line (stand_of tells content faults moment images opened) told was line' (stand_of tells content faults moment images held)
         → Gives_behind tells content faults moment images conf told was had held left → disk' ≡ left.disk → Over_disk words challenge now line disk told had line' disk'
 
   -- The whole call, and then what was printed of it: the session's report where one was held, and the status that it had.

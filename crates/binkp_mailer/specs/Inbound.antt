@@ -10,7 +10,7 @@ use Rattle.node_model.specs.declared.store.StoreFault.TheVariants.{Disk}
 use Rattle.node_store.specs.Opening.{counted}
 use Rattle.node_store.specs.Stored.{Holding, stand_of}
 use Rattle.session_run.specs.Reports.{ReportText}
-use Rattle.binkp_mailer.specs.Statuses.{Status, DiskFault}
+use Rattle.command_base.specs.Statuses.{Status, DiskFault}
 
 -- how many received files may be given
 abbrev pub waiting : StoreStand → ℕ

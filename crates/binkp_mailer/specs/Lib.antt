@@ -6,6 +6,5 @@ pub mod OneNode
 pub mod Programs
 pub mod Reports
 pub mod Settings
-pub mod Statuses
 pub mod TopCall
 pub mod Words

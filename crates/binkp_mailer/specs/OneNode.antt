@@ -28,7 +28,7 @@ use Rattle.session_run.specs.Reports.{ReportText}
 use Rattle.hub_core.specs.Hubs.{node_with}
 use Rattle.world_pair.specs.Course.{Course, Makes}
 use Rattle.world_pair.specs.FromDesk.{at_desk, RowHappens, TakeHappens, TurnHappens}
-use Rattle.binkp_mailer.specs.Statuses.{Status}
+use Rattle.command_base.specs.Statuses.{Status}
 use Rattle.binkp_mailer.specs.TopCall.{Given, HeldSession, lent, new_hub}
 
 -- The node of a session.

@@ -3,12 +3,14 @@ use Rattle.std.specs.Prelude.{◌≡◌, ◌↔◌, ℕ, Bool, true, List, None,
 use Rattle.disk_model.specs.World.{World}
 use Rattle.binkp_link.specs.Lines.{LineState, SinkState}
 use Rattle.binkp_mailer.specs.declared.program.Ended.{Ended}
-use Rattle.binkp_mailer.specs.DiskCall.{DiskCall, DiskCause, KeepsReceipts}
+use Rattle.command_base.specs.Causes.{DiskCause}
+use Rattle.command_base.specs.Printing.{OutCause}
+use Rattle.still_commands.specs.Still.{AreStill, StillCall}
+use Rattle.binkp_mailer.specs.DiskCall.{DiskCall, KeepsReceipts}
 use Rattle.binkp_mailer.specs.Reports.{Prints}
-use Rattle.binkp_mailer.specs.Statuses.{Status, Usage, NoMemory, number_of_status}
-use Rattle.binkp_mailer.specs.TopCall.{OutCause}
+use Rattle.command_base.specs.Statuses.{Status, Usage, NoMemory, number_of_status}
 
-module _ {D : Type 0} (tells : Bool) (content : D → World) (faults : D → ℕ) (moment : D → ℕ) (images : D → ℕ → World → Type 0) where
+module _ {D : Type 0} (files : D → World → Type 0) (tells : Bool) (content : D → World) (faults : D → ℕ) (moment : D → ℕ) (images : D → ℕ → World → Type 0) where
   -- one call over a disk: what it did and printed, the causes of its status in the disk and in the sink, and that what was
   -- received stays so
   pub record CallsOver (words : List (List ℕ)) (challenge : List ℕ) (now : ℕ) (line : LineState) (disk : D) (out : SinkState) (status : Status) (line' : LineState) (disk' : D) (out' : SinkState) : Type 0 where
@@ -17,10 +19,21 @@ module _ {D : Type 0} (tells : Bool) (content : D → World) (faults : D → ℕ
     pub out_cause : OutCause status out out'
     pub stays : tells ≡ true → KeepsReceipts content moment images disk disk'
 
+  -- a command without a session in the same way
+  pub record StillOver (words : List (List ℕ)) (disk : D) (out : SinkState) (status : Status) (disk' : D) (out' : SinkState) : Type 0 where
+    pub call : StillCall files tells content faults moment images words disk out status disk' out'
+    pub cause : DiskCause tells content faults status disk disk'
+    pub out_cause : OutCause status out out'
+
+  -- Words of a command without a session run that, and the line stays as it was; all others run a call over the line.
+  pub data Runs_over (words : List (List ℕ)) (challenge : List ℕ) (now : ℕ) (line : LineState) (disk : D) (out : SinkState) (status : Status) (line' : LineState) (disk' : D) (out' : SinkState) : Type 0 where
+    A_still : AreStill words → StillOver words disk out status disk' out' → line' ≡ line → Runs_over words challenge now line disk out status line' disk' out'
+    A_call : (AreStill words → ⊥) → CallsOver words challenge now line disk out status line' disk' out' → Runs_over words challenge now line disk out status line' disk' out'
+
   -- the same, told by the exit status
   abbrev pub IsProgramCall : List (List ℕ) → List ℕ → ℕ → LineState → D → SinkState → (exit : ℕ) → LineState → D → SinkState → Type 0
   IsProgramCall words challenge now line disk out exit line' disk' out' =
-      (status : Status) × CallsOver words challenge now line disk out status line' disk' out' × (exit ≡ number_of_status status)
+      (status : Status) × Runs_over words challenge now line disk out status line' disk' out' × (exit ≡ number_of_status status)
 
 -- no memory was left for the words, and that is told
 abbrev pub HadNoWords : SinkState → (exit : ℕ) → SinkState → Type 0

@@ -1,15 +1,16 @@
 -- The line of a session, and what a call prints (own).
-use Rattle.std.specs.Prelude.{◌≡◌, ℕ, List, [], ◌∷◌, ◌++◌, Option, Some, None, codes}
+use Rattle.std.specs.Prelude.{ℕ, List, [], ◌∷◌, ◌++◌, Option, Some, None, codes}
 use Rattle.std.specs.Fmt.{decimal}
 use Rattle.ftn_addr.specs.Address.{Address}
 use Rattle.ftn_addr.specs.Writing.{canonical}
-use Rattle.binkp_link.specs.Lines.{SinkState, PutsAll, PutsFront}
+use Rattle.binkp_link.specs.Lines.{SinkState}
 use Rattle.session_core.specs.Ends.{End}
 use Rattle.session_core.specs.Ends as E
 use Rattle.session_run.specs.Reports.{ReportText, report_text}
 use Rattle.binkp_mailer.specs.declared.report.Outcome.{Outcome}
 use Rattle.binkp_mailer.specs.declared.report.Outcome.TheVariants as O
-use Rattle.binkp_mailer.specs.Statuses.{Status, DiskFault, Usage, NotFound, OutFault, NoMemory, status_after, status_line, status_unopened, status_unset}
+use Rattle.command_base.specs.Printing.{PrintsLines}
+use Rattle.command_base.specs.Statuses.{Status, DiskFault, Usage, NotFound, NoMemory, status_after, status_unindexed, status_unopened, status_unset}
 
 -- the variant's name alone
 abbrev pub end_word : End → List ℕ
@@ -37,27 +38,21 @@ session_line report =
     codes "session " ++ decimal report.session ++ codes " peer " ++ peer_word report.peer ++ codes " sent " ++ decimal report.sent
     ++ codes " received " ++ decimal report.received ++ codes " skipped " ++ decimal report.skipped ++ codes " end " ++ end_word report.end ++ 10 ∷ []
 
--- the line of the session, where one was held, and then the status's
-abbrev pub lines_told : Option ReportText → Status → List ℕ
-lines_told None status = status_line status
-lines_told (Some report) status = session_line report ++ status_line status
+-- the line of the session, where one was held
+abbrev pub lines_told : Option ReportText → List ℕ
+lines_told None = []
+lines_told (Some report) = session_line report
 
--- These lines were put and that status is answered, or the put failed after a front of them, and the answer is OutFault.
-pub data Puts_lines (lines : List ℕ) (status result : Status) (old new : SinkState) : Type 0 where
-  all_put : result ≡ status → PutsAll lines old new → Puts_lines lines status result old new
-  put_failed : result ≡ OutFault → PutsFront lines old new → Puts_lines lines status result old new
-
--- A call that is to answer that status puts its lines, and where no memory is left for them, that of NoMemory, which it
--- answers then.
-pub data Prints (report : Option ReportText) (status result : Status) (old new : SinkState) : Type 0 where
-  lines_put : Puts_lines (lines_told report status) status result old new → Prints report status result old new
-  no_room : Puts_lines (codes "status 17 NoMemory" ++ 10 ∷ []) NoMemory result old new → Prints report status result old new
+-- A call puts the line of the session, where one was held, and that of its status.
+abbrev pub Prints : Option ReportText → (status result : Status) → SinkState → SinkState → Type 0
+Prints report status result old new = PrintsLines (lines_told report) status result old new
 
 -- the report of the session that was held, where one was
 abbrev pub told_of : Outcome → Option ReportText
 told_of O.Usage = None
 told_of O.NoMemory = None
 told_of O.NotFound = None
+told_of (O.Unindexed fault faults) = None
 told_of (O.Unset fault faults) = None
 told_of (O.Unopened fault faults) = None
 told_of (O.Held report) = Some (report_text report)
@@ -73,6 +68,7 @@ abbrev pub had_of : Outcome → Status
 had_of O.Usage = Usage
 had_of O.NoMemory = NoMemory
 had_of O.NotFound = NotFound
+had_of (O.Unindexed fault faults) = status_unindexed fault faults
 had_of (O.Unset fault faults) = status_unset fault faults
 had_of (O.Unopened fault faults) = status_unopened fault faults
 had_of (O.Held report) = status_after (report_text report).end

@@ -1,5 +1,5 @@
 -- What a call over a store does (own, after FTS-1026).
-use Rattle.std.specs.Prelude.{◌≡◌, ◌⊎◌, ℕ, ◌+◌, ◌-◌, ◌≤◌, ◌<◌, true, false, List, length, Option, Some, None}
+use Rattle.std.specs.Prelude.{◌≡◌, ◌⊎◌, ℕ, ◌+◌, ◌-◌, ◌≤◌, ◌<◌, Bool, ◌||◌, true, false, List, length, Option, Some, None}
 use Rattle.ftn_addr.specs.Counts.{Increased, CountGrew, next_count}
 use Rattle.node_model.specs.Calls.{Counts, DeskState}
 use Rattle.node_model.specs.Durable.{Durable}
@@ -18,19 +18,25 @@ use Rattle.hub_core.specs.Opening.{no_seats, with_seat}
 use Rattle.binkp_mailer.specs.Completeness.{IsDoneWhere}
 use Rattle.binkp_mailer.specs.Reports.{Prints}
 use Rattle.binkp_mailer.specs.Settings.{has_host, hub_settings}
-use Rattle.binkp_mailer.specs.Statuses as S
-use Rattle.binkp_mailer.specs.Statuses.{Status, status_after}
+use Rattle.command_base.specs.Statuses as S
+use Rattle.command_base.specs.Statuses.{Status, status_after}
 use Rattle.binkp_mailer.specs.Words.{AreWords}
 
--- what a call is lent: the settings, the challenge that it offers, and the moment
+-- what a call is lent: the settings, whether the index has a host for the node that is called, the challenge that it offers, and
+-- the moment
 pub record Given : Type 0 where
   pub conf : ConfText
+  pub listed : Bool
   pub challenge : List ℕ
   pub moment : ℕ
 
 -- what its session is lent
 abbrev pub lent : Side → Given → Setting
 lent side g = setting_of side g.conf g.challenge g.moment
+
+-- a node that is called has a host, in the settings or in the index
+abbrev pub is_reached : Given → Side → Bool
+is_reached g side = has_host g.conf side || g.listed
 
 -- a hub of these settings, with one seat
 abbrev pub new_hub : ConfText → HubState
@@ -48,17 +54,16 @@ pub record HeldSession (side : Side) (given : Given) (line : LineState) (store :
   pub hub : HubState
   pub session : WholeRun true (lent side given) line (first_seat store (new_hub given.conf)) report line' (first_seat store' hub)
 
--- Why no session is held: the words ask for nothing, or to call a node of which the settings have no host, or there was no
--- memory.
-pub data Declines (words : List (List ℕ)) (conf : ConfText) (had : Status) : Type 0 where
-  Asks_nothing : had ≡ S.Usage → ((side : Side) → AreWords words (home_of conf.addresses) side → ⊥) → Declines words conf had
-  Has_no_host : had ≡ S.NotFound → (side : Side) → AreWords words (home_of conf.addresses) side → has_host conf side ≡ false → Declines words conf had
-  Has_no_memory : had ≡ S.NoMemory → Declines words conf had
+-- Why no session is held: the words ask for nothing, or to call a node that has no host, or there was no memory.
+pub data Declines (words : List (List ℕ)) (given : Given) (had : Status) : Type 0 where
+  Asks_nothing : had ≡ S.Usage → ((side : Side) → AreWords words (home_of given.conf.addresses) side → ⊥) → Declines words given had
+  Has_no_host : had ≡ S.NotFound → (side : Side) → AreWords words (home_of given.conf.addresses) side → is_reached given side ≡ false → Declines words given had
+  Has_no_memory : had ≡ S.NoMemory → Declines words given had
 
 -- A session was held, where the words ask for one, and not to call a node without a host; else nothing was done.
 pub data Answers_line (words : List (List ℕ)) (given : Given) (line : LineState) (store : StoreState) (told : Option ReportText) (status : Status) (line' : LineState) (store' : StoreState) : Type 0 where
-  Turned_away : told ≡ None → Declines words given.conf status → line' ≡ line → store' ≡ store → Answers_line words given line store told status line' store'
-  Held_one : (side : Side) → AreWords words (home_of given.conf.addresses) side → has_host given.conf side ≡ true → HeldSession side given line store told status line' store' → Answers_line words given line store told status line' store'
+  Turned_away : told ≡ None → Declines words given status → line' ≡ line → store' ≡ store → Answers_line words given line store told status line' store'
+  Held_one : (side : Side) → AreWords words (home_of given.conf.addresses) side → is_reached given side ≡ true → HeldSession side given line store told status line' store' → Answers_line words given line store told status line' store'
 
 -- What a stop may leave of a store that was only handed back: what it might have left before.
 pub record SameImages (store store' : StoreStand) : Type 0 where
@@ -111,11 +116,6 @@ abbrev pub TurnedCause : (limit : ℕ) → Status → (line line' : LineState) �
 TurnedCause limit S.NoMemory line line' counts counts' = Unit {0}
 TurnedCause limit S.OutFault line line' counts counts' = Unit {0}
 TurnedCause limit status line line' counts counts' = StatusCause limit status line line' counts counts'
-
--- A put failed exactly at OutFault.
-abbrev pub OutCause : Status → SinkState → SinkState → Type 0
-OutCause S.OutFault out out' = out'.faults ≡ next_count out.faults
-OutCause status out out' = out'.faults ≡ out.faults
 
 -- The whole call, and then what was printed of it: the session's report where one was held, and the status that it had.
 -- It is Done where that session finished, and nowhere else.

@@ -1,17 +1,15 @@
--- The words that the program is given (own).
-use Rattle.std.specs.Prelude.{◌≡◌, ℕ, List, [], ◌∷◌, codes, map, Ok}
+-- The words that ask for a session (own).
+use Rattle.std.specs.Prelude.{◌≡◌, ℕ, List, Ok}
 use Rattle.ftn_addr.specs.Address.{Address}
-use Rattle.ftn_addr.specs.Content.{Content}
 use Rattle.ftn_addr.specs.Reading.{reading}
+use Rattle.command_words.specs.Forms as W
+use Rattle.command_words.specs.Forms.{HasForm}
 use Rattle.session_auth.specs.Sides.{Side, Answers, Calls}
-
-abbrev pub texts : List Content → List (List ℕ)
-texts words = map (λ word. word.list) words
 
 -- the forms of a call: `answer`, and `call` with one word behind
 pub data HaveForm (words : List (List ℕ)) : Type 0 where
-  form_of_answer : words ≡ codes "answer" ∷ [] → HaveForm words
-  form_of_call : (text : List ℕ) → words ≡ codes "call" ∷ text ∷ [] → HaveForm words
+  form_of_answer : HasForm words W.Answer → HaveForm words
+  form_of_call : (text : List ℕ) → HasForm words (W.Call text) → HaveForm words
 
 -- a text spells the address of a node in the home's domain
 pub record Spells (home : Address) (text : List ℕ) (peer : Address) : Type 0 where
@@ -20,8 +18,8 @@ pub record Spells (home : Address) (text : List ℕ) (peer : Address) : Type 0 w
 
 -- what the words ask for at a node with that home: at which side of a line
 pub data AreWords (words : List (List ℕ)) (home : Address) (side : Side) : Type 0 where
-  to_answer : side ≡ Answers → words ≡ codes "answer" ∷ [] → AreWords words home side
-  to_call : (text : List ℕ) (peer : Address) → side ≡ Calls peer → words ≡ codes "call" ∷ text ∷ [] → Spells home text peer → AreWords words home side
+  to_answer : side ≡ Answers → HasForm words W.Answer → AreWords words home side
+  to_call : (text : List ℕ) (peer : Address) → side ≡ Calls peer → HasForm words (W.Call text) → Spells home text peer → AreWords words home side
 
 -- some words ask for this
 abbrev pub IsAsked : Address → Side → Type 0

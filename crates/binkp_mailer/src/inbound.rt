@@ -6,7 +6,7 @@ ghost use Rattle.node_store.specs.Stored.{stand_of};
 ghost use Rattle.session_run.specs.Reports.{report_text};
 ghost use Rattle.binkp_mailer.specs.Inbound.{Gives_behind, waiting};
 ghost use Rattle.binkp_mailer.specs.Reports.{NoneUngiven, had_of, told_of};
-ghost use Rattle.binkp_mailer.specs.Statuses.{status_after};
+ghost use Rattle.command_base.specs.Statuses.{status_after};
 
 use crate::Outcome;
 use disk_model::Yard;

@@ -24,7 +24,6 @@ mod over_store;
 mod program;
 mod report;
 mod settings;
-mod status;
 mod words;
 
 pub use holding::{hold_line, hold_session};
@@ -34,6 +33,5 @@ pub use over_disk::run_line;
 pub use over_store::{one_receipt_over_calls, receipts_stay_over_calls, run_over_store};
 pub use program::{Ended, explanation, refuse_for_memory, run_program};
 pub use report::{Outcome, print, push_session};
-pub use settings::{SettingsFault, has_host, hub_conf, read_settings};
-pub use status::{Status, push_status, status_of, status_unopened, status_unset};
+pub use settings::{has_host, hub_conf, is_reached, lists};
 pub use words::{WordsFault, have_form, read_words};

@@ -1,27 +1,34 @@
 //! The program's call over a disk.
-ghost use Rattle.std.specs.Prelude.{◌≡◌, false, true};
+ghost use Rattle.std.specs.Prelude.{◌≡◌, List, false, true, ℕ};
+ghost use Rattle.binkp_link.specs.Lines.{LineState};
+ghost use Rattle.session_auth.specs.Sides.{Side as AnySide, side_of};
+ghost use Rattle.session_core.specs.Stages.{home_of};
 ghost use Rattle.disk_model.specs.Changes.{Every};
 ghost use Rattle.disk_model.specs.Moments.{Now};
 ghost use Rattle.mail_conf.specs.ConfView.{conf_text};
 ghost use Rattle.mail_conf.specs.Limits.{KeepsLimits};
 ghost use Rattle.node_store.specs.Opening.{IsReady};
-ghost use Rattle.binkp_mailer.specs.DiskCall.{DiskCall, DiskCause, KeepsReceipts, Over_disk};
+ghost use Rattle.binkp_mailer.specs.DiskCall.{DiskCall, IsListed, KeepsReceipts, Over_disk};
 ghost use Rattle.binkp_mailer.specs.Reports.{had_of, told_of};
-ghost use Rattle.binkp_mailer.specs.Settings.{HasSettings};
-ghost use Rattle.binkp_mailer.specs.Statuses.{status_text};
-ghost use Rattle.binkp_mailer.specs.TopCall.{OutCause};
-ghost use Rattle.binkp_mailer.specs.Words.{HaveForm, texts};
+ghost use Rattle.command_base.specs.Settings.{HasSettings};
+ghost use Rattle.command_base.specs.Statuses.{status_text};
+ghost use Rattle.command_base.specs.Causes.{DiskCause, IsBadIndex};
+ghost use Rattle.command_base.specs.Printing.{OutCause};
+ghost use Rattle.command_words.specs.Forms.{texts};
+ghost use Rattle.binkp_mailer.specs.Settings.{has_host};
+ghost use Rattle.binkp_mailer.specs.Words.{AreWords, HaveForm, IsAsked};
 
 use crate::{
-    Outcome, Status, WordsFault, give_behind, have_form, hold_session, print, read_settings,
-    read_words,
+    Outcome, WordsFault, give_behind, has_host, have_form, hold_session, lists, print, read_words,
 };
 use binkp_link::{Line, Sink};
+use command_base::{Status, read_settings};
 use disk_model::{Disk, Yard};
 use ftn_addr::Bytes;
 use mail_conf::{Conf, what_is_read_keeps_limits};
 use node_store::NodeStore;
-use session_core::home_of;
+use nodelist_files::{IndexFileFault, read_index};
+use session_core::{Side, home_of};
 use std::alloc::Global;
 
 /// Reads the settings of a disk, opens its store and holds one session over the line, where the words are a call, prints what
@@ -99,13 +106,93 @@ fn serve_by<D: Yard, L: Line>(
     requires open { (L.state line.old).closed ≡ false }
     ensures { Over_disk D.tells D.content D.fault_count D.moment D.images (texts words.now) random now (L.state line.old) disk (told_of result.0) (had_of result.0) (L.state line.new) result.1 }
 {
-    let home = home_of(conf);
-    let side = match read_words(alloc, words, home) {
+    let side = match read_words(alloc, words, home_of(conf)) {
         Ok(side) => side,
         Err(WordsFault::Usage) => return (Outcome::Usage, disk),
         Err(WordsFault::NoMemory) => return (Outcome::NoMemory, disk),
     };
-    let store = match NodeStore::open(alloc, disk, home) {
+    if has_host(conf, &side) {
+        serve_side(alloc, side, conf, false, disk, line, now, random)
+    } else {
+        serve_by_index(alloc, side, conf, disk, line, now, random)
+    }
+}
+
+// The call of a node that has no host in the settings: whether it has one is read in the index.
+fn serve_by_index<D: Yard, L: Line>(
+    alloc: Global,
+    side: Side,
+    conf: &Conf,
+    disk: D,
+    line: &mut L,
+    now: u64,
+    random: [u8; 16],
+) -> (Outcome, D)
+    requires settings { HasSettings D.tells D.content D.fault_count D.moment D.images disk (conf_text conf.now) }
+    requires keeps { KeepsLimits (conf_text conf.now) }
+    requires asked { IsAsked (home_of (conf_text conf.now).addresses) (side_of side) }
+    requires unhosted { has_host (conf_text conf.now) (side_of side) ≡ false }
+    requires ready { D.tells ≡ true → Every (Now D.moment D.images disk) (IsReady (D.content disk)) }
+    requires calm { (L.state line.old).calm ≡ 0 }
+    requires open { (L.state line.old).closed ≡ false }
+    ensures { (words : List (List ℕ)) → AreWords words (home_of (conf_text conf.now).addresses) (side_of side) → Over_disk D.tells D.content D.fault_count D.moment D.images words random now (L.state line.old) disk (told_of result.0) (had_of result.0) (L.state line.new) result.1 }
+{
+    let mut disk = disk;
+    match read_index(alloc, &mut disk) {
+        Ok(index) => {
+            let listed = lists(&index, &side);
+            serve_side(alloc, side, conf, listed, disk, line, now, random)
+        }
+        Err(IndexFileFault::Bad) => refuse_index(alloc, conf, disk),
+        Err(IndexFileFault::Disk) => {
+            let faults = disk.faults();
+            (Outcome::Unindexed(IndexFileFault::Disk, faults), disk)
+        }
+        Err(IndexFileFault::NoMemory) => (Outcome::NoMemory, disk),
+    }
+}
+
+// Opens the store of a disk whose index is bad. That is told where the store is opened.
+fn refuse_index<D: Yard>(alloc: Global, conf: &Conf, disk: D) -> (Outcome, D)
+    requires settings { HasSettings D.tells D.content D.fault_count D.moment D.images disk (conf_text conf.now) }
+    requires keeps { KeepsLimits (conf_text conf.now) }
+    requires ready { D.tells ≡ true → Every (Now D.moment D.images disk) (IsReady (D.content disk)) }
+    requires bad { D.tells ≡ true → IsBadIndex (D.content disk) }
+    ensures { (words : List (List ℕ)) (challenge : List ℕ) (now : ℕ) (line : LineState) (side : AnySide) → AreWords words (home_of (conf_text conf.now).addresses) side → has_host (conf_text conf.now) side ≡ false → Over_disk D.tells D.content D.fault_count D.moment D.images words challenge now line disk (told_of result.0) (had_of result.0) line result.1 }
+{
+    match NodeStore::open(alloc, disk, home_of(conf)) {
+        Ok((store, _recovery)) => (
+            Outcome::Unindexed(IndexFileFault::Bad, 0),
+            store.into_disk(),
+        ),
+        Err((disk, fault)) => {
+            let faults = disk.faults();
+            (Outcome::Unopened(fault, faults), disk)
+        }
+    }
+}
+
+// The call at that side of the line. Whether the index has a host for the node that is called is told where the settings have none.
+fn serve_side<D: Yard, L: Line>(
+    alloc: Global,
+    side: Side,
+    conf: &Conf,
+    listed: bool,
+    disk: D,
+    line: &mut L,
+    now: u64,
+    random: [u8; 16],
+) -> (Outcome, D)
+    requires settings { HasSettings D.tells D.content D.fault_count D.moment D.images disk (conf_text conf.now) }
+    requires keeps { KeepsLimits (conf_text conf.now) }
+    requires asked { IsAsked (home_of (conf_text conf.now).addresses) (side_of side) }
+    requires listed { has_host (conf_text conf.now) (side_of side) ≡ false → IsListed D.tells D.content D.fault_count D.moment D.images disk (side_of side) listed }
+    requires ready { D.tells ≡ true → Every (Now D.moment D.images disk) (IsReady (D.content disk)) }
+    requires calm { (L.state line.old).calm ≡ 0 }
+    requires open { (L.state line.old).closed ≡ false }
+    ensures { (words : List (List ℕ)) → AreWords words (home_of (conf_text conf.now).addresses) (side_of side) → Over_disk D.tells D.content D.fault_count D.moment D.images words random now (L.state line.old) disk (told_of result.0) (had_of result.0) (L.state line.new) result.1 }
+{
+    let store = match NodeStore::open(alloc, disk, home_of(conf)) {
         Ok((store, _recovery)) => store,
         Err((disk, fault)) => {
             let faults = disk.faults();
@@ -114,7 +201,7 @@ fn serve_by<D: Yard, L: Line>(
     };
     store.opens_as_told();
     store.opens_soundly();
-    let (outcome, store) = hold_session(alloc, side, conf, random, store, line, now);
+    let (outcome, store) = hold_session(alloc, side, conf, listed, random, store, line, now);
     let (outcome, store) = give_behind(alloc, conf, outcome, store);
     (outcome, store.into_disk())
 }

@@ -6,12 +6,14 @@ ghost use Rattle.node_model.specs.Node.{Settings};
 ghost use Rattle.node_model.specs.Receipts.{HasOnce, SettledStays};
 ghost use Rattle.node_model.specs.Stores.{StoreState, IfTold};
 ghost use Rattle.hub_core.specs.Opening.{IsWhole, no_seats};
-ghost use Rattle.binkp_mailer.specs.TopCall.{Calls_in_turn, Given, HasOnceTold, IfTells, OnceAfter, OutCause, StaysTold, TopCall, TurnedCause};
-ghost use Rattle.binkp_mailer.specs.Statuses.{status_text};
-ghost use Rattle.binkp_mailer.specs.Words.{texts};
+ghost use Rattle.command_base.specs.Printing.{OutCause};
+ghost use Rattle.binkp_mailer.specs.TopCall.{Calls_in_turn, Given, HasOnceTold, IfTells, OnceAfter, StaysTold, TopCall, TurnedCause};
+ghost use Rattle.command_base.specs.Statuses.{status_text};
+ghost use Rattle.command_words.specs.Forms.{texts};
 
-use crate::{Status, hold_line, print};
+use crate::{hold_line, print};
 use binkp_link::{Line, Sink};
+use command_base::Status;
 use ftn_addr::Bytes;
 use mail_conf::Conf;
 use node_model::Store;
@@ -37,7 +39,7 @@ pub fn run_over_store<S: Store, L: Line, O: Sink>(
     requires fits { (settings : Settings) → IsWhole (S.stand store) (no_seats settings) }
     requires calm { (L.state line.old).calm ≡ 0 }
     requires open { (L.state line.old).closed ≡ false }
-    ensures call { TopCall (texts words.now) (record { conf = conf_text conf.now; challenge = challenge; moment = now }) (L.state line.old) (S.stand store) (O.state out.old) (status_text result.0) (L.state line.new) (S.stand result.1) (O.state out.new) }
+    ensures call { TopCall (texts words.now) (record { conf = conf_text conf.now; listed = false; challenge = challenge; moment = now }) (L.state line.old) (S.stand store) (O.state out.old) (status_text result.0) (L.state line.new) (S.stand result.1) (O.state out.new) }
     ensures cause { TurnedCause (conf_text conf.now).session_limit (status_text result.0) (L.state line.old) (L.state line.new) (S.stand store).state.counts (S.stand result.1).state.counts }
     ensures out_cause { OutCause (status_text result.0) (O.state out.old) (O.state out.new) }
     ensures fits { (settings : Settings) → IsWhole (S.stand result.1) (no_seats settings) }

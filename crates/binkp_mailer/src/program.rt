@@ -3,15 +3,17 @@ ghost use Rattle.std.specs.Prelude.{◌≡◌, ◌↔◌, false, true, IsSome};
 ghost use Rattle.disk_model.specs.Changes.{Every};
 ghost use Rattle.disk_model.specs.Moments.{Now};
 ghost use Rattle.node_store.specs.Opening.{IsReady};
-ghost use Rattle.binkp_mailer.specs.Programs.{EndsByStatus, HadNoWords, IsProgramCall};
-ghost use Rattle.binkp_mailer.specs.Statuses.{Usage, number_of_status, status_text};
-ghost use Rattle.binkp_mailer.specs.Words.{texts};
+ghost use Rattle.binkp_mailer.specs.Programs.{EndsByStatus, HadNoWords, IsProgramCall, Runs_over};
+ghost use Rattle.command_base.specs.Statuses.{Usage, number_of_status, status_text};
+ghost use Rattle.command_words.specs.Forms.{texts};
 
-use crate::{Outcome, Status, print, run_line};
+use crate::{Outcome, print, run_line};
 use binkp_link::{Line, Sink};
+use command_base::Status;
 use disk_model::Yard;
 use ftn_addr::Bytes;
 use std::alloc::Global;
+use still_commands::{is_still, run_still};
 
 /// How the program ends: with this exit status, and, where the words are no command, with this line on standard
 /// error.
@@ -27,7 +29,7 @@ pub fn explanation(status: &Status) -> Option<&'static str>
 {
     match status {
         Status::Usage => Some(
-            "binkp: the words are `DIR answer` or `DIR call ADDR`, as in `. call 2:5047/13`; DIR has the settings, `binkp.conf`",
+            "binkp: the words are `DIR answer`, `DIR call ADDR`, `DIR lookup ADDR` or `DIR compile FILE`, as in `. call 2:5047/13`; DIR has the settings, `binkp.conf`",
         ),
         Status::Done
         | Status::ConfBad(_)
@@ -46,7 +48,9 @@ pub fn explanation(status: &Status) -> Option<&'static str>
         | Status::OutFault
         | Status::TurnedAway
         | Status::NoMemory
-        | Status::FileBad(_) => None,
+        | Status::FileBad(_)
+        | Status::ListBad(_)
+        | Status::NoFile => None,
     }
 }
 
@@ -61,7 +65,29 @@ fn end_of(status: &Status) -> Ended
     }
 }
 
-/// Makes the call that the words behind DIR ask for over the disk, prints what came of it, and gives the disk back.
+// A call over the line, or a command without a session.
+fn run_words<D: Yard, L: Line, O: Sink>(
+    alloc: Global,
+    words: &[Bytes],
+    disk: D,
+    line: &mut L,
+    now: u64,
+    random: [u8; 16],
+    out: &mut O,
+) -> (Status, D)
+    requires ready { D.tells ≡ true → Every (Now D.moment D.images disk) (IsReady (D.content disk)) }
+    requires calm { (L.state line.old).calm ≡ 0 }
+    requires open { (L.state line.old).closed ≡ false }
+    ensures { Runs_over D.files D.tells D.content D.fault_count D.moment D.images (texts words.now) random now (L.state line.old) disk (O.state out.old) (status_text result.0) (L.state line.new) result.1 (O.state out.new) }
+{
+    if is_still(words) {
+        run_still(alloc, words, disk, now, out)
+    } else {
+        run_line(alloc, words, disk, line, now, random, out)
+    }
+}
+
+/// Does what the words behind DIR ask for over the disk, prints what came of it, and gives the disk back.
 pub fn run_program<D: Yard, L: Line, O: Sink>(
     alloc: Global,
     words: &[Bytes],
@@ -74,10 +100,10 @@ pub fn run_program<D: Yard, L: Line, O: Sink>(
     requires ready { D.tells ≡ true → Every (Now D.moment D.images disk) (IsReady (D.content disk)) }
     requires calm { (L.state line.old).calm ≡ 0 }
     requires open { (L.state line.old).closed ≡ false }
-    ensures call { IsProgramCall D.tells D.content D.fault_count D.moment D.images (texts words.now) random now (L.state line.old) disk (O.state out.old) result.0.exit (L.state line.new) result.1 (O.state out.new) }
+    ensures call { IsProgramCall D.files D.tells D.content D.fault_count D.moment D.images (texts words.now) random now (L.state line.old) disk (O.state out.old) result.0.exit (L.state line.new) result.1 (O.state out.new) }
     ensures told { EndsByStatus result.0 }
 {
-    let (status, disk) = run_line(alloc, words, disk, line, now, random, out);
+    let (status, disk) = run_words(alloc, words, disk, line, now, random, out);
     (end_of(&status), disk)
 }
 

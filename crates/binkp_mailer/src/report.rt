@@ -1,23 +1,22 @@
 //! What is printed of a session and of a call.
-ghost use Rattle.std.specs.Prelude.{◌≡◌, ◌++◌, IfOk, IsOk, OnOk, option_map};
+ghost use Rattle.std.specs.Prelude.{◌≡◌, ◌++◌, IfOk, OnOk, option_map};
 ghost use Rattle.std.specs.Fmt.{decimal};
 ghost use Rattle.ftn_addr.specs.Address.{address};
 ghost use Rattle.session_core.specs.Ends.{end_text};
 ghost use Rattle.session_run.specs.Reports.{report_text};
-ghost use Rattle.binkp_mailer.specs.Reports.{Prints, Puts_lines, end_word, had_of, lines_told, peer_word, session_line, told_of};
-ghost use Rattle.binkp_mailer.specs.Statuses.{Status as AnyStatus, status_line, status_text};
+ghost use Rattle.binkp_mailer.specs.Reports.{Prints, end_word, had_of, lines_told, peer_word, session_line, told_of};
+ghost use Rattle.command_base.specs.Statuses.{status_text};
 
-use crate::settings::SettingsFault;
-use crate::status::{Status, push_status, status_of, status_unopened, status_unset};
 use binkp_link::Sink;
+use command_base::{
+    SettingsFault, Status, print_lines, status_of, status_unindexed, status_unopened, status_unset,
+};
 use ftn_addr::{Addr, Bytes, NoMemory, write_addr};
 use node_store::StoreOpenFault;
+use nodelist_files::IndexFileFault;
 use session_core::End;
 use session_run::Report;
 use std::alloc::Global;
-
-/// The line of NoMemory, which takes none.
-const NO_MEMORY_LINE: &[u8] = b"status 17 NoMemory\n";
 
 /// The name of an end.
 fn end_word(end: &End) -> &'static [u8]
@@ -80,8 +79,10 @@ pub enum Outcome {
     Usage,
     /// There was no memory before a session began.
     NoMemory,
-    /// The settings have no host for the node that is called.
+    /// Neither the settings nor the index have a host for the node that is called.
     NotFound,
+    /// The index wasn't read, and that is the disk's count of faults.
+    Unindexed(IndexFileFault, u64),
     /// The settings weren't read, and that is the disk's count of faults.
     Unset(SettingsFault, u64),
     /// The store wasn't opened, and that is its disk's count of faults.
@@ -94,13 +95,14 @@ pub enum Outcome {
 
 /// The line of the session, where one was held.
 fn session_lines(alloc: Global, outcome: &Outcome) -> Result<Bytes, NoMemory>
-    ensures { IfOk result (λ lines. (status : AnyStatus) → lines_told (told_of outcome.now) status ≡ lines.list ++ status_line status) }
+    ensures { IfOk result (λ lines. lines.list ≡ lines_told (told_of outcome.now)) }
 {
     let mut lines = Bytes::new(alloc);
     match outcome {
         Outcome::Usage => {}
         Outcome::NoMemory => {}
         Outcome::NotFound => {}
+        Outcome::Unindexed(_, _) => {}
         Outcome::Unset(_, _) => {}
         Outcome::Unopened(_, _) => {}
         Outcome::Held(report) | Outcome::Ungiven(report, _) => {
@@ -118,33 +120,11 @@ fn had(outcome: Outcome) -> Status
         Outcome::Usage => Status::Usage,
         Outcome::NoMemory => Status::NoMemory,
         Outcome::NotFound => Status::NotFound,
+        Outcome::Unindexed(fault, faults) => status_unindexed(fault, faults),
         Outcome::Unset(fault, faults) => status_unset(fault, faults),
         Outcome::Unopened(fault, faults) => status_unopened(fault, faults),
         Outcome::Held(report) => status_of(report.end),
         Outcome::Ungiven(_, faults) => Status::DiskFault(faults),
-    }
-}
-
-/// These lines, and behind them that of the status.
-fn with_status(
-    alloc: Global,
-    started: Result<Bytes, NoMemory>,
-    status: &Status,
-) -> Result<Bytes, NoMemory>
-    ensures { IfOk result (λ lines. IfOk started (λ before. lines.list ≡ before.list ++ status_line (status_text status.now)) × IsOk started) }
-{
-    let mut lines = started?;
-    push_status(alloc, status, &mut lines)?;
-    Ok(lines)
-}
-
-/// Puts the lines, and answers the status, or OutFault where the put fails.
-fn tell<O: Sink>(status: Status, lines: &[u8], out: &mut O) -> Status
-    ensures { Puts_lines lines.now (status_text status) (status_text result) (O.state out.old) (O.state out.new) }
-{
-    match out.put(lines) {
-        Ok(()) => status,
-        Err(_) => Status::OutFault,
     }
 }
 
@@ -154,11 +134,7 @@ pub fn print<O: Sink>(alloc: Global, outcome: Outcome, out: &mut O) -> Status
     ensures { Prints (told_of outcome) (had_of outcome) (status_text result) (O.state out.old) (O.state out.new) }
 {
     let started = session_lines(alloc, &outcome);
-    let status = had(outcome);
-    match with_status(alloc, started, &status) {
-        Ok(lines) => tell(status, lines.as_slice(), out),
-        Err(NoMemory) => tell(Status::NoMemory, NO_MEMORY_LINE, out),
-    }
+    print_lines(alloc, started, had(outcome), out)
 }
 
 #[cfg(test)]

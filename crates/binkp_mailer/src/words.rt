@@ -1,10 +1,12 @@
-//! The words that the program is given.
+//! The words that ask for a session.
 ghost use Rattle.std.specs.Prelude.{◌≡◌, ℕ, List, IfOk, Err, true, false};
 ghost use Rattle.ftn_addr.specs.Address.{Address, address};
-ghost use Rattle.session_auth.specs.Sides.{Side as AnySide, side_of};
-ghost use Rattle.binkp_mailer.specs.Words.{AreWords, HaveForm, Spells, texts};
+ghost use Rattle.session_auth.specs.Sides.{Calls, Side as AnySide, side_of};
+ghost use Rattle.command_words.specs.Forms.{texts};
+ghost use Rattle.binkp_mailer.specs.Words.{AreWords, HaveForm, Spells};
 ghost use Rattle.binkp_mailer.specs.declared.words.WordsFault.TheVariants.{Usage};
 
+use command_words::{Form, one_form, read_form};
 use ftn_addr::{Addr, AddrFault, Bytes, read_addr};
 use session_core::Side;
 use std::alloc::Global;
@@ -24,10 +26,13 @@ pub fn have_form(words: &[Bytes]) -> bool
     ensures yes { result ≡ true → HaveForm (texts words.now) }
     ensures no { result ≡ false → HaveForm (texts words.now) → ⊥ }
 {
-    match words {
-        [word] => word.as_slice() == b"answer".as_slice(),
-        [word, _text] => word.as_slice() == b"call".as_slice(),
-        _ => false,
+    one_form();
+    match read_form(words) {
+        Some(Form::Answer) => true,
+        Some(Form::Call(_)) => true,
+        Some(Form::Lookup(_)) => false,
+        Some(Form::Compile(_)) => false,
+        None => false,
     }
 }
 
@@ -48,20 +53,29 @@ fn read_called(alloc: Global, text: &[u8], home: &Addr) -> Result<Addr, WordsFau
     }
 }
 
+// The side that calls the node of an address.
+fn read_side(alloc: Global, text: &Bytes, home: &Addr) -> Result<Side, WordsFault>
+    ensures ok { IfOk result (λ side. (peer : Address) × (side_of side ≡ Calls peer) × Spells (address home.now) text.now.list peer) }
+    ensures usage { result ≡ Err Usage → (peer : Address) → Spells (address home.now) text.now.list peer → ⊥ }
+{
+    match read_called(alloc, text.as_slice(), home) {
+        Ok(peer) => Ok(Side::Calls(peer)),
+        Err(fault) => Err(fault),
+    }
+}
+
 /// What the words ask for at a node with that home: `answer` to answer a caller, and `call ADDR` to call the node of that
 /// address, which has the home's domain. What the address leaves out is the home's. No other words are taken.
 pub fn read_words(alloc: Global, words: &[Bytes], home: &Addr) -> Result<Side, WordsFault>
     ensures ok { IfOk result (λ side. AreWords (texts words.now) (address home.now) (side_of side)) }
     ensures usage { result ≡ Err Usage → (side : AnySide) → AreWords (texts words.now) (address home.now) side → ⊥ }
 {
-    if !have_form(words) {
-        return Err(WordsFault::Usage);
-    }
-    let [_word, text] = words else {
-        return Ok(Side::Answers);
-    };
-    match read_called(alloc, text.as_slice(), home) {
-        Ok(peer) => Ok(Side::Calls(peer)),
-        Err(fault) => Err(fault),
+    one_form();
+    match read_form(words) {
+        Some(Form::Answer) => Ok(Side::Answers),
+        Some(Form::Call(text)) => read_side(alloc, text, home),
+        Some(Form::Lookup(_)) => Err(WordsFault::Usage),
+        Some(Form::Compile(_)) => Err(WordsFault::Usage),
+        None => Err(WordsFault::Usage),
     }
 }

@@ -120,7 +120,7 @@ in_folder_above base path rest default None is a = λ file fits same.
     a file fits (append_cancel_left (up_to_slash base) (lower_case rest) (lower_case (name_below (last_part base) default file)) (sym (compared_front base rest) ∙ sym (ap (as_compared base) is) ∙ same ∙ compared_name base default file))
 
 -- a path that is compared like one in the folder above is there
-is_there : (base path rest : List ℕ) → as_compared base path ≡ up_to_slash base ++ rest → path ≡ up_to_slash base ++ drop (length (up_to_slash base)) path
+pub is_there : (base path rest : List ℕ) → as_compared base path ≡ up_to_slash base ++ rest → path ≡ up_to_slash base ++ drop (length (up_to_slash base)) path
 is_there base path rest is =
     let n = length (up_to_slash base) in
     let long : n ≤ length path = omega (arith, ap length is, length-append (take n path) (lower_case (drop n path)), length-take n path, length-lower (drop n path), length-drop n path, length-append (up_to_slash base) rest) in

@@ -24,7 +24,7 @@ pub length-file : (p : ℕ × ℕ) (k : Kind) → length (node_digits p ++ endin
 length-file p k = omega (arith, length-append (node_digits p) (ending k), length-node p, (ending_is k).four)
 
 -- eight digits of a point are those of the net 0 and the node of that number
-eight_is : (n : ℕ) → eight_digits n ≡ node_digits (0, n)
+pub eight_is : (n : ℕ) → eight_digits n ≡ node_digits (0, n)
 eight_is n = ap (λ (l : List ℕ). l ++ four_digits n) (sym zeros)
 
 abbrev pub NodeFile : (ℕ × ℕ) × Kind → Type 0
@@ -67,10 +67,10 @@ point_is name high point k fits is zero some =
 
 -- what a node's and a point's names are
 
-node_name : (node : ℕ × ℕ) (point : ℕ) (end : List ℕ) → point ≡ 0 → name_in_zone node point end ≡ node_digits node ++ end
+pub node_name : (node : ℕ × ℕ) (point : ℕ) (end : List ℕ) → point ≡ 0 → name_in_zone node point end ≡ node_digits node ++ end
 node_name node point end is = ap (λ (n : ℕ). name_in_zone node n end) is
 
-point_name : (node : ℕ × ℕ) (point : ℕ) (end : List ℕ) → 0 < point → name_in_zone node point end ≡ point_folder node ++ 47 ∷ (eight_digits point ++ end)
+pub point_name : (node : ℕ × ℕ) (point : ℕ) (end : List ℕ) → 0 < point → name_in_zone node point end ≡ point_folder node ++ 47 ∷ (eight_digits point ++ end)
 point_name node point end some =
     let e : (point == 0) ≡ false = grind (arith, nat_tests) in
     ap (λ (b : Bool). if b then node_digits node ++ end else point_folder node ++ 47 ∷ (eight_digits point ++ end)) e

@@ -36,8 +36,10 @@ pub(crate) fn number_of(digits: &[u8]) -> Option<u16>
     Some(number)
 }
 
-/// The net and the node that eight digits spell.
-pub(crate) fn node_of(digits: &[u8]) -> Option<(u16, u16)>
+/// The net and the node that eight hexadecimal digits spell, four each, with ASCII case ignored.
+///
+/// None exactly where no net and node of at most 32,767 are spelled so.
+pub fn node_of(digits: &[u8]) -> Option<(u16, u16)>
     ensures { Reads IsNode node_digits digits.now result }
 {
     if digits.len() != 8 {

@@ -35,6 +35,7 @@ mod tests;
 mod zone;
 
 pub use base::{folder_above, last_part};
+pub use digits::node_of;
 pub use kind::{Kind, ending_of};
 pub use laws::{each_name_has_one_address, names_are_read_back};
 pub use naming::{name_of, zone_folder};

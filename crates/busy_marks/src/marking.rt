@@ -1,11 +1,10 @@
 //! Making a mark behind its note.
-ghost use Rattle.std.specs.Prelude.{◌≡◌, IfOk, None, Some};
+ghost use Rattle.std.specs.Prelude.{◌≡◌, ℕ, IfOk, None, Some};
 ghost use Rattle.disk_model.specs.Answers.{MarkingOf};
 ghost use Rattle.disk_model.specs.Causes.{HasCause};
 ghost use Rattle.disk_model.specs.Changes.{AtOnce, Every, Follows, OnOwn, Puts, Stands};
-ghost use Rattle.disk_model.specs.Moments.{Leaves, Now, Steps};
-ghost use Rattle.busy_marks.specs.Ends.{EndsAs};
-ghost use Rattle.busy_marks.specs.Marking.{MarksInPart, MarksSo, NotesAlone};
+ghost use Rattle.disk_model.specs.Moments.{Now, Steps};
+ghost use Rattle.busy_marks.specs.Marking.{MakesMark, NotesAlone};
 
 use disk_model::{Disk, Marking, Name, Yard};
 use ftn_addr::{Bytes, Failed};
@@ -22,11 +21,10 @@ pub fn mark_addr<D: Yard>(
 ) -> Result<Marking, Failed>
     ensures told { IfOk result (λ marking. Every (D.files disk.old) (λ w. MarkingOf marking (w.outside path.now.list))) }
 
-    // At every moment where the mark stands its note stands, whole. Nothing but these two ever changes.
-    ensures stop { Leaves D.moment D.images (MarksInPart own.now path.now.list text.now.list) disk.old disk.new }
-
-    // At Made both stand, and last. At Exists there is no note. What was made, if it failed, a read and a stop agree on.
-    ensures ends { EndsAs D.files D.moment D.images (λ made. IfOk result (λ marking. made ≡ Some marking)) (MarksSo own.now path.now.list text.now.list) disk.old disk.new }
+    // At every moment where the mark stands its note stands, whole, and nothing but these two ever changes. At Made both
+    // stand, and last. At Exists there is no note. A read and a stop agree on the mark's time, and if the call failed on
+    // what was made.
+    ensures marks { (time : ℕ) × MakesMark D.files D.moment D.images result own.now path.now.list text.now.list time disk.old disk.new }
 
     // A file that stands at the path is never touched, whatever the answer.
     ensures exists { Every (D.files disk.old) (λ w. MarkingOf Marking.Exists (w.outside path.now.list) → NotesAlone D.files D.moment D.images own.now disk.old disk.new) }
@@ -47,8 +45,7 @@ fn mark_noted<D: Yard>(
 ) -> Result<Marking, Failed>
     requires noted { Every (Now D.moment D.images disk.old) (λ w. w.own own.now ≡ Some path.now.list) }
     ensures told { IfOk result (λ marking. Every (D.files disk.old) (λ w. MarkingOf marking (w.outside path.now.list))) }
-    ensures stop { Leaves D.moment D.images (MarksInPart own.now path.now.list text.now.list) disk.old disk.new }
-    ensures ends { EndsAs D.files D.moment D.images (λ made. IfOk result (λ marking. made ≡ Some marking)) (MarksSo own.now path.now.list text.now.list) disk.old disk.new }
+    ensures marks { (time : ℕ) × MakesMark D.files D.moment D.images result own.now path.now.list text.now.list time disk.old disk.new }
     ensures exists { Every (D.files disk.old) (λ w. MarkingOf Marking.Exists (w.outside path.now.list) → NotesAlone D.files D.moment D.images own.now disk.old disk.new) }
     ensures cause { HasCause (D.fault_count disk.old) (D.fault_count disk.new) result }
 {

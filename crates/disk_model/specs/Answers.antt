@@ -2,7 +2,7 @@
 use Rattle.std.specs.Prelude.{◌≡◌, ◌≢◌, ℕ, ◌<◌, ◌≤◌, List, [], length, Option, Some, None, Result, Ok, Err, option_map}
 use Rattle.ftn_addr.specs.declared.refusals.Failed.{Failed}
 use Rattle.disk_model.specs.World.{OutFile, World}
-use Rattle.disk_model.specs.Changes.{Same, Stands, IsFree, OnOwn, OnOutside, Puts, PutsPart, Moves, Gives, PutsOut}
+use Rattle.disk_model.specs.Changes.{Same, Stands, IsFree, OnOwn, OnOutside, Puts, PutsPart, Moves, Gives}
 use Rattle.disk_model.specs.Folders.{path_in, IsInUse}
 use Rattle.disk_model.specs.declared.answers.Made.{Made}
 use Rattle.disk_model.specs.declared.answers.Made.TheVariants.{New, Exists}
@@ -85,9 +85,9 @@ abbrev pub MarkingOf : Marking → Option OutFile → Type 0
 MarkingOf MarkMade file = file ≡ None
 MarkingOf MarkExists file = (f : OutFile) × (file ≡ Some f)
 
-abbrev pub Marks : List ℕ → List ℕ → Marking → World → World → Type 0
-Marks path text MarkMade old new = PutsOut path text old new
-Marks path text MarkExists old new = Same old new
+abbrev pub Marks : (path text : List ℕ) → ℕ → Marking → World → World → Type 0
+Marks path text time MarkMade old new = OnOutside (Puts path (Some (record { bytes = text; time = time }))) old new
+Marks path text time MarkExists old new = Same old new
 
 -- unmark: Done where the file holds that text
 abbrev pub UnmarkOf : Hit → List ℕ → Option OutFile → Type 0

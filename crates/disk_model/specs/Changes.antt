@@ -101,7 +101,3 @@ pub record Gives (own folder name path : List ℕ) (time : ℕ) (old new : World
   pub gone : Puts own None old.own new.own
   pub outside : Puts path (Some (record { bytes = bytes; time = time })) old.outside new.outside
   pub gifts : new.gifts ≡ old.gifts ++ record { own = own; folder = folder; name = name; bytes = bytes } ∷ []
-
--- an outside file of some time has these bytes now
-abbrev pub PutsOut : List ℕ → List ℕ → World → World → Type 0
-PutsOut path bytes old new = (time : ℕ) × OnOutside (Puts path (Some (record { bytes = bytes; time = time }))) old new

@@ -65,10 +65,11 @@ pub trait Yard: Disk {
         ensures cause { HasCause (Self.fault_count self.old) (Self.fault_count self.new) result }
         ensures rule { Self.rule (outcome result) self.old self.new };
 
-    /// Makes a new outside file with the text. Where a file stands there nothing changes, whatever it answers.
+    /// Makes a new outside file with the text. A read and a stop agree on its time. Where a file stands there
+    /// nothing changes, whatever it answers.
     fn mark(&mut self, path: &Bytes, text: &Bytes) -> Result<Marking, Failed>
         ensures told { IfOk result (λ marking. Every (Self.files self.old) (λ w. MarkingOf marking (w.outside path.now.list))) }
-        ensures both { Together Self.files Self.moment Self.images result (Marks path.now.list text.now.list) self.old self.new }
+        ensures both { (time : ℕ) × Together Self.files Self.moment Self.images result (Marks path.now.list text.now.list time) self.old self.new }
         ensures exists { Every (Self.files self.old) (λ w. MarkingOf Marking.Exists (w.outside path.now.list) → MakesNothing Self.files Self.moment Self.images self.old self.new) }
         ensures cause { HasCause (Self.fault_count self.old) (Self.fault_count self.new) result }
         ensures rule { Self.rule (outcome result) self.old self.new };

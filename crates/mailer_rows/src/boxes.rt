@@ -5,7 +5,8 @@ ghost use Rattle.disk_model.specs.Moments.{AtRest};
 ghost use Rattle.mem_disk.specs.MemoryDisk.{mem_files, mem_images, mem_moment};
 
 use binkp_link::{MemLine, MemSink, ReadAct};
-use binkp_mailer::{Status, run_line};
+use binkp_mailer::run_line;
+use command_base::Status;
 use disk_model::{Disk, ListFault, Name};
 use ftn_addr::{Bytes, NoMemory};
 use mem_disk::MemDisk;

@@ -6,7 +6,7 @@ use crate::{
     answer, failing_at, files_of, names_in, new_disk, outside_file, own_file, picks_at, reopened,
     stopped,
 };
-use binkp_mailer::Status;
+use command_base::Status;
 use disk_model::Disk;
 use ftn_addr::{Bytes, Failed, NoMemory};
 use mem_disk::MemDisk;

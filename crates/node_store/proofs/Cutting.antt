@@ -16,13 +16,14 @@ use Rattle.ledger_rec.specs.Payloads.{fold_of}
 use Rattle.ledger_rec.proofs.OrderFold.{order_fold}
 use Rattle.node_model.specs.Lists.{Member}
 use Rattle.node_model.proofs.Lists.{Each-member}
+use Rattle.node_store.specs.Clearing.{Restores}
 use Rattle.node_store.specs.Names.{in_name, out_name, take_number}
-use Rattle.node_store.specs.Opening.{Recovers}
 use Rattle.node_store.specs.Tending.{HasSameFront, Mirrors, IsTended, CutsPart}
 use Rattle.node_store.specs.Worlds.{if_take, HasFiles, HasFront, HasLength}
 use Rattle.node_store.proofs.Alike.{in_no_take}
 use Rattle.node_store.proofs.NameLaws.{one_in_name, in_not_out, in_not_ledger}
-use Rattle.node_store.proofs.Recovering.{IsSteady, TakesStay, steady_files, steady_recovers, leaves-refl}
+use Rattle.node_store.proofs.NoteNames.{in_no_note, other_than}
+use Rattle.node_store.proofs.Recovering.{IsSteady, TakesStay, steady_files, steady_restores, leaves-refl}
 use Rattle.node_store.proofs.Removing.{take_is_none, all_free}
 
 -- marks of one number are one mark
@@ -103,8 +104,8 @@ module _ (s : State) (m : PartMark) (there : Member m s.marks) (orderly : IsOrde
         go None is = refl
         go (Some take) is = cut_take n take is
 
-    pub cut_recovers : (payloads : List (List ℕ)) → fold_of payloads ≡ Some s → LedgerIs payloads d → Recovers d c
-    cut_recovers payloads folds ledger = steady_recovers payloads s folds d c (inl ledger) (inl (cut_ledger payloads ledger)) cut_steady cut_takes
+    pub cut_restores : (payloads : List (List ℕ)) → fold_of payloads ≡ Some s → LedgerIs payloads d → Restores d c
+    cut_restores payloads folds ledger = steady_restores payloads s folds d c (inl ledger) (inl (cut_ledger payloads ledger)) cut_steady cut_takes (λ n note. step.own.others n (λ same. other_than n note (in_name m.number) (in_no_note m.number) (sym same)))
 
   -- a cut that was made is one
   made_cut : (d c : World) → CutsPart m d c → Step d c
@@ -188,15 +189,15 @@ module _ {D : Type 0} (files : D → World → Type 0) (moment : D → ℕ) (ima
           same = record { both = λ f c is now. let p = read f is in let q = stop.now c now in cut_mirrors s m there orderly p.0 f q.0 c p.2 (as_named q.0 c q.2) (was.fits p.0 p.1) (was.same.both p.0 q.0 p.1 q.1) };
         }
 
-    pub cutting_stop : Steps moment images (OnOwn (Rewrites name (Cut m.len))) old new → Leaves moment images Recovers old new
+    pub cutting_stop : Steps moment images (OnOwn (Rewrites name (Cut m.len))) old new → Leaves moment images Restores old new
     cutting_stop call =
-        goes_on moment images (OnOwn (Rewrites name (Cut m.len))) Recovers old old new (leaves-refl moment images old) call
-        (λ c now. let p = call.now c now in (p.0, p.1, cut_recovers s m there orderly p.0 c (as_named p.0 c p.2) payloads was.folds (was.ledger p.0 p.1)))
+        goes_on moment images (OnOwn (Rewrites name (Cut m.len))) Restores old old new (leaves-refl moment images old) call
+        (λ c now. let p = call.now c now in (p.0, p.1, cut_restores s m there orderly p.0 c (as_named p.0 c p.2) payloads was.folds (was.ledger p.0 p.1)))
 
-    pub cutting_read : Follows (OnOwn (Rewrites name (Cut m.len))) (files old) (files new) → Follows Recovers (files old) (files new)
+    pub cutting_read : Follows (OnOwn (Rewrites name (Cut m.len))) (files old) (files new) → Follows Restores (files old) (files new)
     cutting_read read f is =
         let p = read f is in
-        (p.0, p.1, cut_recovers s m there orderly p.0 f (as_named p.0 f p.2) payloads was.folds (was.ledger p.0 (as_read old p.0 p.1)))
+        (p.0, p.1, cut_restores s m there orderly p.0 f (as_named p.0 f p.2) payloads was.folds (was.ledger p.0 (as_read old p.0 p.1)))
 
 -- All parts, one after another.
 

@@ -6,10 +6,11 @@ use Rattle.disk_model.specs.Moments.{Now, Leaves}
 use Rattle.ledger_rec.specs.Fold.{State, nothing_folded}
 use Rattle.ledger_rec.specs.Payloads.{fold_of}
 use Rattle.node_model.proofs.Lists.{some_inj}
+use Rattle.node_store.specs.Clearing.{Restores}
 use Rattle.node_store.specs.Books.{Books}
 use Rattle.node_store.specs.Finding.{IsFound}
 use Rattle.node_store.specs.Keeping.{AreReceipts, IsUntouched, Finds, given_in}
-use Rattle.node_store.specs.Opening.{IsNewBooks, IsRefused, Recovers}
+use Rattle.node_store.specs.Opening.{IsNewBooks, IsRefused}
 use Rattle.node_store.specs.Standing.{StandSo}
 use Rattle.node_store.specs.Strays.{HasNoStray}
 use Rattle.node_store.specs.Takes.{Takes}
@@ -18,7 +19,7 @@ use Rattle.node_store.specs.Worlds.{IsBadFile, Of_entry, Of_mark, Of_receipt, Le
 use Rattle.node_store.specs.declared.opening.fault.StoreOpenFault.{StoreOpenFault}
 use Rattle.node_store.specs.declared.opening.fault.StoreOpenFault.TheVariants.{Disk, LedgerBad, FileBad, NoMemory}
 use Rattle.node_store.proofs.Opened.{found_opens, given_recovered}
-use Rattle.node_store.proofs.Recovering.{leaves-then, leaves-same, recovers-refl}
+use Rattle.node_store.proofs.Recovering.{leaves-then, leaves-same, restores-refl}
 use Rattle.node_store.proofs.Rest.{reads-then}
 
 -- an empty fold has no bad file
@@ -55,17 +56,17 @@ module _ {D : Type 0} (files : D → World → Type 0) (moment : D → ℕ) (ima
   look_refused (FileBad name) (inr h) = inr (inr (λ t. bad_refused t name (h (content next) (told t next))))
   look_refused NoMemory (inr h) = absurd h
 
-  pub look_stop : (tells ≡ true → Leaves moment images Recovers old mid) → tells ≡ true → Leaves moment images Recovers old next
+  pub look_stop : (tells ≡ true → Leaves moment images Restores old mid) → tells ≡ true → Leaves moment images Restores old next
   look_stop first t = leaves-then moment images old mid next (first t) (leaves-same moment images mid next u.stop)
 
-  pub look_read : Follows Recovers (files old) (files mid) → Follows Recovers (files old) (files next)
-  look_read first = reads-then (files old) (files mid) (files next) first (λ w is. (w, u.read w is, recovers-refl w))
+  pub look_read : Follows Restores (files old) (files mid) → Follows Restores (files old) (files next)
+  look_read first = reads-then (files old) (files mid) (files next) first (λ w is. (w, u.read w is, restores-refl w))
 
-  module _ (new : D) (stop : Leaves moment images Recovers next new) (read : Follows Recovers (files next) (files new)) where
-    pub tidy_stop : (tells ≡ true → Leaves moment images Recovers old mid) → tells ≡ true → Leaves moment images Recovers old new
+  module _ (new : D) (stop : Leaves moment images Restores next new) (read : Follows Restores (files next) (files new)) where
+    pub tidy_stop : (tells ≡ true → Leaves moment images Restores old mid) → tells ≡ true → Leaves moment images Restores old new
     tidy_stop first t = leaves-then moment images old next new (look_stop first t) stop
 
-    pub tidy_read : Follows Recovers (files old) (files mid) → Follows Recovers (files old) (files new)
+    pub tidy_read : Follows Restores (files old) (files mid) → Follows Restores (files old) (files new)
     tidy_read first = reads-then (files old) (files next) (files new) (look_read first) read
 
     pub is_found : (given : List ℕ) (takes : Takes) → AreReceipts given b.folding.state.inbox → Every (files next) (λ f. given ≡ given_in f b.folding.state.inbox) → IsTended files moment images b.payloads b.folding.state next → IsTended files moment images b.payloads b.folding.state new
@@ -76,7 +77,7 @@ module _ {D : Type 0} (files : D → World → Type 0) (moment : D → ℕ) (ima
       receipts = receipts;
       are_given = λ e now.
           let p = read e now in
-          given_is p.0 p.1 ∙ sym (given_recovered b.payloads b.folding.state is.folds p.0 e (inl (was.ledger p.0 (as_read next p.0 p.1))) (was.fits p.0 p.1) (inl (tended.ledger e (as_read new e now))) p.2);
+          given_is p.0 p.1 ∙ sym (given_recovered b.payloads b.folding.state is.folds p.0 e (inl (was.ledger p.0 (as_read next p.0 p.1))) (was.fits p.0 p.1) (inl (tended.ledger e (as_read new e now))) p.2.recovers);
       opened = λ t. found_opens b.payloads b.folding.state is.folds (content old) (content next) (ledger t) (still_same t) (was.fits (content next) (told t next));
       strays = none;
       parts = cut;

@@ -13,15 +13,17 @@ use Rattle.ledger_rec.specs.Fold.{State, nothing_folded}
 use Rattle.ledger_rec.specs.Items.{Receipt}
 use Rattle.ledger_rec.specs.Payloads.{fold_of}
 use Rattle.node_model.proofs.Lists.{some_inj}
+use Rattle.node_store.specs.Clearing.{Restores}
 use Rattle.node_store.specs.Keeping.{Beside}
 use Rattle.node_store.specs.Names.{in_name, take_number}
-use Rattle.node_store.specs.Opening.{IsReady, IsRefused, Misfolds, Recovers, fault_of}
+use Rattle.node_store.specs.Opening.{IsReady, IsRefused, Misfolds, fault_of}
 use Rattle.node_store.specs.Tending.{IsNear}
 use Rattle.node_store.specs.Worlds.{if_take, LedgerOf}
 use Rattle.node_store.specs.declared.opening.fault.StoreOpenFault.{StoreOpenFault}
 use Rattle.node_store.specs.declared.opening.fault.StoreOpenFault.TheVariants.{Disk, LedgerBad, FileBad, NoMemory}
 use Rattle.node_store.proofs.Alike.{ledger_no_take}
-use Rattle.node_store.proofs.Recovering.{TakesStay, steady_recovers, leaves-same, recovers-refl}
+use Rattle.node_store.proofs.NoteNames.{ledger_no_note, new_no_note, other_than}
+use Rattle.node_store.proofs.Recovering.{TakesStay, steady_restores, leaves-same, restores-refl}
 use Rattle.node_store.proofs.Removing.{new_no_take, take_is_none}
 
 -- the ledger stands or not
@@ -52,8 +54,9 @@ module _ (d c : World) (makes : Makes d c) where
       go (inl same) (inr none) = inr (same ∙ none.0, refl)
       go (inr l) was = inl l
 
-  pub makes_recovers : LedgerOf [] d → Recovers d c
-  makes_recovers was = steady_recovers [] nothing_folded refl d c was (ledger_made was) (record { live = tt; received = tt; marked = tt; outside = makes.outside; gifts = makes.gifts }) takes_made
+  pub makes_restores : LedgerOf [] d → Restores d c
+  makes_restores was = steady_restores [] nothing_folded refl d c was (ledger_made was) (record { live = tt; received = tt; marked = tt; outside = makes.outside; gifts = makes.gifts }) takes_made
+      (λ n note. makes.others n (λ same. other_than n note ledger_name ledger_no_note (sym same)) (λ same. other_than n note new_name new_no_note (sym same)))
 
 -- why a ledger that stands isn't opened
 refused_of : (fault : OpenFault) (w : World) → Refuses fault w → IsRefused (fault_of fault) w
@@ -76,18 +79,18 @@ module _ {D : Type 0} (files : D → World → Type 0) (moment : D → ℕ) (ima
     (reads : (d : D) (w : World) → files d w → (tells ≡ true) × (w ≡ content d)) (told : tells ≡ true → (d : D) → files d (content d)) (old new : D)
     (ready : tells ≡ true → Every (Now moment images old) (IsReady (content old))) (stop : Leaves moment images Makes old new) (read : Follows Makes (files old) (files new))
     (stands : (w : World) → files old w → Stands ledger_name 0 w → Leaves moment images Same old new × Every (files new) (files old)) where
-  pub open_stop : tells ≡ true → Leaves moment images Recovers old new
+  pub open_stop : tells ≡ true → Leaves moment images Restores old new
   open_stop t = elim (stood_or_not (content old)) [
     | inl stood ↦ leaves-same moment images old new (stands (content old) (told t old) stood).0
-    | inr none ↦ weakened moment images Makes Recovers old new (λ d c now makes. makes_recovers d c makes ((ready t d now).fresh none)) stop
+    | inr none ↦ weakened moment images Makes Restores old new (λ d c now makes. makes_restores d c makes ((ready t d now).fresh none)) stop
   ]
 
-  pub open_read : Follows Recovers (files old) (files new)
+  pub open_read : Follows Restores (files old) (files new)
   open_read f is =
       let p = read f is in
       elim (stood_or_not p.0) [
-        | inl stood ↦ (f, (stands p.0 p.1 stood).1 f is, recovers-refl f)
-        | inr none ↦ (p.0, p.1, makes_recovers p.0 f p.2 (inr (none, refl)))
+        | inl stood ↦ (f, (stands p.0 p.1 stood).1 f is, restores-refl f)
+        | inr none ↦ (p.0, p.1, makes_restores p.0 f p.2 (inr (none, refl)))
       ]
 
   -- what is read now was read before, where the ledger stood

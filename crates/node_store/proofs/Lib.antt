@@ -13,7 +13,6 @@ mod Looked
 mod OpenSound
 mod Opened
 mod Passed
-pub mod OpenedNodes
 mod Recovering
 mod Removing
 mod Requests
@@ -24,14 +23,17 @@ mod Straying
 mod Tended
 mod Unrefused
 mod Untouched
-pub mod ActOn
 pub mod ActCall
+pub mod ActOn
 pub mod ActSource
 pub mod ActingNext
 pub mod Alike
 pub mod AppendCall
 pub mod AppendTold
 pub mod Appended
+pub mod AroundCall
+pub mod ClearedNotes
+pub mod ClearedStore
 pub mod AskCall
 pub mod BatchFollows
 pub mod BegunParts
@@ -66,6 +68,7 @@ pub mod Marked
 pub mod Marks
 pub mod Mirrors
 pub mod NameLaws
+pub mod NoteNames
 pub mod NumberNames
 pub mod Numbered
 pub mod Offering
@@ -73,7 +76,10 @@ pub mod OneEntry
 pub mod OneRecord
 pub mod OpenCall
 pub mod OpenTold
+pub mod OpenedNodes
 pub mod Openings
+pub mod OutboundCalls
+pub mod OutboundSteps
 pub mod PartOpened
 pub mod PartRecord
 pub mod Places

@@ -46,7 +46,7 @@ out_not_new n is = let e : 111 ≡ 108 = ap (λ (l : List ℕ). get_or l 0 0) is
 
 -- takes
 
-hex_place : (a : Address) → HasPlace a → list_all is_hex (place_digits a) ≡ true
+pub hex_place : (a : Address) → HasPlace a → list_all is_hex (place_digits a) ≡ true
 unfolding place_digits four_digits
 hex_place a h =
     all-append is_hex (four_digits a.zone ++ four_digits a.net ++ four_digits a.node) (four_digits a.point)

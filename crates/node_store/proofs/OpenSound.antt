@@ -9,6 +9,7 @@ use Rattle.ledger_rec.proofs.OrderFold.{order_fold}
 use Rattle.node_model.specs.Durable.{Durable}
 use Rattle.node_model.specs.StoreStates.{shelf_of}
 use Rattle.node_store.specs.Books.{Books, IsBooks}
+use Rattle.node_store.specs.Clearing.{HasNoNote}
 use Rattle.node_store.specs.Finding.{IsFound, IsOpened}
 use Rattle.node_store.specs.Keeping.{AreReceipts, given_in}
 use Rattle.node_store.specs.Opening.{IsNewBooks, IsTidied, Recovers, greatest, opened_memory}
@@ -70,8 +71,8 @@ module _ {D : Type 0} (files : D → World → Type 0) (moment : D → ℕ) (ima
 -- what the disk read before opened to what is told now
 pub opened_told : {D : Type 0} (files : D → World → Type 0) (moment : D → ℕ) (images : D → ℕ → World → Type 0) (tells : Bool) (content : D → World) (as_read : (d : D) (w : World) → files d w → Now moment images d w)
     (reads : (d : D) (w : World) → files d w → (tells ≡ true) × (w ≡ content d)) (told : tells ≡ true → (d : D) → files d (content d)) (old new : D) (b : Books) (given : List ℕ) (takes : Takes)
-    → IsFound files moment images tells content b given takes old new → Follows Recovers (files old) (files new) → tells ≡ true → IsOpened (content old) (content new) (opened_memory b given)
-opened_told files moment images tells content as_read reads told old new b given takes found read t =
+    → IsFound files moment images tells content b given takes old new → Every (files new) HasNoNote → Follows Recovers (files old) (files new) → tells ≡ true → IsOpened (content old) (content new) (opened_memory b given)
+opened_told files moment images tells content as_read reads told old new b given takes found notes read t =
     let s = b.folding.state in
     let p = read (content new) (told t new) in
     let back : Recovers (content old) (content new) = subst (λ (w : World). Recovers w (content new)) (reads old p.0 p.1).1 p.2 in
@@ -85,6 +86,7 @@ opened_told files moment images tells content as_read reads told old new b given
       tidied = subst (IsTidied (shelf_in (content old) s)) (is.1 ∙ opened_shelf (content new) b given is.0 (found.are_given (content new) (told t new))) after.2;
       strays = found.strays (content new) (told t new);
       parts = found.parts (content new) (told t new);
+      notes = notes (content new) (told t new);
     }
 
 -- of a disk that tells, its content

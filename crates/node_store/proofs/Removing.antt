@@ -11,14 +11,15 @@ use Rattle.ledger_rec.specs.Fold.{State, is_among}
 use Rattle.ledger_rec.specs.Items.{Entry, Receipt, PartMark}
 use Rattle.ledger_rec.specs.Payloads.{fold_of}
 use Rattle.node_model.proofs.Lists.{none_some, some_inj, off}
-use Rattle.node_store.specs.Names.{in_name, out_name, take_number}
-use Rattle.node_store.specs.Opening.{Recovers}
+use Rattle.node_store.specs.Clearing.{Restores}
+use Rattle.node_store.specs.Names.{in_name, is_note, out_name, take_number}
 use Rattle.node_store.specs.Strays.{IsStray, nodelist_new}
 use Rattle.node_store.specs.Tending.{HasSameFront, Mirrors}
 use Rattle.node_store.specs.Worlds.{if_take}
 use Rattle.node_store.proofs.Alike.{IsNoTake, ledger_no_take, in_no_take, out_no_take, all_by}
 use Rattle.node_store.proofs.NameLaws.{one_in_name, one_out_name, in_not_out, in_not_ledger, out_not_ledger, in_not_new, out_not_new}
-use Rattle.node_store.proofs.Recovering.{IsSteady, TakesStay, steady_recovers}
+use Rattle.node_store.proofs.NoteNames.{in_no_note, new_no_note, nodelist_no_note, note_no_take, other_than, out_no_note}
+use Rattle.node_store.proofs.Recovering.{IsSteady, TakesStay, steady_restores}
 
 -- two names are one or not
 pub same_or_not : (a b : List ℕ) → (a ≡ b) ⊎ (a ≢ b)
@@ -97,6 +98,14 @@ module _ (s : State) (name : List ℕ) where
   not_ledger (inr (inr (inl part))) same = in_not_ledger part.number (sym (same ∙ part.named))
   not_ledger (inr (inr (inr taken))) same = take_is_none name ledger_name taken.take taken.named ledger_no_take same
 
+  -- a stray is no note
+  not_note : IsStray s name → (n : List ℕ) → is_note n ≡ true → n ≢ name
+  not_note (inl (inl work)) n note same = other_than n note new_name new_no_note (sym (same ∙ work))
+  not_note (inl (inr work)) n note same = other_than n note nodelist_new nodelist_no_note (sym (same ∙ work))
+  not_note (inr (inl out)) n note same = other_than n note (out_name out.number) (out_no_note out.number) (sym (same ∙ out.named))
+  not_note (inr (inr (inl part))) n note same = other_than n note (in_name part.number) (in_no_note part.number) (sym (same ∙ part.named))
+  not_note (inr (inr (inr taken))) n note same = none_some (sym (note_no_take n note) ∙ ap take_number same ∙ taken.named)
+
   -- a stray that is a take's is recorded
   stray_take : IsStray s name → (take : ℕ) → take_number name ≡ Some take → is_among take s.takes ≡ true
   stray_take (inl (inl work)) take is = none_some (sym new_no_take ∙ sym (ap take_number work) ∙ is)
@@ -127,8 +136,8 @@ module _ (s : State) (name : List ℕ) where
         go (Some take) is (inl same) = inr (take, refl, stray_take stray take (ap take_number (sym same) ∙ is), ap c.own same ∙ step.own.here)
         go (Some take) is (inr other) = inl (step.own.others n other)
 
-    pub removed_recovers : (payloads : List (List ℕ)) → fold_of payloads ≡ Some s → LedgerIs payloads d → Recovers d c
-    removed_recovers payloads folds ledger = steady_recovers payloads s folds d c (inl ledger) (inl (removed_ledger payloads ledger)) removed_steady removed_takes
+    pub removed_restores : (payloads : List (List ℕ)) → fold_of payloads ≡ Some s → LedgerIs payloads d → Restores d c
+    removed_restores payloads folds ledger = steady_restores payloads s folds d c (inl ledger) (inl (removed_ledger payloads ledger)) removed_steady removed_takes (λ n note. step.own.others n (not_note stray n note))
 
   -- what is read and what a stop leaves go on being the same
   module _ (stray : IsStray s name) (f f' c c' : World) (read : OnOwn (Puts name None) f f') (left : OnOwn (Puts name None) c c') where

@@ -8,19 +8,19 @@ use Rattle.ledger_rec.specs.Fold.{State}
 use Rattle.ledger_rec.specs.Items.{PartMark}
 use Rattle.node_model.specs.Lists.{Each, Member}
 use Rattle.node_model.proofs.Lists.{none_some}
+use Rattle.node_store.specs.Clearing.{Restores}
 use Rattle.node_store.specs.Names.{in_name}
-use Rattle.node_store.specs.Opening.{Recovers}
 use Rattle.node_store.specs.Strays.{IsStray, HasNoStray}
 use Rattle.node_store.specs.Tending.{HasRest, Tidies, HasCutParts}
 use Rattle.node_store.specs.Worlds.{HasLength}
 use Rattle.node_store.proofs.Removing.{not_marked}
-use Rattle.node_store.proofs.Recovering.{recovers-then}
+use Rattle.node_store.proofs.Recovering.{restores-then}
 
-pub reads-then : (a b c : World → Type 0) → Follows Recovers a b → Follows Recovers b c → Follows Recovers a c
+pub reads-then : (a b c : World → Type 0) → Follows Restores a b → Follows Restores b c → Follows Restores a c
 reads-then a b c first second w is =
     let q = second w is in
     let p = first q.0 q.1 in
-    (p.0, p.1, recovers-then p.0 q.0 w p.2 q.2)
+    (p.0, p.1, restores-then p.0 q.0 w p.2 q.2)
 
 module _ (s : State) (name : List ℕ) (d c : World) where
   still_stand : (rest : List (List ℕ)) → Each (λ (other : List ℕ). other ≢ name) rest → ((n : List ℕ) → n ≢ name → c.own n ≡ d.own n) → Each (λ (n : List ℕ). Stands n 0 d) rest → Each (λ (n : List ℕ). Stands n 0 c) rest

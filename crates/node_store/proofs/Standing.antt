@@ -13,6 +13,7 @@ use Rattle.ledger_file.specs.Ledger.{LedgerIs}
 use Rattle.node_model.specs.Lists.{Member}
 use Rattle.node_model.specs.StoreStates.{Shelf}
 use Rattle.node_model.proofs.Lists.{off, some_inj}
+use Rattle.node_store.specs.Clearing.{Restores}
 use Rattle.node_store.specs.Names.{AreDistinct, take_number}
 use Rattle.node_store.specs.Opening.{IsTidied, Recovers}
 use Rattle.node_store.specs.Standing.{StandSo, behind, found_as, found_takes, found_under}
@@ -26,7 +27,7 @@ use Rattle.node_store.proofs.Greatest.{numbers_below}
 use Rattle.node_store.proofs.Listed.{all_last}
 use Rattle.node_store.proofs.ListedItems.{contained, containing, distinct}
 use Rattle.node_store.proofs.Passed.{distinct_passed, member_passed, passed_member}
-use Rattle.node_store.proofs.Recovering.{leaves-same, leaves-then, opened_is, opens_so, recovers-refl}
+use Rattle.node_store.proofs.Recovering.{leaves-same, leaves-then, opened_is, opens_so, restores-refl}
 use Rattle.node_store.proofs.Rest.{reads-then}
 use Rattle.node_store.proofs.Untouched.{beside-later, untouched-now, untouched-then}
 
@@ -168,11 +169,11 @@ listed_stands w names i name lt is lists = let h = lists.only name (i, lt, sym i
 module _ {D : Type 0} (files : D → World → Type 0) (moment : D → ℕ) (images : D → ℕ → World → Type 0) (tells : Bool) (content : D → World) (as_read : (d : D) (w : World) → files d w → Now moment images d w)
     (payloads : List (List ℕ)) (s : State) (names : List (List ℕ)) (mid new : D) (was : IsTended files moment images payloads s mid) (tended : IsTended files moment images payloads s new) where
   -- the disk of which these names were listed, once strays were removed
-  pub takes_stand : (t : Takes) → t ≡ found_takes s.takes names → ((w : World) → files mid w → ListsFiles w.own names) → Follows Recovers (files mid) (files new) → Every (files new) (HasNoStray s) → StandSo (files new) s t
+  pub takes_stand : (t : Takes) → t ≡ found_takes s.takes names → ((w : World) → files mid w → ListsFiles w.own names) → Follows Restores (files mid) (files new) → Every (files new) (HasNoStray s) → StandSo (files new) s t
   takes_stand t is lists read none =
       stand_so payloads s was.folds names (files new) t is (λ c now. let p = read c now in distinct names (lists p.0 p.1).ascend) (λ c now.
       let p = read c now in
-      standing_now payloads s was.folds names p.0 c (lists p.0 p.1) (was.ledger p.0 (as_read mid p.0 p.1)) (tended.ledger c (as_read new c now)) (was.fits p.0 p.1) p.2 (none c now))
+      standing_now payloads s was.folds names p.0 c (lists p.0 p.1) (was.ledger p.0 (as_read mid p.0 p.1)) (tended.ledger c (as_read new c now)) (was.fits p.0 p.1) p.2.recovers (none c now))
 
 -- an untouched disk is as it was looked through
 pub untouched_tended : {D : Type 0} (files : D → World → Type 0) (moment : D → ℕ) (images : D → ℕ → World → Type 0) (payloads : List (List ℕ)) (s : State) (old new : D) → IsUntouched files moment images old new → IsTended files moment images payloads s old
@@ -186,8 +187,8 @@ untouched_tended files moment images payloads s old new u was = record {
 
 -- parts were cut, names listed and takes kept, and strays removed
 module _ {D : Type 0} (files : D → World → Type 0) (moment : D → ℕ) (images : D → ℕ → World → Type 0) (old cut listed kept new : D) (u : IsUntouched files moment images cut listed) (v : IsUntouched files moment images listed kept) where
-  pub tidied_stop : Leaves moment images Recovers old cut → Leaves moment images Recovers kept new → Leaves moment images Recovers old new
+  pub tidied_stop : Leaves moment images Restores old cut → Leaves moment images Restores kept new → Leaves moment images Restores old new
   tidied_stop first last = leaves-then moment images old cut new first (leaves-then moment images cut kept new (leaves-same moment images cut kept (untouched-then files moment images cut listed kept u v).stop) last)
 
-  pub tidied_reads : Follows Recovers (files old) (files cut) → Follows Recovers (files kept) (files new) → Follows Recovers (files old) (files new)
-  tidied_reads first last = reads-then (files old) (files cut) (files new) first (reads-then (files cut) (files kept) (files new) (λ w read. (w, u.read w (v.read w read), recovers-refl w)) last)
+  pub tidied_reads : Follows Restores (files old) (files cut) → Follows Restores (files kept) (files new) → Follows Restores (files old) (files new)
+  tidied_reads first last = reads-then (files old) (files cut) (files new) first (reads-then (files cut) (files kept) (files new) (λ w read. (w, u.read w (v.read w read), restores-refl w)) last)

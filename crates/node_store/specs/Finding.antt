@@ -3,6 +3,7 @@ use Rattle.std.specs.Prelude.{◌≡◌, ℕ, Bool, true, List, Result, Ok, Err}
 use Rattle.disk_model.specs.Changes.{Every}
 use Rattle.disk_model.specs.World.{World}
 use Rattle.node_store.specs.Books.{Books}
+use Rattle.node_store.specs.Clearing.{HasNoNote}
 use Rattle.node_store.specs.Keeping.{AreReceipts, given_in}
 use Rattle.node_model.specs.StoreStates.{Shelf, shelf_of}
 use Rattle.node_store.specs.Opening.{IsNewBooks, IsTidied, opened_memory}
@@ -25,14 +26,15 @@ pub record IsFound {D : Type 0} (files : D → World → Type 0) (moment : D →
   pub parts : Every (files new) (HasCutParts b.folding.state)
   pub standing : StandSo (files new) b.folding.state takes
 
--- The store that was opened: what the disk read before opened to what it tells now, but for recorded takes; no stray is left,
--- and each part has the length of its mark.
+-- The store that was opened: what the disk read before opened to what it tells now, but for recorded takes and marks; no stray
+-- is left and no note of a mark, and each part has the length of its mark.
 pub record IsOpened (before now : World) (m : Memory) : Type 0 where
   pub shelf : Shelf
   pub opens : OpensAs before shelf
   pub tidied : IsTidied shelf (shelf_of (stored_in now m))
   pub strays : HasNoStray m.books.folding.state now
   pub parts : HasCutParts m.books.folding.state now
+  pub notes : HasNoNote now
 
 -- the disk that is left, in a store or beside a fault
 abbrev pub disk_left : {D R F : Type 0} → Result (Holding D × R) (D × F) → D

@@ -2,6 +2,7 @@ pub mod Acting
 pub mod Asking
 pub mod Beginnings
 pub mod Books
+pub mod Clearing
 pub mod Contents
 pub mod Copying
 pub mod Finding
@@ -14,6 +15,7 @@ pub mod Names
 pub mod Numbers
 pub mod Offers
 pub mod Opening
+pub mod OutboundMarks
 pub mod Outlines
 pub mod Planned
 pub mod Recording

@@ -99,7 +99,7 @@ pub record HasPlace (a : Address) : Type 0 where
 unfoldable pub take_name : ℕ → Address → TakeKind → List ℕ
 take_name take a kind = codes "t" ++ eight_digits take ++ codes "-" ++ place_digits a ++ take_ending kind
 
--- a mark that may stand in the outbound: `m`, of whom, and its ending
+-- the note of a mark that may stand in the outbound: `m`, of whom, and its ending
 unfoldable pub mark_name : Address → MarkKind → List ℕ
 mark_name a kind = codes "m" ++ place_digits a ++ mark_ending kind
 
@@ -118,6 +118,15 @@ is_take_form name =
 -- the number of the take whose name this is, if it is a take's
 unfoldable pub take_number : List ℕ → Option ℕ
 take_number name = if is_take_form name then hex_value (take 8 (drop 1 name)) else None
+
+-- the endings of marks
+abbrev pub is_mark_ending : List ℕ → Bool
+is_mark_ending ending = is_one ending (codes ".bsy") || is_one ending (codes ".csy")
+
+-- whether it is the name of a mark's note: `m`, sixteen digits, and the ending of a mark
+unfoldable pub is_note : List ℕ → Bool
+is_note name =
+    length name == 21 && (is_one (take 1 name) (codes "m") && (list_all is_hex (take 16 (drop 1 name)) && is_mark_ending (take 4 (drop 17 name))))
 
 -- The number that a name has, if it is the name of any number of four bytes.
 abbrev pub NumberOf : (ℕ → List ℕ) → Option ℕ → List ℕ → Type 0

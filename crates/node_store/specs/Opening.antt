@@ -78,15 +78,15 @@ IsRefused NoMemory w = ⊥
 
 -- What is left.
 
--- the file of a recorded take may be gone; all else that outlives a stop is the same
+-- the file of a recorded take may be gone, and outside files, which are marks; all else that outlives a stop is the same
 pub record IsTidied (old new : Shelf) : Type 0 where
   pub state : new.state ≡ old.state
   pub recorded : new.recorded ≡ old.recorded
-  pub outside : new.outside ≡ old.outside
+  pub outside : (path : List ℕ) → (new.outside path ≡ old.outside path) ⊎ (new.outside path ≡ None)
   pub gifts : new.gifts ≡ old.gifts
   pub takes : (name : List ℕ) → (new.takes name ≡ old.takes name) ⊎ ((take : ℕ) × (take_number name ≡ Some take) × (is_among take old.recorded ≡ true) × (new.takes name ≡ None))
 
--- where the old world opens, the new one does, and finds the same but for recorded takes
+-- where the old world opens, the new one does, and finds the same but for recorded takes and marks
 abbrev pub Recovers : World → World → Type 0
 Recovers d c = (shelf : Shelf) → OpensAs d shelf → (after : Shelf) × OpensAs c after × IsTidied shelf after
 

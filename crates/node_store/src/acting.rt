@@ -47,7 +47,8 @@ impl<D: Yard> NodeStore<D> {
     /// done.
     pub fn act_next(&mut self, dest: &Addr) -> Result<Option<u32>, StoreFault>
         requires { self.old.memory.broken ≡ None }
-        ensures { StoreKept (stand_of D.tells D.content D.fault_count D.moment D.images self.old) (Act_next (address dest.now)) (act_answer result) (stand_of D.tells D.content D.fault_count D.moment D.images self.new) }
+        ensures kept { StoreKept (stand_of D.tells D.content D.fault_count D.moment D.images self.old) (Act_next (address dest.now)) (act_answer result) (stand_of D.tells D.content D.fault_count D.moment D.images self.new) }
+        ensures takes { self.new.takes ≡ self.old.takes }
     {
         let Some(number) = self.books.folded().next_acting(dest) else {
             return Ok(None);

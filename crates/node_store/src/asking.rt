@@ -37,6 +37,7 @@ impl<D: Yard> NodeStore<D> {
         requires { self.old.memory.broken ≡ None }
         ensures told { IfOk result (λ stat. IfTold (stand_of D.tells D.content D.fault_count D.moment D.images self.old).state.content (λ s. stat ≡ option_map stat_of (s.outside path.now.list))) }
         ensures asks { Asks false result (stand_of D.tells D.content D.fault_count D.moment D.images self.old) (stand_of D.tells D.content D.fault_count D.moment D.images self.new) }
+        ensures takes { self.new.takes ≡ self.old.takes }
     {
         match self.disk.look(path) {
             Ok(stat) => Ok(stat),
@@ -53,6 +54,7 @@ impl<D: Yard> NodeStore<D> {
         requires { self.old.memory.broken ≡ None }
         ensures told { IfOk result (λ names. Every (D.files self.old.disk) (λ w. ListsFolder folder.now.list w.outside (map (λ name. name.list) names.items))) }
         ensures asks { Asks true result (stand_of D.tells D.content D.fault_count D.moment D.images self.old) (stand_of D.tells D.content D.fault_count D.moment D.images self.new) }
+        ensures takes { self.new.takes ≡ self.old.takes }
     {
         match self.disk.names(folder) {
             Ok(names) => Ok(names),
@@ -73,6 +75,7 @@ impl<D: Yard> NodeStore<D> {
         ensures length { IfOk result (λ count. IfTold (stand_of D.tells D.content D.fault_count D.moment D.images self.old).state.content (λ s. count ≡ min (length out.old) (length (bytes_of (s.takes own.now)) - at))) }
         ensures told { IfOk result (λ count. IfTold (stand_of D.tells D.content D.fault_count D.moment D.images self.old).state.content (λ s. take count out.new ≡ take (length out.old) (drop at (bytes_of (s.takes own.now))))) }
         ensures asks { Asks false result (stand_of D.tells D.content D.fault_count D.moment D.images self.old) (stand_of D.tells D.content D.fault_count D.moment D.images self.new) }
+        ensures takes { self.new.takes ≡ self.old.takes }
     {
         match read_own(&mut self.disk, own, at, out) {
             Ok(count) => Ok(count),

@@ -16,11 +16,12 @@
 //! Its calls stand in `beginning`, `marking`, `committing` and `refusing` (a part is opened, marked, becomes a receipt or is
 //! refused), `staging` and `queueing` (files are staged, and then queued), `queued` (queued files), `acting` (their sources are
 //! acted on), `reading` and `giving` (received files are given), where `round` says which comes next, and `waiting` how many are
-//! left; `asking` has those that only ask the disk, of outside files and of files that were taken, and `taking` those that move
-//! outside files into the own folder and remove them there, whose list `takes` has. `opening` makes the store of a disk, and `store_calls` makes it a
-//! store. `laws` says what holds of every name, ledger and world.
+//! left; `asking` has those that only ask the disk, of outside files and of files that were taken, `taking` those that move outside
+//! files into the own folder and remove them there, whose list `takes` has, and `outbound_marks` those that make marks in the
+//! outbound and take them away. `opening` makes the store of a disk, and `store_calls` makes it a store. `laws` says what holds of
+//! every name, ledger and world.
 //!
-//! Left out: the marks in the outbound, and that an opening takes those away which a stop of this mailer left.
+//! Left out: the names of outbound files, and what is in those that are taken.
 #![tactic(auto)]
 
 mod acting;
@@ -38,6 +39,7 @@ mod marking;
 mod names;
 mod offers;
 mod opening;
+mod outbound_marks;
 mod part;
 mod planning;
 mod queued;
@@ -63,8 +65,8 @@ pub use laws::{
     what_is_read_is_ready,
 };
 pub use names::{
-    MarkKind, TakeKind, in_file, mark_file, out_file, queued_number, received_number, take_file,
-    take_number,
+    MarkKind, TakeKind, in_file, is_note, mark_file, out_file, queued_number, received_number,
+    take_file, take_number,
 };
 pub use opening::{Recovery, StoreOpenFault};
 pub use store::NodeStore;

@@ -1,7 +1,7 @@
 //! The names of a store's own files.
-ghost use Rattle.std.specs.Prelude.{◌≡◌, ◌≤◌, ◌++◌, length};
+ghost use Rattle.std.specs.Prelude.{◌≡◌, ◌≤◌, ◌++◌, length, true};
 ghost use Rattle.ftn_addr.specs.Address.{address};
-ghost use Rattle.node_store.specs.Names.{HasPlace, NumberOf, eight_digits, in_name, is_one, is_take_ending, is_take_form, mark_ending, mark_name, out_name, place_digits, take_ending, take_name, take_number};
+ghost use Rattle.node_store.specs.Names.{HasPlace, NumberOf, eight_digits, in_name, is_mark_ending, is_note, is_one, is_take_ending, is_take_form, mark_ending, mark_name, out_name, place_digits, take_ending, take_name, take_number};
 
 use crate::digits::{are_digits, eight, four, value};
 use disk_model::Name;
@@ -134,9 +134,10 @@ fn mark_bytes(addr: &Addr, kind: MarkKind) -> [u8; 21]
     ]
 }
 
-/// A mark that may stand in the outbound: `m`, of whom, and its ending.
+/// The note of a mark that may stand in the outbound: `m`, of whom, and its ending.
 pub fn mark_file(addr: &Addr, kind: MarkKind) -> Name
-    ensures { result ≡ mark_name (address addr.now) kind }
+    ensures name { result ≡ mark_name (address addr.now) kind }
+    ensures note { is_note result ≡ true }
 {
     let name = mark_bytes(addr, kind);
     Name::new(&name).unwrap()
@@ -224,4 +225,29 @@ pub fn take_number(name: &Name) -> Option<u32>
         return None;
     }
     value(&bytes[1..9])
+}
+
+// Whether those are the endings of marks.
+fn is_mark_ending(ending: &[u8]) -> bool
+    ensures { result ≡ is_mark_ending ending.now }
+{
+    is_one(ending, b".bsy") || is_one(ending, b".csy")
+}
+
+/// Whether it is the name of a mark's note.
+#[tactic(auto, unfolding(crate::specs::Names::is_note))]
+pub fn is_note(name: &Name) -> bool
+    ensures { result ≡ is_note name.now }
+{
+    let bytes = name.as_slice();
+    if bytes.len() != 21 {
+        return false;
+    }
+    if !is_one(&bytes[..1], b"m") {
+        return false;
+    }
+    if !are_digits(&bytes[1..17]) {
+        return false;
+    }
+    is_mark_ending(&bytes[17..21])
 }

@@ -1,8 +1,11 @@
 //! Opening a store.
 ghost use Rattle.std.specs.Prelude.{◌≡◌, ◌⊎◌, ◌≤◌, true, length, IfErr, IfOk, OnOk};
+ghost use Rattle.busy_marks.specs.Text.{mark_text};
 ghost use Rattle.disk_model.specs.Changes.{Every};
 ghost use Rattle.disk_model.specs.Moments.{Leaves, Now};
+ghost use Rattle.ftn_addr.specs.Address.{address};
 ghost use Rattle.ftn_addr.specs.Counts.{Increased};
+ghost use Rattle.node_store.specs.Clearing.{ClearsMarks};
 ghost use Rattle.node_store.specs.Finding.{IsNewMemory, IsOpened, disk_left};
 ghost use Rattle.node_store.specs.Keeping.{AreReceipts, given_in};
 ghost use Rattle.node_store.specs.Opening.{IsNewBooks, IsReady, IsRecovery, IsRefused, Recovers, counted as count_told, opened_memory};
@@ -10,6 +13,7 @@ ghost use Rattle.node_store.specs.Standing.{StandSo};
 ghost use Rattle.node_store.specs.Tending.{IsTended};
 ghost use Rattle.node_store.specs.declared.opening.fault.StoreOpenFault.TheVariants.{Disk as DiskFailed, NoMemory as OutOfMemory};
 
+mod clearing;
 mod fault;
 mod finding;
 mod folding;
@@ -27,7 +31,7 @@ use crate::opening::finding::{Found, find};
 pub(crate) use crate::opening::numbers::count;
 use crate::opening::numbers::{counted, greatest, greatest_queued, kept, waiting};
 use crate::store::NodeStore;
-use disk_model::Disk;
+use disk_model::{Disk, Yard};
 pub use fault::StoreOpenFault;
 use ftn_addr::{Addr, Bytes, NoMemory};
 use std::alloc::Global;
@@ -44,7 +48,7 @@ pub struct Recovery {
     pub parts: u32,
     /// Outside files that were taken, and wait to be taken in.
     pub takes: u32,
-    /// Own files that belonged to nothing, and were removed.
+    /// Own files that belonged to nothing, and were removed. Notes of marks aren't counted.
     pub removed: u32,
 }
 
@@ -109,13 +113,16 @@ fn recovery_of(found: &Found) -> Recovery
     }
 }
 
-impl<D: Disk> NodeStore<D> {
+impl<D: Yard> NodeStore<D> {
     /// Opens the store of a disk. `home` is the node's own address.
     ///
     /// The ledger is read, or made where none stands, and folded. The own file of each live entry, of each mark, of each receipt
-    /// whose file stands, and of each take that isn't recorded is made durable, so that what is opened outlives a stop whatever was unsynced before. Parts
-    /// are cut to their marks, and own files that belong to nothing are removed: files in the making, queued files of no live
-    /// entry, received files with neither mark nor receipt, and takes that are recorded.
+    /// whose file stands, and of each take that isn't recorded is made durable, so that what is opened outlives a stop whatever
+    /// was unsynced before. Parts are cut to their marks, and own files that belong to nothing are removed: files in the making,
+    /// queued files of no live entry, received files with neither mark nor receipt, and takes that are recorded.
+    ///
+    /// Of each note of a mark, the mark at the path that it holds is removed, where its text is exactly this node's, and then the
+    /// note.
     ///
     /// A fault gives the disk back. What it opens to is as before.
     pub fn open(
@@ -138,6 +145,10 @@ impl<D: Disk> NodeStore<D> {
         // At each moment since the call began a stop leaves what opens as before, and so does the end of the call.
         ensures stop { D.tells ≡ true → Leaves D.moment D.images Recovers disk (disk_left result) }
         ensures read { D.tells ≡ true → Recovers (D.content disk) (D.content (disk_left result)) }
+
+        // Outside nothing changes but that marks of this node go whose paths notes held, and no note goes before its mark.
+        ensures marks_stop { D.tells ≡ true → Leaves D.moment D.images (ClearsMarks (mark_text (address home.now))) disk (disk_left result) }
+        ensures marks_read { D.tells ≡ true → ClearsMarks (mark_text (address home.now)) (D.content disk) (D.content (disk_left result)) }
 
         ensures later { D.fault_count disk ≤ D.fault_count (disk_left result) }
         ensures calm { OnOk result (D.fault_count (disk_left result) ≡ D.fault_count disk) }

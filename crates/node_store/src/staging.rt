@@ -40,7 +40,8 @@ impl<D: Disk> NodeStore<D> {
     pub fn stage_own(&mut self, own: &Name) -> Result<(u32, u64), StoreFault>
         requires whole { self.old.memory.broken ≡ None }
         requires stands { IsStandingTake own.now (stand_of D.tells D.content D.fault_count D.moment D.images self.old).state }
-        ensures { StagesOwn own.now result (stand_of D.tells D.content D.fault_count D.moment D.images self.old) (stand_of D.tells D.content D.fault_count D.moment D.images self.new) }
+        ensures stages { StagesOwn own.now result (stand_of D.tells D.content D.fault_count D.moment D.images self.old) (stand_of D.tells D.content D.fault_count D.moment D.images self.new) }
+        ensures takes { self.new.takes ≡ self.old.takes }
     {
         if self.last_staged == MAX_NUMBER {
             self.fulls = self.fulls.saturating_add(1);
@@ -97,7 +98,8 @@ impl<D: Yard> NodeStore<D> {
     /// At `Absent` and `Over` nothing changes.
     pub fn stage_copy(&mut self, path: &Bytes) -> Result<Staged, StoreFault>
         requires { self.old.memory.broken ≡ None }
-        ensures { StoreKept (stand_of D.tells D.content D.fault_count D.moment D.images self.old) (Stage_copy path.now.list) (copy_answer result) (stand_of D.tells D.content D.fault_count D.moment D.images self.new) }
+        ensures kept { StoreKept (stand_of D.tells D.content D.fault_count D.moment D.images self.old) (Stage_copy path.now.list) (copy_answer result) (stand_of D.tells D.content D.fault_count D.moment D.images self.new) }
+        ensures takes { self.new.takes ≡ self.old.takes }
     {
         if self.last_staged == MAX_NUMBER {
             self.fulls = self.fulls.saturating_add(1);

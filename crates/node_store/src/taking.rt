@@ -40,7 +40,7 @@ impl<D: Yard> NodeStore<D> {
 
 impl<D: Disk> NodeStore<D> {
     /// Draws the number of the next take: one above those that are recorded and those that stand. Until a file was taken under it,
-    /// it is drawn again. [`StoreFault::Full`] comes exactly where the greatest number is used.
+    /// it is drawn again. [`StoreFault::Full`] comes where the greatest number is used, and nowhere else.
     pub fn next_take(&mut self) -> Result<u32, StoreFault>
         requires whole { self.old.memory.broken ≡ None }
         ensures draws { DrawsTake result self.old self.new }

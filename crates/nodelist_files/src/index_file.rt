@@ -39,6 +39,7 @@ pub fn read_index<D: Disk>(alloc: Global, disk: &mut D) -> Result<Option<Index>,
     ensures disk { IsErrOf result IndexFileFault.Disk → Increased (D.fault_count disk.old) (D.fault_count disk.new) }
     ensures faults { D.fault_count disk.old ≤ D.fault_count disk.new }
     ensures calm { OnOk result (D.fault_count disk.new ≡ D.fault_count disk.old) }
+    ensures bad { IsErrOf result IndexFileFault.Bad → D.fault_count disk.new ≡ D.fault_count disk.old }
     ensures stop { Leaves D.moment D.images Same disk.old disk.new }
     ensures read { Every (D.files disk.new) (D.files disk.old) }
 {

@@ -1,5 +1,5 @@
 //! A session over a line, turn by turn.
-ghost use Rattle.std.specs.Prelude.{◌≡◌, ◌+◌, ◌^◌, ◌<◌, ◌≤◌, ◌&&◌, Bool, true, false, None, length, [], IfNone, IfOk, OnErr, Option};
+ghost use Rattle.std.specs.Prelude.{◌≡◌, ◌+◌, ◌^◌, ◌<◌, ◌≤◌, ◌&&◌, Bool, true, false, None, drop, length, [], IfNone, IfOk, OnErr, Option};
 ghost use Rattle.binkp_frame.specs.Views.{frame_texts};
 ghost use Rattle.node_model.specs.Calls.{DeskState};
 ghost use Rattle.binkp_link.specs.Lines.{LineState, LineBytes, MayRead, MayWrite, came, went};
@@ -36,6 +36,18 @@ pub struct Run {
     pub out: Bytes,
     pub taken: u64,
     pub wrote: u64,
+}
+
+/// Removes the first `n` bytes. Where these are all, none is moved.
+fn drop_written(out: &mut Bytes, n: usize)
+    requires { n ≤ length out.old.list }
+    ensures { out.new.list ≡ drop n out.old.list }
+{
+    if n == out.len() {
+        out.clear();
+    } else {
+        out.drop_front(n);
+    }
 }
 
 impl Run {
@@ -147,7 +159,7 @@ impl Run {
             WriteAnswer::Wrote(n) => {
                 let left = self.out.as_slice().len();
                 prove!(n <= left);
-                self.out.drop_front(n);
+                drop_written(&mut self.out, n);
                 self.wrote += n as u64;
                 endless(self.taken, self.wrote, limit)
             }

@@ -2,7 +2,9 @@ pub mod Paths
 pub mod Continued
 pub mod Removed
 pub mod Ends
-pub mod Keeps
+pub mod SeatsKept
+pub mod Views
+pub mod Visits
 pub mod Taken
 pub mod Slots
 pub mod Keepers

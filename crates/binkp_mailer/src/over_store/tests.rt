@@ -6,8 +6,9 @@ ghost use Rattle.mail_conf.specs.Limits.{KeepsLimits};
 ghost use Rattle.node_model.specs.Node.{Settings};
 ghost use Rattle.list_store.specs.ListStates.{stand_of};
 
-use crate::{Status, run_over_store};
+use crate::run_over_store;
 use binkp_link::{MemLine, MemSink, ReadAct};
+use command_base::Status;
 use ftn_addr::{Bytes, NoMemory};
 use list_store::ListStore;
 use mail_conf::{Conf, read_conf, what_is_read_keeps_limits};

@@ -5,9 +5,10 @@ ghost use Rattle.disk_model.specs.Moments.{Leaves, Now};
 ghost use Rattle.ledger_file.specs.Ledger.{LedgerIs};
 ghost use Rattle.ledger_rec.specs.Fold.{State};
 ghost use Rattle.ledger_rec.specs.Payloads.{fold_of};
+ghost use Rattle.node_store.specs.Clearing.{Restores};
 ghost use Rattle.node_store.specs.Books.{Books as Held};
 ghost use Rattle.node_store.specs.Keeping.{Beside, HasReason};
-ghost use Rattle.node_store.specs.Opening.{IsNewBooks, IsReady, IsRefused, Recovers};
+ghost use Rattle.node_store.specs.Opening.{IsNewBooks, IsReady, IsRefused};
 ghost use Rattle.node_store.specs.Tending.{IsNear};
 ghost use Rattle.node_store.specs.Worlds.{LedgerOf};
 ghost use Rattle.node_store.specs.declared.opening.fault.StoreOpenFault.TheVariants.{Disk as DiskFailed, NoMemory as OutOfMemory};
@@ -28,8 +29,8 @@ fn open_ledger<D: Disk>(alloc: Global, disk: &mut D) -> Result<Ledger, StoreOpen
     ensures near { IfOk result (λ ledger. (s : State) → fold_of ledger.payloads ≡ Some s → Beside D.files D.moment D.images (IsNear s) disk.new) }
     ensures same { IfOk result (λ ledger. D.tells ≡ true → (D.content disk.new ≡ D.content disk.old) ⊎ (ledger.payloads ≡ [])) }
     ensures refused { IfErr result (λ fault. (fault ≡ DiskFailed) ⊎ ((fault ≡ OutOfMemory) ⊎ (D.tells ≡ true → IsRefused fault (D.content disk.old)))) }
-    ensures stop { D.tells ≡ true → Leaves D.moment D.images Recovers disk.old disk.new }
-    ensures read { Follows Recovers (D.files disk.old) (D.files disk.new) }
+    ensures stop { D.tells ≡ true → Leaves D.moment D.images Restores disk.old disk.new }
+    ensures read { Follows Restores (D.files disk.old) (D.files disk.new) }
     ensures reason { HasReason (D.fault_count disk.old) (D.fault_count disk.new) result }
 {
     match Ledger::open(alloc, disk) {
@@ -51,8 +52,8 @@ pub(crate) fn open_books<D: Disk>(
     ensures near { IfOk result (λ (b : Held). Beside D.files D.moment D.images (IsNear b.folding.state) disk.new) }
     ensures same { IfOk result (λ (b : Held). D.tells ≡ true → (D.content disk.new ≡ D.content disk.old) ⊎ (b.payloads ≡ [])) }
     ensures refused { IfErr result (λ fault. (fault ≡ DiskFailed) ⊎ ((fault ≡ OutOfMemory) ⊎ (D.tells ≡ true → IsRefused fault (D.content disk.old)))) }
-    ensures stop { D.tells ≡ true → Leaves D.moment D.images Recovers disk.old disk.new }
-    ensures read { Follows Recovers (D.files disk.old) (D.files disk.new) }
+    ensures stop { D.tells ≡ true → Leaves D.moment D.images Restores disk.old disk.new }
+    ensures read { Follows Restores (D.files disk.old) (D.files disk.new) }
     ensures reason { HasReason (D.fault_count disk.old) (D.fault_count disk.new) result }
 {
     let ledger = match open_ledger(alloc, disk) {

@@ -4,8 +4,8 @@ ghost use Rattle.disk_model.specs.Changes.{Every, Follows};
 ghost use Rattle.disk_model.specs.Moments.{Leaves};
 ghost use Rattle.ledger_rec.specs.Items.{part_mark};
 ghost use Rattle.node_model.specs.Lists.{Member};
+ghost use Rattle.node_store.specs.Clearing.{Restores};
 ghost use Rattle.node_store.specs.Keeping.{HasReason};
-ghost use Rattle.node_store.specs.Opening.{Recovers};
 ghost use Rattle.node_store.specs.Tending.{CutsPart, HasCutParts, IsTended};
 ghost use Rattle.node_store.specs.declared.opening.fault.StoreOpenFault.TheVariants.{Disk as DiskFailed};
 
@@ -21,8 +21,8 @@ fn cut_part<D: Disk>(disk: &mut D, mark: &MarkItem, books: &Books) -> Result<(),
     requires there { Member (part_mark mark.now) books.now.folding.state.marks }
     ensures tended { OnOk result (IsTended D.files D.moment D.images books.now.payloads books.now.folding.state disk.new) }
     ensures cut { OnOk result (Follows (CutsPart (part_mark mark.now)) (D.files disk.old) (D.files disk.new)) }
-    ensures stop { Leaves D.moment D.images Recovers disk.old disk.new }
-    ensures read { Follows Recovers (D.files disk.old) (D.files disk.new) }
+    ensures stop { Leaves D.moment D.images Restores disk.old disk.new }
+    ensures read { Follows Restores (D.files disk.old) (D.files disk.new) }
     ensures fault { IfErr result (λ fault. fault ≡ DiskFailed) }
     ensures reason { HasReason (D.fault_count disk.old) (D.fault_count disk.new) result }
 {
@@ -36,8 +36,8 @@ pub(crate) fn cut_parts<D: Disk>(disk: &mut D, books: &Books) -> Result<(), Stor
     requires { IsTended D.files D.moment D.images books.now.payloads books.now.folding.state disk.old }
     ensures tended { OnOk result (IsTended D.files D.moment D.images books.now.payloads books.now.folding.state disk.new) }
     ensures cut { OnOk result (Every (D.files disk.new) (HasCutParts books.now.folding.state)) }
-    ensures stop { Leaves D.moment D.images Recovers disk.old disk.new }
-    ensures read { Follows Recovers (D.files disk.old) (D.files disk.new) }
+    ensures stop { Leaves D.moment D.images Restores disk.old disk.new }
+    ensures read { Follows Restores (D.files disk.old) (D.files disk.new) }
     ensures fault { IfErr result (λ fault. fault ≡ DiskFailed) }
     ensures reason { HasReason (D.fault_count disk.old) (D.fault_count disk.new) result }
 {

@@ -6,8 +6,8 @@ ghost use Rattle.disk_model.specs.Folders.{ListsFiles};
 ghost use Rattle.disk_model.specs.Moments.{Leaves};
 ghost use Rattle.ledger_rec.specs.Fold.{is_among};
 ghost use Rattle.ledger_rec.specs.Items.{entry, part_mark, receipt};
+ghost use Rattle.node_store.specs.Clearing.{Restores};
 ghost use Rattle.node_store.specs.Keeping.{HasReason};
-ghost use Rattle.node_store.specs.Opening.{Recovers};
 ghost use Rattle.node_store.specs.Strays.{HasNoStray, IsStray, IsStrayIn, IsStrayOut, IsTaken, IsWork};
 ghost use Rattle.node_store.specs.Tending.{HasCutParts, HasRest, IsTended, Tidies};
 ghost use Rattle.node_store.specs.declared.opening.fault.StoreOpenFault.TheVariants.{Disk as DiskFailed};
@@ -97,8 +97,8 @@ fn remove_if_stray<D: Disk>(
     requires stands { Every (D.files disk.old) (Stands name.now 0) }
     ensures tended { OnOk result (IsTended D.files D.moment D.images books.now.payloads books.now.folding.state disk.new) }
     ensures tidied { IfOk result (λ removed. Follows (Tidies books.now.folding.state name.now removed) (D.files disk.old) (D.files disk.new)) }
-    ensures stop { Leaves D.moment D.images Recovers disk.old disk.new }
-    ensures read { Follows Recovers (D.files disk.old) (D.files disk.new) }
+    ensures stop { Leaves D.moment D.images Restores disk.old disk.new }
+    ensures read { Follows Restores (D.files disk.old) (D.files disk.new) }
     ensures fault { IfErr result (λ fault. fault ≡ DiskFailed) }
     ensures reason { HasReason (D.fault_count disk.old) (D.fault_count disk.new) result }
 {
@@ -120,8 +120,8 @@ pub(crate) fn remove_strays<D: Disk>(
     ensures tended { OnOk result (IsTended D.files D.moment D.images books.now.payloads books.now.folding.state disk.new) }
     ensures none { OnOk result (Every (D.files disk.new) (HasNoStray books.now.folding.state)) }
     ensures parts { OnOk result (Every (D.files disk.old) (HasCutParts books.now.folding.state) → Every (D.files disk.new) (HasCutParts books.now.folding.state)) }
-    ensures stop { Leaves D.moment D.images Recovers disk.old disk.new }
-    ensures read { Follows Recovers (D.files disk.old) (D.files disk.new) }
+    ensures stop { Leaves D.moment D.images Restores disk.old disk.new }
+    ensures read { Follows Restores (D.files disk.old) (D.files disk.new) }
     ensures fault { IfErr result (λ fault. fault ≡ DiskFailed) }
     ensures reason { HasReason (D.fault_count disk.old) (D.fault_count disk.new) result }
 {

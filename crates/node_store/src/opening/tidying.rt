@@ -3,8 +3,8 @@ ghost use Rattle.std.specs.Prelude.{◌≡◌, ◌⊎◌, IfErr, IfOk, OnOk};
 ghost use Rattle.disk_model.specs.Changes.{Every, Follows};
 ghost use Rattle.disk_model.specs.Folders.{ListsFiles};
 ghost use Rattle.disk_model.specs.Moments.{Leaves};
+ghost use Rattle.node_store.specs.Clearing.{Restores};
 ghost use Rattle.node_store.specs.Keeping.{HasReason, IsUntouched};
-ghost use Rattle.node_store.specs.Opening.{Recovers};
 ghost use Rattle.node_store.specs.Standing.{StandSo};
 ghost use Rattle.node_store.specs.Strays.{HasNoStray};
 ghost use Rattle.node_store.specs.Tending.{HasCutParts, IsTended};
@@ -19,8 +19,8 @@ use crate::takes::StandingTakes;
 use disk_model::{Disk, ListFault, Name};
 use std::alloc::Global;
 
-// The names of all own files.
-fn list_names<D: Disk>(disk: &mut D) -> Result<Vec<Name>, StoreOpenFault>
+/// The names of all own files.
+pub(crate) fn list_names<D: Disk>(disk: &mut D) -> Result<Vec<Name>, StoreOpenFault>
     ensures untouched { IsUntouched D.files D.moment D.images disk.old disk.new }
     ensures listed { IfOk result (λ names. Every (D.files disk.new) (λ f. ListsFiles f.own names.items)) }
     ensures fault { IfErr result (λ fault. (fault ≡ DiskFailed) ⊎ (fault ≡ OutOfMemory)) }
@@ -51,8 +51,8 @@ pub(crate) fn tidy<D: Disk>(
     ensures none { OnOk result (Every (D.files disk.new) (HasNoStray books.now.folding.state)) }
     ensures cut { OnOk result (Every (D.files disk.new) (HasCutParts books.now.folding.state)) }
     ensures takes { IfOk result (λ x. StandSo (D.files disk.new) books.now.folding.state x.takes) }
-    ensures stop { Leaves D.moment D.images Recovers disk.old disk.new }
-    ensures read { Follows Recovers (D.files disk.old) (D.files disk.new) }
+    ensures stop { Leaves D.moment D.images Restores disk.old disk.new }
+    ensures read { Follows Restores (D.files disk.old) (D.files disk.new) }
     ensures fault { IfErr result (λ fault. (fault ≡ DiskFailed) ⊎ (fault ≡ OutOfMemory)) }
     ensures reason { HasReason (D.fault_count disk.old) (D.fault_count disk.new) result }
 {

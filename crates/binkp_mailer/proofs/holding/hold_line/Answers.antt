@@ -4,7 +4,8 @@ use Rattle.mail_conf.specs.ConfView.{conf_text}
 use Rattle.session_auth.specs.Sides.{side_of}
 use Rattle.binkp_mailer.specs.Settings.{hub_settings}
 use Rattle.binkp_mailer.specs.TopCall.{Asks_nothing}
-use Rattle.binkp_mailer.specs.Words.{AreWords, texts}
+use Rattle.command_words.specs.Forms.{texts}
+use Rattle.binkp_mailer.specs.Words.{AreWords}
 use Rattle.binkp_mailer.specs.declared.words.WordsFault.{WordsFault}
 use Rattle.binkp_mailer.proofs.TopCalls.{declined_call, none_once, none_stays}
 use Rattle.binkp_mailer.proofs.WordLists.{no_side}

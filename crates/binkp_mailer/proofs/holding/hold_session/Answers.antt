@@ -11,15 +11,15 @@ use Rattle.binkp_mailer.proofs.holding.hold_session.Goals as goal
 
 -- The node has no host.
 
-pub returns-then-not-has_host-clause-call : goal.returns-then-not-has_host-clause-call
-returns-then-not-has_host-clause-call g c = λ words are.
-    declined_call words _ _ (g.S.Store.stand c.args.store) _ (Has_no_host refl (side_of c.args.side) are (sym c.has_host.ensures ∙ c.if-not-has_host.true))
+pub returns-then-not-is_reached-clause-call : goal.returns-then-not-is_reached-clause-call
+returns-then-not-is_reached-clause-call g c = λ words are.
+    declined_call words _ _ (g.S.Store.stand c.args.store) _ (Has_no_host refl (side_of c.args.side) are (sym c.is_reached.ensures ∙ c.if-not-is_reached.true))
 
-pub returns-then-not-has_host-clause-once : goal.returns-then-not-has_host-clause-once
-returns-then-not-has_host-clause-once g c = none_once (conf_text c.args.conf.now) (g.S.Store.stand c.args.store).state ((c.requires.fits (hub_settings (conf_text c.args.conf.now))).fitted c.requires.whole)
+pub returns-then-not-is_reached-clause-once : goal.returns-then-not-is_reached-clause-once
+returns-then-not-is_reached-clause-once g c = none_once (conf_text c.args.conf.now) (g.S.Store.stand c.args.store).state ((c.requires.fits (hub_settings (conf_text c.args.conf.now))).fitted c.requires.whole)
 
-pub returns-then-not-has_host-clause-stays : goal.returns-then-not-has_host-clause-stays
-returns-then-not-has_host-clause-stays g c = none_stays (g.S.Store.stand c.args.store).state.content
+pub returns-then-not-is_reached-clause-stays : goal.returns-then-not-is_reached-clause-stays
+returns-then-not-is_reached-clause-stays g c = none_stays (g.S.Store.stand c.args.store).state.content
 
 -- There was no memory for the names that are refused, or for a seat.
 
@@ -42,7 +42,7 @@ returns-in-Err-seat-clause-stays g c =
 pub returns-clause-call : goal.returns-clause-call
 returns-clause-call g c = λ words are.
     let seats = c.new-hub.ensures.seats ∙ ap no_seats c.in-Ok.ensures in
-    seated_call words (side_of c.args.side) _ _ _ _ _ _ _ (report_text c.run_session-report.result) (hub_state c.seat.new.self.seats) (hub_state c.run_session-report.new.desk.hub.seats) c.in-Ok-seat.seat c.run_session-report.new.desk.seat are (sym c.has_host.ensures ∙ c.if-not-has_host.false) refl refl
+    seated_call words (side_of c.args.side) _ _ _ _ _ _ _ (report_text c.run_session-report.result) (hub_state c.seat.new.self.seats) (hub_state c.run_session-report.new.desk.hub.seats) c.in-Ok-seat.seat c.run_session-report.new.desk.seat are (sym c.is_reached.ensures ∙ c.if-not-is_reached.false) refl refl
     (c.in-Ok-seat.ensures.ok ∙ ap with_seat seats)
     (c.in-Ok-seat.ensures.number ∙ ap (λ (h : HubState). length h.chairs) seats)
     (rw c.into_store-2.ensures.store (rw (c.seat.ensures.store, c.new-hub.ensures.store) at c.run_session-report.ensures.session))

@@ -1,6 +1,6 @@
 use Rattle.std.proofs.Common.{◌∙◌, refl, sym, ap}
 use Rattle.binkp_mailer.specs.Inbound.{Gives_round}
-use Rattle.binkp_mailer.specs.Statuses.{DiskFault}
+use Rattle.command_base.specs.Statuses.{DiskFault}
 use Rattle.binkp_mailer.proofs.Failing.{failed_so, went_so}
 use Rattle.binkp_mailer.proofs.inbound.give_behind_session.Goals as goal
 

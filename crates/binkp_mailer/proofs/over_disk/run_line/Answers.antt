@@ -2,7 +2,8 @@ use Rattle.binkp_mailer.specs.Reports.{had_of, told_of}
 use Rattle.binkp_mailer.proofs.Completing.{printed_behind}
 use Rattle.binkp_mailer.proofs.DiskCalls.{keeps_receipts}
 use Rattle.binkp_mailer.proofs.DiskCauses.{told_cause}
-use Rattle.binkp_mailer.proofs.TopPrints.{had_not_out, printed_out}
+use Rattle.command_base.proofs.Printed.{printed_out}
+use Rattle.binkp_mailer.proofs.TopPrints.{had_not_out}
 use Rattle.binkp_mailer.proofs.over_disk.run_line.Goals as goal
 
 pub returns-clause-call : goal.returns-clause-call

@@ -1,8 +1,8 @@
 use Rattle.std.proofs.Common.{ℕ, refl, subst, sym}
 use Rattle.mail_conf.specs.ConfView.{conf_text}
 use Rattle.binkp_mailer.specs.DiskCall.{Not_asked, Not_set}
-use Rattle.binkp_mailer.specs.Settings.{NoSettings}
-use Rattle.binkp_mailer.specs.Statuses.{status_unset}
+use Rattle.command_base.specs.Settings.{NoSettings}
+use Rattle.command_base.specs.Statuses.{status_unset}
 use Rattle.binkp_mailer.proofs.ReadOnly.{call_before}
 use Rattle.binkp_mailer.proofs.over_disk.serve_disk.Goals as goal
 

@@ -1,6 +1,7 @@
 use Rattle.binkp_mailer.specs.Reports.{had_of, told_of}
 use Rattle.binkp_mailer.proofs.Completing.{answers_finished, finished_answers, printed_done}
-use Rattle.binkp_mailer.proofs.TopPrints.{had_not_out, printed_cause, printed_out}
+use Rattle.command_base.proofs.Printed.{printed_out}
+use Rattle.binkp_mailer.proofs.TopPrints.{had_not_out, printed_cause}
 use Rattle.binkp_mailer.proofs.over_store.run_over_store.Goals as goal
 
 pub returns-clause-call : goal.returns-clause-call

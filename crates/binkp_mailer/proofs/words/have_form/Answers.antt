@@ -1,16 +1,15 @@
-use Rattle.std.proofs.Common.{sym, ap, ◌∙◌, ℕ, List, [], ◌∷◌}
-use Rattle.binkp_mailer.specs.Words.{form_of_answer, form_of_call, texts}
-use Rattle.binkp_mailer.proofs.WordLists.{one_word, two_words, same_bytes}
+use Rattle.std.proofs.Common.{refl, subst}
+use Rattle.command_words.specs.Forms.{HasForm, command_of, texts}
+use Rattle.command_words.specs.declared.form.Form.{Form}
+use Rattle.binkp_mailer.specs.Words.{form_of_answer, form_of_call}
+use Rattle.binkp_mailer.proofs.WordLists.{no_form}
 use Rattle.binkp_mailer.proofs.words.have_form.Goals as goal
 
-pub returns-in-len1-clause-yes : goal.returns-in-len1-clause-yes
-returns-in-len1-clause-yes c = λ yes.
-    form_of_answer
-    (ap texts (one_word c.args.words.now c.word-item.result c.in-len1.len_at_least c.in-len1.len_below c.word-item.is)
-    ∙ ap (λ (l : List ℕ). l ∷ []) (sym c.as_slice.ensures ∙ same_bytes _ _ (sym c.eq.ensures ∙ yes) ∙ c.as_slice-in-len1.ensures))
+pub returns-in-Some-Answer-clause-yes : goal.returns-in-Some-Answer-clause-yes
+returns-in-Some-Answer-clause-yes c = λ yes. form_of_answer (subst (λ (f : Form). HasForm (texts c.args.words.now) (command_of f)) c.in-Some-Answer.field-0-is c.in-Some-Answer.ensures.some)
 
-pub returns-in-len2-clause-yes : goal.returns-in-len2-clause-yes
-returns-in-len2-clause-yes c = λ yes.
-    form_of_call c._text-item.result.list
-    (ap texts (two_words c.args.words.now c.word-item-then-words-lt3.result c._text-item.result c.in-len2.len_at_least c.in-len2.len_below c.word-item-then-words-lt3.is c._text-item.is)
-    ∙ ap (λ (l : List ℕ). l ∷ c._text-item.result.list ∷ []) (sym c.as_slice-in-len2.ensures ∙ same_bytes _ _ (sym c.eq-in-len2.ensures ∙ yes) ∙ c.as_slice-in-len2-2.ensures))
+pub returns-in-Some-Call-clause-yes : goal.returns-in-Some-Call-clause-yes
+returns-in-Some-Call-clause-yes c = λ yes. form_of_call c.in-Some-Call.field-0-0.now.list (subst (λ (f : Form). HasForm (texts c.args.words.now) (command_of f)) c.in-Some-Call.field-0-is c.in-Some-Call.ensures.some)
+
+pub returns-in-None-clause-no : goal.returns-in-None-clause-no
+returns-in-None-clause-no c = λ no form. no_form (texts c.args.words.now) (c.in-None.ensures.none refl) form

@@ -7,8 +7,8 @@ ghost use Rattle.binkp_link.specs.Scripts.{AllGiveSome, act_of};
 ghost use Rattle.binkp_link.specs.MemLines.{mem_state};
 
 use super::{END, GOT, GREETING, LOGIN, OFFER, WELCOME, answer, fast_line, joined, new_store};
-use crate::Status;
 use binkp_link::{MemLine, ReadAct, WriteAct};
+use command_base::Status;
 use ftn_addr::{Bytes, NoMemory};
 use list_store::ListStore;
 use std::alloc::Global;

@@ -7,7 +7,7 @@ ghost use Rattle.node_model.specs.Node.{Settings};
 use super::{
     END, GREETING, LOGIN, OFFER, WELCOME, answer, answer_by, fast_line, joined, new_store,
 };
-use crate::Status;
+use command_base::Status;
 use ftn_addr::{Bytes, NoMemory};
 use list_store::ListStore;
 use node_model::Store;

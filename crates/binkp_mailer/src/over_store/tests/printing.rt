@@ -3,8 +3,9 @@ ghost use Rattle.std.specs.Prelude.{◌≡◌, false, IfOk};
 ghost use Rattle.binkp_link.specs.MemLines.{mem_state};
 
 use super::{CHALLENGE, END, LOGIN, OFFER, fast_line, joined, new_store, settings};
-use crate::{Status, run_over_store};
+use crate::run_over_store;
 use binkp_link::{MemLine, MemSink};
+use command_base::Status;
 use ftn_addr::{Bytes, NoMemory};
 use std::alloc::Global;
 use std::test::Fail;

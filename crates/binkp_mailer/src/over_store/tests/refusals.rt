@@ -3,8 +3,8 @@ use super::{
     BROKEN_FRAME, END, GOT, GREETING, LOGIN, OFFER, SETTINGS, WELCOME, answer_by, fast_line,
     joined, new_store,
 };
-use crate::Status;
 use binkp_args::ArgFault;
+use command_base::Status;
 use ftn_addr::{Bytes, NoMemory};
 use session_core::Cause;
 use std::alloc::Global;

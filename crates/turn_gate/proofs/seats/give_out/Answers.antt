@@ -1,5 +1,5 @@
 use Rattle.std.proofs.Common.{rules, ap}
-use Rattle.turn_gate.proofs.Keeps.{gives_out}
+use Rattle.turn_gate.proofs.SeatsKept.{gives_out}
 use Rattle.turn_gate.proofs.seats.give_out.Goals as goal
 
 pub split_seat-first-requires : goal.split_seat-first-requires

@@ -1,7 +1,7 @@
 use Rattle.std.proofs.Common.{rules, ap, ◌∙◌, refl}
 use Rattle.turn_gate.specs.Seats.{IsIdleAt}
 use Rattle.turn_gate.specs.Views.{joined_of}
-use Rattle.turn_gate.proofs.Keeps.{takes_in}
+use Rattle.turn_gate.proofs.SeatsKept.{takes_in}
 use Rattle.turn_gate.proofs.Taken.{taken_in, all_rest, first_in, all_taken, starts, zero_empty}
 use Rattle.turn_gate.proofs.seats.take_in.Goals as goal
 

@@ -2,7 +2,7 @@ use Rattle.std.proofs.Common.{◌≡◌, ℕ, List, true, Some, Ok, subst, rules
 use Rattle.std.specs.Prelude.{is_some}
 use Rattle.ftn_addr.specs.declared.refusals.Failed.{Failed}
 use Rattle.disk_model.specs.World.{OutFile}
-use Rattle.disk_model.specs.Changes.{Every, PutsOut}
+use Rattle.disk_model.specs.Changes.{Every, OnOutside, Puts}
 use Rattle.disk_model.specs.Moments.{Together}
 use Rattle.disk_model.specs.Answers.{Marks}
 use Rattle.disk_model.specs.declared.answers.Marking.{Marking}
@@ -23,6 +23,8 @@ returns-in-Ok-pass-clause-told c =
 pub returns-in-Ok-note-clause-both : goal.returns-in-Ok-note-clause-both
 returns-in-Ok-note-clause-both c =
     let old = c.args.self.now in
-    let new = c.note.new.self in
-    subst (λ (p : List ℕ). Together {T = Marking} {E = Failed} mem_files mem_moment mem_images (Ok Made) (Marks p c.args.text.now.list) old new) c.in-Ok.ensures
-    (noted_both (Marks c.in-Ok.path c.args.text.now.list) old new Made (PutOut c.in-Ok.path c.in-Ok-from_bytes.text 0) (λ d e is. subst (λ (b : List ℕ). PutsOut c.in-Ok.path b d e) c.in-Ok-from_bytes.ensures (0, is)) c.in-Ok-note.ensures.read c.in-Ok-note.ensures.stop)
+    let new = c.note.new.self in (
+      0,
+      subst (λ (p : List ℕ). Together {T = Marking} {E = Failed} mem_files mem_moment mem_images (Ok Made) (Marks p c.args.text.now.list 0) old new) c.in-Ok.ensures
+          (noted_both (Marks c.in-Ok.path c.args.text.now.list 0) old new Made (PutOut c.in-Ok.path c.in-Ok-from_bytes.text 0) (λ d e is. subst (λ (b : List ℕ). OnOutside (Puts c.in-Ok.path (Some (record { bytes = b; time = 0 }))) d e) c.in-Ok-from_bytes.ensures is) c.in-Ok-note.ensures.read c.in-Ok-note.ensures.stop),
+    )

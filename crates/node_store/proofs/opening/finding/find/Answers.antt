@@ -1,23 +1,69 @@
-use Rattle.node_store.proofs.Finds.{look_refused, look_stop, tidy_stop, tidy_read, is_found}
+use Rattle.std.proofs.Common.{ℕ, List, subst}
+use Rattle.busy_marks.specs.Text.{mark_text}
+use Rattle.disk_model.specs.Changes.{Follows}
+use Rattle.disk_model.specs.Moments.{Leaves}
+use Rattle.ftn_addr.specs.Address.{address}
+use Rattle.node_store.specs.Clearing.{ClearsMarks, SameOut}
+use Rattle.node_store.specs.Keeping.{Beside}
+use Rattle.node_store.proofs.ClearedStore.{all_read, all_stop, found_then, look_marks, look_marks_read, look_read, look_stop, marks_read, marks_stop, none_marks, none_marks_read, none_read, none_stop}
 use Rattle.node_store.proofs.opening.finding.find.Goals as goal
 
-pub returns-in-Ok-tidy-clause-found : goal.returns-in-Ok-tidy-clause-found
-returns-in-Ok-tidy-clause-found g c = is_found g.D.Disk.files g.D.Disk.moment g.D.Disk.images g.D.Disk.tells g.D.Disk.content g.met.D.Disk.as_read g.met.D.Disk.reads g.met.D.Disk.told c.args.disk.now c.open_books.new.disk c.in-Ok.books c.in-Ok.ensures.books c.in-Ok.ensures.found c.in-Ok.ensures.same c.look_through.new.disk c.look_through.ensures.untouched c.tidy.new.disk c.tidy.ensures.stop c.tidy.ensures.read c.in-Ok-look_through.given.items c.in-Ok-tidy.field-0.takes c.in-Ok-look_through.ensures.receipts c.in-Ok-look_through.ensures.given c.in-Ok-look_through.ensures.tended c.in-Ok-tidy.ensures.tended c.in-Ok-tidy.ensures.none c.in-Ok-tidy.ensures.cut c.in-Ok-tidy.ensures.takes
+pub returns-in-Err-clause-stop : goal.returns-in-Err-clause-stop
+returns-in-Err-clause-stop g c = λ t. none_stop g.D.Disk.moment g.D.Disk.images c.args.disk.now
 
-pub returns-in-Err-look_through-clause-refused : goal.returns-in-Err-look_through-clause-refused
-returns-in-Err-look_through-clause-refused g c = look_refused g.D.Disk.files g.D.Disk.moment g.D.Disk.images g.D.Disk.tells g.D.Disk.content g.met.D.Disk.as_read g.met.D.Disk.reads g.met.D.Disk.told c.args.disk.now c.open_books.new.disk c.in-Ok.books c.in-Ok.ensures.books c.in-Ok.ensures.found c.in-Ok.ensures.same c.look_through.new.disk c.look_through.ensures.untouched c.in-Err-look_through.fault c.in-Err-look_through.ensures.bad
+pub returns-in-Err-clause-read : goal.returns-in-Err-clause-read
+returns-in-Err-clause-read g c = none_read (g.D.Disk.files c.args.disk.now)
 
-pub returns-in-Err-look_through-clause-stop : goal.returns-in-Err-look_through-clause-stop
-returns-in-Err-look_through-clause-stop g c = look_stop g.D.Disk.files g.D.Disk.moment g.D.Disk.images g.D.Disk.tells g.D.Disk.content g.met.D.Disk.as_read g.met.D.Disk.reads g.met.D.Disk.told c.args.disk.now c.open_books.new.disk c.in-Ok.books c.in-Ok.ensures.books c.in-Ok.ensures.found c.in-Ok.ensures.same c.look_through.new.disk c.look_through.ensures.untouched c.open_books.ensures.stop
+pub returns-in-Err-clause-marks_stop : goal.returns-in-Err-clause-marks_stop
+returns-in-Err-clause-marks_stop g c = λ t. none_marks g.D.Disk.moment g.D.Disk.images (mark_text (address c.args.home.now)) c.args.disk.now
 
-pub returns-in-Ok-tidy-clause-stop : goal.returns-in-Ok-tidy-clause-stop
-returns-in-Ok-tidy-clause-stop g c = tidy_stop g.D.Disk.files g.D.Disk.moment g.D.Disk.images g.D.Disk.tells g.D.Disk.content g.met.D.Disk.as_read g.met.D.Disk.reads g.met.D.Disk.told c.args.disk.now c.open_books.new.disk c.in-Ok.books c.in-Ok.ensures.books c.in-Ok.ensures.found c.in-Ok.ensures.same c.look_through.new.disk c.look_through.ensures.untouched c.tidy.new.disk c.tidy.ensures.stop c.tidy.ensures.read c.open_books.ensures.stop
+pub returns-in-Err-clause-marks_read : goal.returns-in-Err-clause-marks_read
+returns-in-Err-clause-marks_read g c = none_marks_read (mark_text (address c.args.home.now)) (g.D.Disk.files c.args.disk.now)
 
-pub returns-in-Ok-tidy-clause-read : goal.returns-in-Ok-tidy-clause-read
-returns-in-Ok-tidy-clause-read g c = tidy_read g.D.Disk.files g.D.Disk.moment g.D.Disk.images g.D.Disk.tells g.D.Disk.content g.met.D.Disk.as_read g.met.D.Disk.reads g.met.D.Disk.told c.args.disk.now c.open_books.new.disk c.in-Ok.books c.in-Ok.ensures.books c.in-Ok.ensures.found c.in-Ok.ensures.same c.look_through.new.disk c.look_through.ensures.untouched c.tidy.new.disk c.tidy.ensures.stop c.tidy.ensures.read c.open_books.ensures.read
+pub returns-in-Err-look_over-clause-stop : goal.returns-in-Err-look_over-clause-stop
+returns-in-Err-look_over-clause-stop g c = λ t. look_stop g.D.Disk.moment g.D.Disk.images c.args.disk.now c.look_over.new.disk (c.look_over.ensures.stop t)
 
-pub returns-in-Err-tidy-clause-stop : goal.returns-in-Err-tidy-clause-stop
-returns-in-Err-tidy-clause-stop g c = tidy_stop g.D.Disk.files g.D.Disk.moment g.D.Disk.images g.D.Disk.tells g.D.Disk.content g.met.D.Disk.as_read g.met.D.Disk.reads g.met.D.Disk.told c.args.disk.now c.open_books.new.disk c.in-Ok.books c.in-Ok.ensures.books c.in-Ok.ensures.found c.in-Ok.ensures.same c.look_through.new.disk c.look_through.ensures.untouched c.tidy.new.disk c.tidy.ensures.stop c.tidy.ensures.read c.open_books.ensures.stop
+pub returns-in-Err-look_over-clause-read : goal.returns-in-Err-look_over-clause-read
+returns-in-Err-look_over-clause-read g c = look_read (g.D.Disk.files c.args.disk.now) (g.D.Disk.files c.look_over.new.disk) c.look_over.ensures.read
 
-pub returns-in-Err-tidy-clause-read : goal.returns-in-Err-tidy-clause-read
-returns-in-Err-tidy-clause-read g c = tidy_read g.D.Disk.files g.D.Disk.moment g.D.Disk.images g.D.Disk.tells g.D.Disk.content g.met.D.Disk.as_read g.met.D.Disk.reads g.met.D.Disk.told c.args.disk.now c.open_books.new.disk c.in-Ok.books c.in-Ok.ensures.books c.in-Ok.ensures.found c.in-Ok.ensures.same c.look_through.new.disk c.look_through.ensures.untouched c.tidy.new.disk c.tidy.ensures.stop c.tidy.ensures.read c.open_books.ensures.read
+pub returns-in-Err-look_over-clause-marks_stop : goal.returns-in-Err-look_over-clause-marks_stop
+returns-in-Err-look_over-clause-marks_stop g c = λ t. look_marks g.D.Disk.moment g.D.Disk.images (mark_text (address c.args.home.now)) c.args.disk.now c.look_over.new.disk (c.look_over.ensures.stop t)
+
+pub returns-in-Err-look_over-clause-marks_read : goal.returns-in-Err-look_over-clause-marks_read
+returns-in-Err-look_over-clause-marks_read g c = look_marks_read (mark_text (address c.args.home.now)) (g.D.Disk.files c.args.disk.now) (g.D.Disk.files c.look_over.new.disk) c.look_over.ensures.read
+
+pub clear_notes-requires : goal.clear_notes-requires
+clear_notes-requires g c =
+    record { outside = record { both = λ f w read now. (c.in-Ok-look_over.ensures.found.tended.same.both f w read now).outside } }
+
+pub returns-in-Ok-clear_notes-clause-stop : goal.returns-in-Ok-clear_notes-clause-stop
+returns-in-Ok-clear_notes-clause-stop g c = all_stop g.D.Disk.files g.D.Disk.moment g.D.Disk.images g.D.Disk.tells g.D.Disk.content g.met.D.Disk.as_read g.met.D.Disk.reads c.in-Ok.text.list c.args.disk.now c.look_over.new.disk c.clear_notes.new.disk c.clear_notes.ensures.read c.clear_notes.ensures.stop c.look_over.ensures.stop
+
+pub returns-in-Ok-clear_notes-clause-read : goal.returns-in-Ok-clear_notes-clause-read
+returns-in-Ok-clear_notes-clause-read g c = all_read g.D.Disk.files g.D.Disk.moment g.D.Disk.images g.D.Disk.tells g.D.Disk.content g.met.D.Disk.as_read g.met.D.Disk.reads c.in-Ok.text.list c.args.disk.now c.look_over.new.disk c.clear_notes.new.disk c.clear_notes.ensures.read c.clear_notes.ensures.stop c.look_over.ensures.read
+
+pub returns-in-Ok-clear_notes-clause-marks_stop : goal.returns-in-Ok-clear_notes-clause-marks_stop
+returns-in-Ok-clear_notes-clause-marks_stop g c = λ t.
+    subst (λ (l : List ℕ). Leaves g.D.Disk.moment g.D.Disk.images (ClearsMarks l) c.args.disk.now c.clear_notes.new.disk) c.in-Ok.ensures (marks_stop g.D.Disk.files g.D.Disk.moment g.D.Disk.images g.D.Disk.tells g.D.Disk.content g.met.D.Disk.as_read g.met.D.Disk.reads c.in-Ok.text.list c.args.disk.now c.look_over.new.disk c.clear_notes.new.disk c.clear_notes.ensures.read c.clear_notes.ensures.stop c.look_over.ensures.stop t)
+
+pub returns-in-Ok-clear_notes-clause-marks_read : goal.returns-in-Ok-clear_notes-clause-marks_read
+returns-in-Ok-clear_notes-clause-marks_read g c =
+    subst (λ (l : List ℕ). Follows (ClearsMarks l) (g.D.Disk.files c.args.disk.now) (g.D.Disk.files c.clear_notes.new.disk)) c.in-Ok.ensures (marks_read g.D.Disk.files g.D.Disk.moment g.D.Disk.images g.D.Disk.tells g.D.Disk.content g.met.D.Disk.as_read g.met.D.Disk.reads c.in-Ok.text.list c.args.disk.now c.look_over.new.disk c.clear_notes.new.disk c.clear_notes.ensures.read c.clear_notes.ensures.stop c.look_over.ensures.read)
+
+pub returns-clause-stop : goal.returns-clause-stop
+returns-clause-stop g c = all_stop g.D.Disk.files g.D.Disk.moment g.D.Disk.images g.D.Disk.tells g.D.Disk.content g.met.D.Disk.as_read g.met.D.Disk.reads c.in-Ok.text.list c.args.disk.now c.look_over.new.disk c.clear_notes.new.disk c.clear_notes.ensures.read c.clear_notes.ensures.stop c.look_over.ensures.stop
+
+pub returns-clause-read : goal.returns-clause-read
+returns-clause-read g c = all_read g.D.Disk.files g.D.Disk.moment g.D.Disk.images g.D.Disk.tells g.D.Disk.content g.met.D.Disk.as_read g.met.D.Disk.reads c.in-Ok.text.list c.args.disk.now c.look_over.new.disk c.clear_notes.new.disk c.clear_notes.ensures.read c.clear_notes.ensures.stop c.look_over.ensures.read
+
+pub returns-clause-marks_stop : goal.returns-clause-marks_stop
+returns-clause-marks_stop g c = λ t.
+    subst (λ (l : List ℕ). Leaves g.D.Disk.moment g.D.Disk.images (ClearsMarks l) c.args.disk.now c.clear_notes.new.disk) c.in-Ok.ensures (marks_stop g.D.Disk.files g.D.Disk.moment g.D.Disk.images g.D.Disk.tells g.D.Disk.content g.met.D.Disk.as_read g.met.D.Disk.reads c.in-Ok.text.list c.args.disk.now c.look_over.new.disk c.clear_notes.new.disk c.clear_notes.ensures.read c.clear_notes.ensures.stop c.look_over.ensures.stop t)
+
+pub returns-clause-marks_read : goal.returns-clause-marks_read
+returns-clause-marks_read g c =
+    subst (λ (l : List ℕ). Follows (ClearsMarks l) (g.D.Disk.files c.args.disk.now) (g.D.Disk.files c.clear_notes.new.disk)) c.in-Ok.ensures (marks_read g.D.Disk.files g.D.Disk.moment g.D.Disk.images g.D.Disk.tells g.D.Disk.content g.met.D.Disk.as_read g.met.D.Disk.reads c.in-Ok.text.list c.args.disk.now c.look_over.new.disk c.clear_notes.new.disk c.clear_notes.ensures.read c.clear_notes.ensures.stop c.look_over.ensures.read)
+
+pub returns-in-Ok-clear_notes-clause-found : goal.returns-in-Ok-clear_notes-clause-found
+returns-in-Ok-clear_notes-clause-found g c =
+    found_then g.D.Disk.files g.D.Disk.moment g.D.Disk.images g.D.Disk.tells g.D.Disk.content g.met.D.Disk.as_read g.met.D.Disk.reads c.in-Ok.text.list c.args.disk.now c.look_over.new.disk c.clear_notes.new.disk c.clear_notes.ensures.read c.clear_notes.ensures.stop c.clear_notes.ensures.aside c.in-Ok-clear_notes.ensures.outside c.in-Ok-look_over.found.books c.in-Ok-look_over.found.given.items c.in-Ok-look_over.found.takes c.in-Ok-look_over.ensures.found

@@ -1,7 +1,7 @@
 use Rattle.std.proofs.Common.{subst}
 use Rattle.ledger_rec.specs.Fold.{Folding}
 use Rattle.node_store.specs.Strays.{IsStray}
-use Rattle.node_store.proofs.Recovering.{recovers-refl, leaves-refl}
+use Rattle.node_store.proofs.Recovering.{restores-refl, leaves-refl}
 use Rattle.node_store.proofs.Tended.{tended_removed, removing_stop, removing_read}
 use Rattle.node_store.proofs.opening.strays.remove_if_stray.Goals as goal
 
@@ -9,7 +9,7 @@ pub returns-then-not-is_stray-clause-stop : goal.returns-then-not-is_stray-claus
 returns-then-not-is_stray-clause-stop g c = leaves-refl g.D.Disk.moment g.D.Disk.images c.args.disk.now
 
 pub returns-then-not-is_stray-clause-read : goal.returns-then-not-is_stray-clause-read
-returns-then-not-is_stray-clause-read g c = λ f read. (f, read, recovers-refl f)
+returns-then-not-is_stray-clause-read g c = λ f read. (f, read, restores-refl f)
 
 pub returns-in_err-remove-clause-stop : goal.returns-in_err-remove-clause-stop
 returns-in_err-remove-clause-stop g c =

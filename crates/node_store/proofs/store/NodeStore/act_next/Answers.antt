@@ -28,8 +28,8 @@ use Rattle.node_store.proofs.HeldTakes.{acted_takes, same_takes}
 use Rattle.node_model.proofs.Lists.{none_some}
 use Rattle.node_store.proofs.store.NodeStore.act_next.Goals as goal
 
-pub returns-in_default : goal.returns-in_default
-returns-in_default g c =
+pub returns-in_default-clause-kept : goal.returns-in_default-clause-kept
+returns-in_default-clause-kept g c =
     let s = c.self.inside in
     let m : Memory = record { books = s.books; given = s.given.items; parts = s.parts.items; staged = s.staged.items; drawn = s.drawn; last_staged = s.last_staged; seat = s.seat; last_given = s.last_given; fulls = s.fulls; broken = s.broken } in
     let dest = address c.args.dest.now in
@@ -44,8 +44,8 @@ invariant_of-self g c =
     let m : Memory = record { books = s.books; given = s.given.items; parts = s.parts.items; staged = s.staged.items; drawn = s.drawn; last_staged = s.last_staged; seat = s.seat; last_given = s.last_given; fulls = s.fulls; broken = s.broken } in
     (sound_same g.D.Disk.tells g.D.Disk.content g.D.Disk.moment g.D.Disk.images s.disk m c.reserve.new.self c.reserve.ensures.same c.reserve.ensures.books c.self.invariant.0, c.self.invariant.1, kept_in s.kept s.given.items s.books c.reserve.new.self c.reserve.ensures.same.state c.self.invariant.2, λ still. same_takes s.takes g.D.Disk.tells (g.D.Disk.content s.disk) (g.D.Disk.content s.disk) (g.D.Disk.fault_count s.disk) (g.D.Disk.fault_count s.disk) m _ _ refl refl (ap (λ (x : State). x.takes) c.reserve.ensures.same.state) (λ t. refl) (c.self.invariant.3 still))
 
-pub returns-in-Err-NoMemory : goal.returns-in-Err-NoMemory
-returns-in-Err-NoMemory g c =
+pub returns-in-Err-NoMemory-clause-kept : goal.returns-in-Err-NoMemory-clause-kept
+returns-in-Err-NoMemory-clause-kept g c =
     let s = c.self.inside in
     let m : Memory = record { books = s.books; given = s.given.items; parts = s.parts.items; staged = s.staged.items; drawn = s.drawn; last_staged = s.last_staged; seat = s.seat; last_given = s.last_given; fulls = s.fulls; broken = s.broken } in
     let dest = address c.args.dest.now in
@@ -61,8 +61,8 @@ invariant_of-self-in-Err-Full g c =
     let h = sound_same g.D.Disk.tells g.D.Disk.content g.D.Disk.moment g.D.Disk.images s.disk m c.reserve.new.self c.reserve.ensures.same c.reserve.ensures.books c.self.invariant.0 in
     (record { memory = record { books = h.memory.books; orderly = h.memory.orderly; parts = h.memory.parts; marked = h.memory.marked; received = h.memory.received; numbers = h.memory.numbers; given = h.memory.given; staged = h.memory.staged; queued = h.memory.queued }; kept = λ whole w now. let k = h.kept whole w now in record { ledger = k.ledger; files = k.files; same = k.same }; bodies = λ whole t. let b = h.bodies whole t in record { parts = b.parts; staged = b.staged; given = b.given } }, c.self.invariant.1, kept_in s.kept s.given.items s.books c.reserve.new.self c.reserve.ensures.same.state c.self.invariant.2, λ still. same_takes s.takes g.D.Disk.tells (g.D.Disk.content s.disk) (g.D.Disk.content s.disk) (g.D.Disk.fault_count s.disk) (g.D.Disk.fault_count s.disk) m _ _ refl refl (ap (λ (x : State). x.takes) c.reserve.ensures.same.state) (λ t. refl) (c.self.invariant.3 still))
 
-pub returns-in-Err-Full : goal.returns-in-Err-Full
-returns-in-Err-Full g c =
+pub returns-in-Err-Full-clause-kept : goal.returns-in-Err-Full-clause-kept
+returns-in-Err-Full-clause-kept g c =
     let s = c.self.inside in
     let m : Memory = record { books = s.books; given = s.given.items; parts = s.parts.items; staged = s.staged.items; drawn = s.drawn; last_staged = s.last_staged; seat = s.seat; last_given = s.last_given; fulls = s.fulls; broken = s.broken } in
     let dest = address c.args.dest.now in
@@ -107,8 +107,8 @@ invariant_of-self-in-Err g c =
     let sound = sound_same g.D.Disk.tells g.D.Disk.content g.D.Disk.moment g.D.Disk.images s.disk m c.release.new.self same c.release.ensures.books c.self.invariant.0 in
     (broken_sound g.D.Disk.tells g.D.Disk.content g.D.Disk.moment g.D.Disk.images c.act_on.new.disk (record m { books = c.release.new.self }) c.faults.result sound.memory, c.self.invariant.1, kept_in s.kept s.given.items s.books c.release.new.self same.state c.self.invariant.2, λ still. none_some (sym still))
 
-pub returns-in-Err : goal.returns-in-Err
-returns-in-Err g c =
+pub returns-in-Err-clause-kept : goal.returns-in-Err-clause-kept
+returns-in-Err-clause-kept g c =
     let s = c.self.inside in
     let m : Memory = record { books = s.books; given = s.given.items; parts = s.parts.items; staged = s.staged.items; drawn = s.drawn; last_staged = s.last_staged; seat = s.seat; last_given = s.last_given; fulls = s.fulls; broken = s.broken } in
     let dest = address c.args.dest.now in
@@ -161,8 +161,8 @@ invariant_of-self-in-Ok-append_record g c =
     let recorded = subst (λ (n : ℕ). IsRecorded payload (Acted n) s.seat b c.append_record.new.self) (sym found.1) done.recorded in
     (act_sound g.D.Disk.tells g.D.Disk.content g.D.Disk.files g.D.Disk.fault_count g.D.Disk.moment g.D.Disk.images g.met.D.Disk.reads g.met.D.Disk.told s.disk mid m c.self.invariant.0 whole dest (entry item) found.0 acted.both.0 (Ok tt) acted.both.1 acted.both.1.answered acted.cause.calm b c.reserve.ensures.same c.reserve.ensures.books c.in-Ok.ensures.reserved c.in-Ok.ensures.room new payload spells c.append_record.ensures.stop only c.append_record.new.self c.append_record.ensures.books recorded done.durable done.cause.calm, c.spell.ensures.room, kept_step s.kept s.given.items b.folding.state (Acted c.in-Some.number) c.append_record.new.self.folding.state tt done.recorded.folded (kept_in s.kept s.given.items s.books b c.reserve.ensures.same.state c.self.invariant.2), λ still. let k = (act_kept g.D.Disk.tells g.D.Disk.content g.D.Disk.files g.D.Disk.fault_count g.D.Disk.moment g.D.Disk.images g.met.D.Disk.reads g.met.D.Disk.told s.disk mid m c.self.invariant.0 whole dest (entry item) found.0 acted.both.0 (Ok tt) acted.both.1 acted.both.1.answered acted.cause.calm b c.reserve.ensures.same c.reserve.ensures.books c.in-Ok.ensures.reserved c.in-Ok.ensures.room new payload spells c.append_record.ensures.stop only c.append_record.new.self c.append_record.ensures.books recorded done.durable done.cause.calm) in acted_takes s.takes k.made.next.entry k.made.time (state_of g.D.Disk.tells (g.D.Disk.content s.disk) (g.D.Disk.fault_count s.disk) m) _ k.made.after (c.self.invariant.3 still))
 
-pub returns-in-Ok-append_record : goal.returns-in-Ok-append_record
-returns-in-Ok-append_record g c =
+pub returns-in-Ok-append_record-clause-kept : goal.returns-in-Ok-append_record-clause-kept
+returns-in-Ok-append_record-clause-kept g c =
     let s = c.self.inside in
     let m : Memory = record { books = s.books; given = s.given.items; parts = s.parts.items; staged = s.staged.items; drawn = s.drawn; last_staged = s.last_staged; seat = s.seat; last_given = s.last_given; fulls = s.fulls; broken = s.broken } in
     let dest = address c.args.dest.now in
@@ -196,8 +196,8 @@ invariant_of-self-in-Err-append_record g c =
     let sound = sound_same g.D.Disk.tells g.D.Disk.content g.D.Disk.moment g.D.Disk.images s.disk m last same c.release-in-Err-append_record.ensures.books c.self.invariant.0 in
     (broken_sound g.D.Disk.tells g.D.Disk.content g.D.Disk.moment g.D.Disk.images c.append_record.new.disk (record m { books = last }) c.faults-in-Err-append_record.result sound.memory, c.spell.ensures.room, kept_in s.kept s.given.items s.books last same.state c.self.invariant.2, λ still. none_some (sym still))
 
-pub returns-in-Err-append_record : goal.returns-in-Err-append_record
-returns-in-Err-append_record g c =
+pub returns-in-Err-append_record-clause-kept : goal.returns-in-Err-append_record-clause-kept
+returns-in-Err-append_record-clause-kept g c =
     let s = c.self.inside in
     let m : Memory = record { books = s.books; given = s.given.items; parts = s.parts.items; staged = s.staged.items; drawn = s.drawn; last_staged = s.last_staged; seat = s.seat; last_given = s.last_given; fulls = s.fulls; broken = s.broken } in
     let dest = address c.args.dest.now in

@@ -35,12 +35,12 @@ invariant_of-self g c =
     let new = c.remove.new.self in
     let n = c.requires.recorded.take in
     let named = c.requires.recorded.named in
-    let read = gone_read own n named g.D.Disk.tells g.D.Disk.content g.D.Disk.files g.D.Disk.moment g.D.Disk.images g.met.D.Disk.reads g.met.D.Disk.told s.disk new c.in-Ok.ensures.read c.in-Ok.ensures.stop in
-    let left = gone_left own n named g.D.Disk.tells g.D.Disk.content g.D.Disk.files g.D.Disk.moment g.D.Disk.images g.met.D.Disk.reads g.met.D.Disk.told s.disk new c.in-Ok.ensures.read c.in-Ok.ensures.stop in
+    let read = gone_read g.D.Disk.tells own n named g.D.Disk.content g.D.Disk.files g.D.Disk.moment g.D.Disk.images g.met.D.Disk.reads g.met.D.Disk.told s.disk new c.in-Ok.ensures.read c.in-Ok.ensures.stop in
+    let left = gone_left g.D.Disk.tells own n named g.D.Disk.content g.D.Disk.files g.D.Disk.moment g.D.Disk.images g.met.D.Disk.reads g.met.D.Disk.told s.disk new c.in-Ok.ensures.read c.in-Ok.ensures.stop in
     let does = take_gone own in
     let made : Option (Unit {0}) = Some tt in
     let allowed : (Option (Unit {0}) → Type 0) = λ o. o ≡ Some tt in
-    (takes_sound g.D.Disk.tells g.D.Disk.content g.D.Disk.fault_count g.D.Disk.moment g.D.Disk.images s.disk new m c.self.invariant.0 whole own does made read c.in-Ok.ensures.stop.grew c.in-Ok.ensures.stop.next allowed left (λ o is. is), c.self.invariant.1, c.self.invariant.2, λ still. subst (λ (t : T.Takes). AreTakesOf t (state_of g.D.Disk.tells (g.D.Disk.content new) (g.D.Disk.fault_count new) m)) (sym c.removed.ensures) (takes_removed s.takes (state_of g.D.Disk.tells (g.D.Disk.content s.disk) (g.D.Disk.fault_count s.disk) m) (c.self.invariant.3 still) own (state_of g.D.Disk.tells (g.D.Disk.content new) (g.D.Disk.fault_count new) m) (takes_done g.D.Disk.tells g.D.Disk.content g.D.Disk.fault_count g.D.Disk.moment g.D.Disk.images s.disk new m c.self.invariant.0 whole own does made read tt refl c.in-Ok.ensures.cause.calm)))
+    (takes_sound g.D.Disk.tells g.D.Disk.content g.D.Disk.fault_count g.D.Disk.moment g.D.Disk.images s.disk new m c.self.invariant.0 whole does made read c.in-Ok.ensures.stop.grew allowed left (λ o is. is), c.self.invariant.1, c.self.invariant.2, λ still. subst (λ (t : T.Takes). AreTakesOf t (state_of g.D.Disk.tells (g.D.Disk.content new) (g.D.Disk.fault_count new) m)) (sym c.removed.ensures) (takes_removed s.takes (state_of g.D.Disk.tells (g.D.Disk.content s.disk) (g.D.Disk.fault_count s.disk) m) (c.self.invariant.3 still) own (state_of g.D.Disk.tells (g.D.Disk.content new) (g.D.Disk.fault_count new) m) (takes_done g.D.Disk.tells g.D.Disk.content g.D.Disk.fault_count g.D.Disk.moment g.D.Disk.images s.disk new m c.self.invariant.0 whole does made read tt refl c.in-Ok.ensures.cause.calm)))
 
 pub returns-in-Ok-clause-takes : goal.returns-in-Ok-clause-takes
 returns-in-Ok-clause-takes g c =
@@ -51,13 +51,13 @@ returns-in-Ok-clause-takes g c =
     let new = c.remove.new.self in
     let n = c.requires.recorded.take in
     let named = c.requires.recorded.named in
-    let read = gone_read own n named g.D.Disk.tells g.D.Disk.content g.D.Disk.files g.D.Disk.moment g.D.Disk.images g.met.D.Disk.reads g.met.D.Disk.told s.disk new c.in-Ok.ensures.read c.in-Ok.ensures.stop in
-    let left = gone_left own n named g.D.Disk.tells g.D.Disk.content g.D.Disk.files g.D.Disk.moment g.D.Disk.images g.met.D.Disk.reads g.met.D.Disk.told s.disk new c.in-Ok.ensures.read c.in-Ok.ensures.stop in
+    let read = gone_read g.D.Disk.tells own n named g.D.Disk.content g.D.Disk.files g.D.Disk.moment g.D.Disk.images g.met.D.Disk.reads g.met.D.Disk.told s.disk new c.in-Ok.ensures.read c.in-Ok.ensures.stop in
+    let left = gone_left g.D.Disk.tells own n named g.D.Disk.content g.D.Disk.files g.D.Disk.moment g.D.Disk.images g.met.D.Disk.reads g.met.D.Disk.told s.disk new c.in-Ok.ensures.read c.in-Ok.ensures.stop in
     let does = take_gone own in
     let made : Option (Unit {0}) = Some tt in
     let allowed : (Option (Unit {0}) → Type 0) = λ o. o ≡ Some tt in
     subst (λ (x : Holding g.row.D.Denot). Takes (take_gone c.args.own.now) (Ok tt) (stand_of g.D.Disk.tells g.D.Disk.content g.D.Disk.fault_count g.D.Disk.moment g.D.Disk.images x) (stand_of g.D.Disk.tells g.D.Disk.content g.D.Disk.fault_count g.D.Disk.moment g.D.Disk.images (record { disk = new; takes = s.takes; memory = m }))) c.self.view_is
-    (takes_call g.D.Disk.tells g.D.Disk.content g.D.Disk.fault_count g.D.Disk.moment g.D.Disk.images s.disk new m c.self.invariant.0 whole own does made read c.in-Ok.ensures.stop.grew c.in-Ok.ensures.stop.next allowed left (Ok tt) m (λ o is. subst (MadeOf (Ok tt)) (sym is) refl) (λ still o is. is) (λ t. refl) (takes_done g.D.Disk.tells g.D.Disk.content g.D.Disk.fault_count g.D.Disk.moment g.D.Disk.images s.disk new m c.self.invariant.0 whole own does made read tt refl c.in-Ok.ensures.cause.calm))
+    (takes_call g.D.Disk.tells g.D.Disk.content g.D.Disk.fault_count g.D.Disk.moment g.D.Disk.images s.disk new m c.self.invariant.0 whole does made read c.in-Ok.ensures.stop.grew allowed left c.in-Ok.ensures.stop.next (Ok tt) m (λ o is. subst (MadeOf (Ok tt)) (sym is) refl) (λ still o is. is) (λ t. refl) (takes_done g.D.Disk.tells g.D.Disk.content g.D.Disk.fault_count g.D.Disk.moment g.D.Disk.images s.disk new m c.self.invariant.0 whole does made read tt refl c.in-Ok.ensures.cause.calm))
 
 pub returns-in-Err-clause-takes : goal.returns-in-Err-clause-takes
 returns-in-Err-clause-takes g c =
@@ -68,13 +68,13 @@ returns-in-Err-clause-takes g c =
     let new = c.remove.new.self in
     let n = c.requires.recorded.take in
     let named = c.requires.recorded.named in
-    let found = failed_read own n named g.D.Disk.tells g.D.Disk.content g.D.Disk.files g.D.Disk.moment g.D.Disk.images g.met.D.Disk.reads g.met.D.Disk.told s.disk new c.in-Err.field-0 c.in-Err.ensures.read c.in-Err.ensures.stop in
+    let found = failed_read g.D.Disk.tells own n named g.D.Disk.content g.D.Disk.files g.D.Disk.moment g.D.Disk.images g.met.D.Disk.reads g.met.D.Disk.told s.disk new c.in-Err.field-0 c.in-Err.ensures.read c.in-Err.ensures.stop in
     let made = found.0 in
     let read = found.1 in
-    let left = failed_left own n named g.D.Disk.tells g.D.Disk.content g.D.Disk.files g.D.Disk.moment g.D.Disk.images g.met.D.Disk.reads g.met.D.Disk.told s.disk new c.in-Err.field-0 c.in-Err.ensures.read c.in-Err.ensures.stop in
+    let left = failed_left g.D.Disk.tells own n named g.D.Disk.content g.D.Disk.files g.D.Disk.moment g.D.Disk.images g.met.D.Disk.reads g.met.D.Disk.told s.disk new c.in-Err.field-0 c.in-Err.ensures.read c.in-Err.ensures.stop in
     let does = take_gone own in
     let allowed : (Option (Unit {0}) → Type 0) = λ o. Unit {0} in
-    let failed = takes_call g.D.Disk.tells g.D.Disk.content g.D.Disk.fault_count g.D.Disk.moment g.D.Disk.images s.disk new m c.self.invariant.0 whole own does made read c.in-Err.ensures.stop.grew c.in-Err.ensures.stop.next allowed left (Err Disk) (record m { broken = Some (g.D.Disk.fault_count new) }) (λ o is. any_made Disk o) (λ still. none_some (sym still)) (λ t. refl) (takes_failed g.D.Disk.tells g.D.Disk.content g.D.Disk.fault_count g.D.Disk.moment g.D.Disk.images s.disk new m c.self.invariant.0 whole own does made read c.in-Err.ensures.cause.failed) in
+    let failed = takes_call g.D.Disk.tells g.D.Disk.content g.D.Disk.fault_count g.D.Disk.moment g.D.Disk.images s.disk new m c.self.invariant.0 whole does made read c.in-Err.ensures.stop.grew allowed left c.in-Err.ensures.stop.next (Err Disk) (record m { broken = Some (g.D.Disk.fault_count new) }) (λ o is. any_made Disk o) (λ still. none_some (sym still)) (λ t. refl) (takes_failed g.D.Disk.tells g.D.Disk.content g.D.Disk.fault_count g.D.Disk.moment g.D.Disk.images s.disk new m c.self.invariant.0 whole does made read c.in-Err.ensures.cause.failed) in
     let counted = subst (λ (k : ℕ). Takes (take_gone c.args.own.now) (Err Disk) (stand_of g.D.Disk.tells g.D.Disk.content g.D.Disk.fault_count g.D.Disk.moment g.D.Disk.images (record { disk = s.disk; takes = s.takes; memory = m })) (stand_of g.D.Disk.tells g.D.Disk.content g.D.Disk.fault_count g.D.Disk.moment g.D.Disk.images (record { disk = new; takes = s.takes; memory = record m { broken = Some k } }))) (sym c.faults.ensures) failed in
     subst (λ (x : Holding g.row.D.Denot). Takes (take_gone c.args.own.now) (Err Disk) (stand_of g.D.Disk.tells g.D.Disk.content g.D.Disk.fault_count g.D.Disk.moment g.D.Disk.images x) (stand_of g.D.Disk.tells g.D.Disk.content g.D.Disk.fault_count g.D.Disk.moment g.D.Disk.images (record { disk = new; takes = s.takes; memory = record { books = s.books; given = s.given.items; parts = s.parts.items; staged = s.staged.items; drawn = s.drawn; last_staged = s.last_staged; seat = s.seat; last_given = s.last_given; fulls = s.fulls; broken = Some c.faults.result } }))) c.self.view_is
     (counted)

@@ -20,8 +20,8 @@ use Rattle.node_store.proofs.HeldTakes.{other_takes, same_takes}
 use Rattle.node_store.proofs.Alike.{out_no_take}
 use Rattle.node_store.proofs.store.NodeStore.stage_copy.Goals as goal
 
-pub returns-then-self : goal.returns-then-self
-returns-then-self g c =
+pub returns-then-self-clause-kept : goal.returns-then-self-clause-kept
+returns-then-self-clause-kept g c =
     let s = c.self.inside in
     let m : Memory = record { books = s.books; given = s.given.items; parts = s.parts.items; staged = s.staged.items; drawn = s.drawn; last_staged = s.last_staged; seat = s.seat; last_given = s.last_given; fulls = s.fulls; broken = s.broken } in
     let whole : s.broken ≡ None = ap (λ (x : Holding g.row.D.Denot). x.memory.broken) c.self.view_is ∙ c.requires in
@@ -34,8 +34,8 @@ returns-then-self g c =
       ap (λ (n : ℕ). record (state_of g.D.Disk.tells (g.D.Disk.content s.disk) (g.D.Disk.fault_count s.disk) m) { counts = record { faults = g.D.Disk.fault_count s.disk; fulls = n; broken = s.broken } }) count,
     ))
 
-pub returns-then-is_err : goal.returns-then-is_err
-returns-then-is_err g c =
+pub returns-then-is_err-clause-kept : goal.returns-then-is_err-clause-kept
+returns-then-is_err-clause-kept g c =
     let s = c.self.inside in
     let m : Memory = record { books = s.books; given = s.given.items; parts = s.parts.items; staged = s.staged.items; drawn = s.drawn; last_staged = s.last_staged; seat = s.seat; last_given = s.last_given; fulls = s.fulls; broken = s.broken } in
     let whole : s.broken ≡ None = ap (λ (x : Holding g.row.D.Denot). x.memory.broken) c.self.view_is ∙ c.requires in
@@ -64,8 +64,8 @@ invariant_of-self-then-stat-gt-MAX_SIZE g c =
     } in
     (subst (λ (l : List Put). IsSound g.D.Disk.tells g.D.Disk.content g.D.Disk.moment g.D.Disk.images new (record m { staged = l })) (sym c.make_room.ensures.same) (none_sound g.D.Disk.tells g.D.Disk.content g.D.Disk.fault_count g.D.Disk.moment g.D.Disk.images s.disk new m number p), c.self.invariant.1, c.self.invariant.2, λ still. same_takes s.takes g.D.Disk.tells (g.D.Disk.content s.disk) (g.D.Disk.content new) (g.D.Disk.fault_count s.disk) (g.D.Disk.fault_count new) m _ _ refl refl refl (λ t. other_takes (out_name number) (out_no_take number) (g.D.Disk.content s.disk) (g.D.Disk.content new) (p.only t).others) (c.self.invariant.3 still))
 
-pub returns-then-stat-gt-MAX_SIZE : goal.returns-then-stat-gt-MAX_SIZE
-returns-then-stat-gt-MAX_SIZE g c =
+pub returns-then-stat-gt-MAX_SIZE-clause-kept : goal.returns-then-stat-gt-MAX_SIZE-clause-kept
+returns-then-stat-gt-MAX_SIZE-clause-kept g c =
     let s = c.self.inside in
     let m : Memory = record { books = s.books; given = s.given.items; parts = s.parts.items; staged = s.staged.items; drawn = s.drawn; last_staged = s.last_staged; seat = s.seat; last_given = s.last_given; fulls = s.fulls; broken = s.broken } in
     let whole : s.broken ≡ None = ap (λ (x : Holding g.row.D.Denot). x.memory.broken) c.self.view_is ∙ c.requires in
@@ -122,8 +122,8 @@ invariant_of-self-in-Ok-Copied g c =
       λ still. same_takes s.takes g.D.Disk.tells (g.D.Disk.content s.disk) (g.D.Disk.content new) (g.D.Disk.fault_count s.disk) (g.D.Disk.fault_count new) m _ _ refl refl refl (λ t. other_takes (out_name number) (out_no_take number) (g.D.Disk.content s.disk) (g.D.Disk.content new) (p.only t).others) (c.self.invariant.3 still),
     )
 
-pub returns-else-stat-gt-MAX_SIZE : goal.returns-else-stat-gt-MAX_SIZE
-returns-else-stat-gt-MAX_SIZE g c =
+pub returns-else-stat-gt-MAX_SIZE-clause-kept : goal.returns-else-stat-gt-MAX_SIZE-clause-kept
+returns-else-stat-gt-MAX_SIZE-clause-kept g c =
     let s = c.self.inside in
     let m : Memory = record { books = s.books; given = s.given.items; parts = s.parts.items; staged = s.staged.items; drawn = s.drawn; last_staged = s.last_staged; seat = s.seat; last_given = s.last_given; fulls = s.fulls; broken = s.broken } in
     let whole : s.broken ≡ None = ap (λ (x : Holding g.row.D.Denot). x.memory.broken) c.self.view_is ∙ c.requires in
@@ -174,8 +174,8 @@ invariant_of-self-in-Ok-Over g c =
     } in
     (subst (λ (l : List Put). IsSound g.D.Disk.tells g.D.Disk.content g.D.Disk.moment g.D.Disk.images new (record m { staged = l })) (sym c.make_room.ensures.same) (none_sound g.D.Disk.tells g.D.Disk.content g.D.Disk.fault_count g.D.Disk.moment g.D.Disk.images s.disk new m number p), c.self.invariant.1, c.self.invariant.2, λ still. same_takes s.takes g.D.Disk.tells (g.D.Disk.content s.disk) (g.D.Disk.content new) (g.D.Disk.fault_count s.disk) (g.D.Disk.fault_count new) m _ _ refl refl refl (λ t. other_takes (out_name number) (out_no_take number) (g.D.Disk.content s.disk) (g.D.Disk.content new) (p.only t).others) (c.self.invariant.3 still))
 
-pub returns-in-Ok-Over : goal.returns-in-Ok-Over
-returns-in-Ok-Over g c =
+pub returns-in-Ok-Over-clause-kept : goal.returns-in-Ok-Over-clause-kept
+returns-in-Ok-Over-clause-kept g c =
     let s = c.self.inside in
     let m : Memory = record { books = s.books; given = s.given.items; parts = s.parts.items; staged = s.staged.items; drawn = s.drawn; last_staged = s.last_staged; seat = s.seat; last_given = s.last_given; fulls = s.fulls; broken = s.broken } in
     let whole : s.broken ≡ None = ap (λ (x : Holding g.row.D.Denot). x.memory.broken) c.self.view_is ∙ c.requires in
@@ -199,8 +199,8 @@ returns-in-Ok-Over g c =
     subst (λ (x : Holding g.row.D.Denot). StoreKept (stand_of g.D.Disk.tells g.D.Disk.content g.D.Disk.fault_count g.D.Disk.moment g.D.Disk.images x) (Stage_copy path) (Copied_as N.Over) (stand_of g.D.Disk.tells g.D.Disk.content g.D.Disk.fault_count g.D.Disk.moment g.D.Disk.images (record { disk = new; takes = s.takes; memory = record { books = s.books; given = s.given.items; parts = s.parts.items; staged = c.make_room.new.staged.items; drawn = s.drawn; last_staged = s.last_staged; seat = s.seat; last_given = s.last_given; fulls = s.fulls; broken = s.broken } }))) c.self.view_is
     (subst (λ (l : List Put). StoreKept (stand_of g.D.Disk.tells g.D.Disk.content g.D.Disk.fault_count g.D.Disk.moment g.D.Disk.images (record { disk = s.disk; takes = s.takes; memory = m })) (Stage_copy path) (Copied_as N.Over) (stand_of g.D.Disk.tells g.D.Disk.content g.D.Disk.fault_count g.D.Disk.moment g.D.Disk.images (record { disk = new; takes = s.takes; memory = record m { staged = l } }))) (sym c.make_room.ensures.same) kept)
 
-pub returns-in-Ok-Absent : goal.returns-in-Ok-Absent
-returns-in-Ok-Absent g c =
+pub returns-in-Ok-Absent-clause-kept : goal.returns-in-Ok-Absent-clause-kept
+returns-in-Ok-Absent-clause-kept g c =
     let s = c.self.inside in
     let m : Memory = record { books = s.books; given = s.given.items; parts = s.parts.items; staged = s.staged.items; drawn = s.drawn; last_staged = s.last_staged; seat = s.seat; last_given = s.last_given; fulls = s.fulls; broken = s.broken } in
     let whole : s.broken ≡ None = ap (λ (x : Holding g.row.D.Denot). x.memory.broken) c.self.view_is ∙ c.requires in
@@ -224,8 +224,8 @@ returns-in-Ok-Absent g c =
     subst (λ (x : Holding g.row.D.Denot). StoreKept (stand_of g.D.Disk.tells g.D.Disk.content g.D.Disk.fault_count g.D.Disk.moment g.D.Disk.images x) (Stage_copy path) (Copied_as N.Absent) (stand_of g.D.Disk.tells g.D.Disk.content g.D.Disk.fault_count g.D.Disk.moment g.D.Disk.images (record { disk = new; takes = s.takes; memory = record { books = s.books; given = s.given.items; parts = s.parts.items; staged = c.make_room.new.staged.items; drawn = s.drawn; last_staged = s.last_staged; seat = s.seat; last_given = s.last_given; fulls = s.fulls; broken = s.broken } }))) c.self.view_is
     (subst (λ (l : List Put). StoreKept (stand_of g.D.Disk.tells g.D.Disk.content g.D.Disk.fault_count g.D.Disk.moment g.D.Disk.images (record { disk = s.disk; takes = s.takes; memory = m })) (Stage_copy path) (Copied_as N.Absent) (stand_of g.D.Disk.tells g.D.Disk.content g.D.Disk.fault_count g.D.Disk.moment g.D.Disk.images (record { disk = new; takes = s.takes; memory = record m { staged = l } }))) (sym c.make_room.ensures.same) kept)
 
-pub returns-in-Err : goal.returns-in-Err
-returns-in-Err g c =
+pub returns-in-Err-clause-kept : goal.returns-in-Err-clause-kept
+returns-in-Err-clause-kept g c =
     let s = c.self.inside in
     let m : Memory = record { books = s.books; given = s.given.items; parts = s.parts.items; staged = s.staged.items; drawn = s.drawn; last_staged = s.last_staged; seat = s.seat; last_given = s.last_given; fulls = s.fulls; broken = s.broken } in
     let whole : s.broken ≡ None = ap (λ (x : Holding g.row.D.Denot). x.memory.broken) c.self.view_is ∙ c.requires in

@@ -34,19 +34,19 @@ invariant_of-self g c =
     let n = c.args.self.now.takes.last + 1 in
     let named = c.requires.next.named in
     let both = c.in-Ok-Done.ensures.both in
-    let read = took_read own n named g.D.Disk.tells g.D.Disk.content g.D.Disk.files g.D.Disk.moment g.D.Disk.images g.met.D.Disk.reads g.met.D.Disk.told s.disk new path _ both in
-    let left = took_left own n named g.D.Disk.tells g.D.Disk.content g.D.Disk.files g.D.Disk.moment g.D.Disk.images g.met.D.Disk.reads g.met.D.Disk.told s.disk new path _ both in
+    let read = took_read g.D.Disk.tells own n named g.D.Disk.content g.D.Disk.files g.D.Disk.moment g.D.Disk.images g.met.D.Disk.reads g.met.D.Disk.told s.disk new path _ both in
+    let left = took_left g.D.Disk.tells own n named g.D.Disk.content g.D.Disk.files g.D.Disk.moment g.D.Disk.images g.met.D.Disk.reads g.met.D.Disk.told s.disk new path _ both in
     let does = taken_so path own in
     let made = both.made in
     let allowed : (Option Moved → Type 0) = λ o. o ≡ made in
     let answered : both.made ≡ Some Done = both.answered ∙ ap Some c.in-Ok-Done.field-0-is in
     let next : take_number own ≡ Some (s.takes.last + 1) = named ∙ ap (λ (x : Holding g.row.D.Denot). Some (x.takes.last + 1)) (sym c.self.view_is) in
     let there = has_moved g.D.Disk.tells g.D.Disk.content g.D.Disk.files g.met.D.Disk.told s.disk (g.D.Disk.fault_count s.disk) m path Done (subst (λ (v : Moved). Every (g.D.Disk.files s.disk) (λ w. MovedOf v (w.outside path))) c.in-Ok-Done.field-0-is c.in-Ok-Done.ensures.told) in (
-      takes_sound g.D.Disk.tells g.D.Disk.content g.D.Disk.fault_count g.D.Disk.moment g.D.Disk.images s.disk new m c.self.invariant.0 whole own does made read both.stop.grew both.stop.next allowed left (λ o is. is),
+      takes_sound g.D.Disk.tells g.D.Disk.content g.D.Disk.fault_count g.D.Disk.moment g.D.Disk.images s.disk new m c.self.invariant.0 whole does made read both.stop.grew allowed left (λ o is. is),
       c.self.invariant.1,
       c.self.invariant.2,
       λ still. subst (λ (t : T.Takes). AreTakesOf t (state_of g.D.Disk.tells (g.D.Disk.content new) (g.D.Disk.fault_count new) m)) (sym c.moved.ensures) (takes_moved s.takes (state_of g.D.Disk.tells (g.D.Disk.content s.disk) (g.D.Disk.fault_count s.disk) m) (c.self.invariant.3 still) path own Done (state_of g.D.Disk.tells (g.D.Disk.content new) (g.D.Disk.fault_count new) m) next there
-          (takes_done g.D.Disk.tells g.D.Disk.content g.D.Disk.fault_count g.D.Disk.moment g.D.Disk.images s.disk new m c.self.invariant.0 whole own does made read Done answered c.in-Ok-Done.ensures.cause.calm)),
+          (takes_done g.D.Disk.tells g.D.Disk.content g.D.Disk.fault_count g.D.Disk.moment g.D.Disk.images s.disk new m c.self.invariant.0 whole does made read Done answered c.in-Ok-Done.ensures.cause.calm)),
     )
 
 pub returns-in-Ok-Done-clause-takes : goal.returns-in-Ok-Done-clause-takes
@@ -60,14 +60,14 @@ returns-in-Ok-Done-clause-takes g c =
     let n = c.args.self.now.takes.last + 1 in
     let named = c.requires.next.named in
     let both = c.in-Ok-Done.ensures.both in
-    let read = took_read own n named g.D.Disk.tells g.D.Disk.content g.D.Disk.files g.D.Disk.moment g.D.Disk.images g.met.D.Disk.reads g.met.D.Disk.told s.disk new path _ both in
-    let left = took_left own n named g.D.Disk.tells g.D.Disk.content g.D.Disk.files g.D.Disk.moment g.D.Disk.images g.met.D.Disk.reads g.met.D.Disk.told s.disk new path _ both in
+    let read = took_read g.D.Disk.tells own n named g.D.Disk.content g.D.Disk.files g.D.Disk.moment g.D.Disk.images g.met.D.Disk.reads g.met.D.Disk.told s.disk new path _ both in
+    let left = took_left g.D.Disk.tells own n named g.D.Disk.content g.D.Disk.files g.D.Disk.moment g.D.Disk.images g.met.D.Disk.reads g.met.D.Disk.told s.disk new path _ both in
     let does = taken_so path own in
     let made = both.made in
     let allowed : (Option Moved → Type 0) = λ o. o ≡ made in
     let answered : both.made ≡ Some Done = both.answered ∙ ap Some c.in-Ok-Done.field-0-is in
     subst (λ (x : Holding g.row.D.Denot). Takes (taken_so path own) (Ok Done) (stand_of g.D.Disk.tells g.D.Disk.content g.D.Disk.fault_count g.D.Disk.moment g.D.Disk.images x) (stand_of g.D.Disk.tells g.D.Disk.content g.D.Disk.fault_count g.D.Disk.moment g.D.Disk.images (record { disk = new; takes = s.takes; memory = m }))) c.self.view_is
-    (takes_call g.D.Disk.tells g.D.Disk.content g.D.Disk.fault_count g.D.Disk.moment g.D.Disk.images s.disk new m c.self.invariant.0 whole own does made read both.stop.grew both.stop.next allowed left (Ok Done) m (λ o is. subst (MadeOf (Ok Done)) (sym (is ∙ answered)) refl) (λ still o is. is) (λ t. refl) (takes_done g.D.Disk.tells g.D.Disk.content g.D.Disk.fault_count g.D.Disk.moment g.D.Disk.images s.disk new m c.self.invariant.0 whole own does made read Done answered c.in-Ok-Done.ensures.cause.calm))
+    (takes_call g.D.Disk.tells g.D.Disk.content g.D.Disk.fault_count g.D.Disk.moment g.D.Disk.images s.disk new m c.self.invariant.0 whole does made read both.stop.grew allowed left both.stop.next (Ok Done) m (λ o is. subst (MadeOf (Ok Done)) (sym (is ∙ answered)) refl) (λ still o is. is) (λ t. refl) (takes_done g.D.Disk.tells g.D.Disk.content g.D.Disk.fault_count g.D.Disk.moment g.D.Disk.images s.disk new m c.self.invariant.0 whole does made read Done answered c.in-Ok-Done.ensures.cause.calm))
 
 pub returns-in-Ok-Done-clause-together : goal.returns-in-Ok-Done-clause-together
 returns-in-Ok-Done-clause-together g c =
@@ -80,12 +80,12 @@ returns-in-Ok-Done-clause-together g c =
     let n = c.args.self.now.takes.last + 1 in
     let named = c.requires.next.named in
     let both = c.take.ensures.both in
-    let read = took_read own n named g.D.Disk.tells g.D.Disk.content g.D.Disk.files g.D.Disk.moment g.D.Disk.images g.met.D.Disk.reads g.met.D.Disk.told s.disk new path _ both in
-    let left = took_left own n named g.D.Disk.tells g.D.Disk.content g.D.Disk.files g.D.Disk.moment g.D.Disk.images g.met.D.Disk.reads g.met.D.Disk.told s.disk new path _ both in
+    let read = took_read g.D.Disk.tells own n named g.D.Disk.content g.D.Disk.files g.D.Disk.moment g.D.Disk.images g.met.D.Disk.reads g.met.D.Disk.told s.disk new path _ both in
+    let left = took_left g.D.Disk.tells own n named g.D.Disk.content g.D.Disk.files g.D.Disk.moment g.D.Disk.images g.met.D.Disk.reads g.met.D.Disk.told s.disk new path _ both in
     let does = taken_so path own in
     let made = both.made in
     let allowed : (Option Moved → Type 0) = λ o. o ≡ made in
-    left_now g.D.Disk.tells g.D.Disk.content g.D.Disk.fault_count g.D.Disk.moment g.D.Disk.images s.disk new m c.self.invariant.0 whole own does made read both.stop.grew both.stop.next allowed left m (λ o is. is) (λ t. refl)
+    left_now g.D.Disk.tells g.D.Disk.content g.D.Disk.fault_count g.D.Disk.moment g.D.Disk.images s.disk new m c.self.invariant.0 whole does made read both.stop.grew allowed left m (λ o is. is) (λ t. refl)
 
 pub returns-in-Ok-Absent-clause-takes : goal.returns-in-Ok-Absent-clause-takes
 returns-in-Ok-Absent-clause-takes g c =
@@ -98,14 +98,14 @@ returns-in-Ok-Absent-clause-takes g c =
     let n = c.args.self.now.takes.last + 1 in
     let named = c.requires.next.named in
     let both = c.in-Ok-Absent.ensures.both in
-    let read = took_read own n named g.D.Disk.tells g.D.Disk.content g.D.Disk.files g.D.Disk.moment g.D.Disk.images g.met.D.Disk.reads g.met.D.Disk.told s.disk new path _ both in
-    let left = took_left own n named g.D.Disk.tells g.D.Disk.content g.D.Disk.files g.D.Disk.moment g.D.Disk.images g.met.D.Disk.reads g.met.D.Disk.told s.disk new path _ both in
+    let read = took_read g.D.Disk.tells own n named g.D.Disk.content g.D.Disk.files g.D.Disk.moment g.D.Disk.images g.met.D.Disk.reads g.met.D.Disk.told s.disk new path _ both in
+    let left = took_left g.D.Disk.tells own n named g.D.Disk.content g.D.Disk.files g.D.Disk.moment g.D.Disk.images g.met.D.Disk.reads g.met.D.Disk.told s.disk new path _ both in
     let does = taken_so path own in
     let made = both.made in
     let allowed : (Option Moved → Type 0) = λ o. o ≡ made in
     let answered : both.made ≡ Some Absent = both.answered ∙ ap Some c.in-Ok-Absent.field-0-is in
     subst (λ (x : Holding g.row.D.Denot). Takes (taken_so path own) (Ok Absent) (stand_of g.D.Disk.tells g.D.Disk.content g.D.Disk.fault_count g.D.Disk.moment g.D.Disk.images x) (stand_of g.D.Disk.tells g.D.Disk.content g.D.Disk.fault_count g.D.Disk.moment g.D.Disk.images (record { disk = new; takes = s.takes; memory = m }))) c.self.view_is
-    (takes_call g.D.Disk.tells g.D.Disk.content g.D.Disk.fault_count g.D.Disk.moment g.D.Disk.images s.disk new m c.self.invariant.0 whole own does made read both.stop.grew both.stop.next allowed left (Ok Absent) m (λ o is. subst (MadeOf (Ok Absent)) (sym (is ∙ answered)) refl) (λ still o is. is) (λ t. refl) (takes_done g.D.Disk.tells g.D.Disk.content g.D.Disk.fault_count g.D.Disk.moment g.D.Disk.images s.disk new m c.self.invariant.0 whole own does made read Absent answered c.in-Ok-Absent.ensures.cause.calm))
+    (takes_call g.D.Disk.tells g.D.Disk.content g.D.Disk.fault_count g.D.Disk.moment g.D.Disk.images s.disk new m c.self.invariant.0 whole does made read both.stop.grew allowed left both.stop.next (Ok Absent) m (λ o is. subst (MadeOf (Ok Absent)) (sym (is ∙ answered)) refl) (λ still o is. is) (λ t. refl) (takes_done g.D.Disk.tells g.D.Disk.content g.D.Disk.fault_count g.D.Disk.moment g.D.Disk.images s.disk new m c.self.invariant.0 whole does made read Absent answered c.in-Ok-Absent.ensures.cause.calm))
 
 pub returns-in-Ok-Absent-clause-together : goal.returns-in-Ok-Absent-clause-together
 returns-in-Ok-Absent-clause-together g c =
@@ -118,12 +118,12 @@ returns-in-Ok-Absent-clause-together g c =
     let n = c.args.self.now.takes.last + 1 in
     let named = c.requires.next.named in
     let both = c.take.ensures.both in
-    let read = took_read own n named g.D.Disk.tells g.D.Disk.content g.D.Disk.files g.D.Disk.moment g.D.Disk.images g.met.D.Disk.reads g.met.D.Disk.told s.disk new path _ both in
-    let left = took_left own n named g.D.Disk.tells g.D.Disk.content g.D.Disk.files g.D.Disk.moment g.D.Disk.images g.met.D.Disk.reads g.met.D.Disk.told s.disk new path _ both in
+    let read = took_read g.D.Disk.tells own n named g.D.Disk.content g.D.Disk.files g.D.Disk.moment g.D.Disk.images g.met.D.Disk.reads g.met.D.Disk.told s.disk new path _ both in
+    let left = took_left g.D.Disk.tells own n named g.D.Disk.content g.D.Disk.files g.D.Disk.moment g.D.Disk.images g.met.D.Disk.reads g.met.D.Disk.told s.disk new path _ both in
     let does = taken_so path own in
     let made = both.made in
     let allowed : (Option Moved → Type 0) = λ o. o ≡ made in
-    left_now g.D.Disk.tells g.D.Disk.content g.D.Disk.fault_count g.D.Disk.moment g.D.Disk.images s.disk new m c.self.invariant.0 whole own does made read both.stop.grew both.stop.next allowed left m (λ o is. is) (λ t. refl)
+    left_now g.D.Disk.tells g.D.Disk.content g.D.Disk.fault_count g.D.Disk.moment g.D.Disk.images s.disk new m c.self.invariant.0 whole does made read both.stop.grew allowed left m (λ o is. is) (λ t. refl)
 
 pub returns-in-Err-clause-takes : goal.returns-in-Err-clause-takes
 returns-in-Err-clause-takes g c =
@@ -136,12 +136,12 @@ returns-in-Err-clause-takes g c =
     let n = c.args.self.now.takes.last + 1 in
     let named = c.requires.next.named in
     let both = c.in-Err.ensures.both in
-    let read = took_read own n named g.D.Disk.tells g.D.Disk.content g.D.Disk.files g.D.Disk.moment g.D.Disk.images g.met.D.Disk.reads g.met.D.Disk.told s.disk new path _ both in
-    let left = took_left own n named g.D.Disk.tells g.D.Disk.content g.D.Disk.files g.D.Disk.moment g.D.Disk.images g.met.D.Disk.reads g.met.D.Disk.told s.disk new path _ both in
+    let read = took_read g.D.Disk.tells own n named g.D.Disk.content g.D.Disk.files g.D.Disk.moment g.D.Disk.images g.met.D.Disk.reads g.met.D.Disk.told s.disk new path _ both in
+    let left = took_left g.D.Disk.tells own n named g.D.Disk.content g.D.Disk.files g.D.Disk.moment g.D.Disk.images g.met.D.Disk.reads g.met.D.Disk.told s.disk new path _ both in
     let does = taken_so path own in
     let made = both.made in
     let allowed : (Option Moved → Type 0) = λ o. o ≡ made in
-    let failed = takes_call g.D.Disk.tells g.D.Disk.content g.D.Disk.fault_count g.D.Disk.moment g.D.Disk.images s.disk new m c.self.invariant.0 whole own does made read both.stop.grew both.stop.next allowed left (Err Disk) (record m { broken = Some (g.D.Disk.fault_count new) }) (λ o is. any_made Disk o) (λ still. none_some (sym still)) (λ t. refl) (takes_failed g.D.Disk.tells g.D.Disk.content g.D.Disk.fault_count g.D.Disk.moment g.D.Disk.images s.disk new m c.self.invariant.0 whole own does made read c.in-Err.ensures.cause.failed) in
+    let failed = takes_call g.D.Disk.tells g.D.Disk.content g.D.Disk.fault_count g.D.Disk.moment g.D.Disk.images s.disk new m c.self.invariant.0 whole does made read both.stop.grew allowed left both.stop.next (Err Disk) (record m { broken = Some (g.D.Disk.fault_count new) }) (λ o is. any_made Disk o) (λ still. none_some (sym still)) (λ t. refl) (takes_failed g.D.Disk.tells g.D.Disk.content g.D.Disk.fault_count g.D.Disk.moment g.D.Disk.images s.disk new m c.self.invariant.0 whole does made read c.in-Err.ensures.cause.failed) in
     let counted = subst (λ (k : ℕ). Takes (taken_so c.args.path.now.list c.args.own.now) (Err Disk) (stand_of g.D.Disk.tells g.D.Disk.content g.D.Disk.fault_count g.D.Disk.moment g.D.Disk.images (record { disk = s.disk; takes = s.takes; memory = m })) (stand_of g.D.Disk.tells g.D.Disk.content g.D.Disk.fault_count g.D.Disk.moment g.D.Disk.images (record { disk = new; takes = s.takes; memory = record m { broken = Some k } }))) (sym c.faults.ensures) failed in
     subst (λ (x : Holding g.row.D.Denot). Takes (taken_so c.args.path.now.list c.args.own.now) (Err Disk) (stand_of g.D.Disk.tells g.D.Disk.content g.D.Disk.fault_count g.D.Disk.moment g.D.Disk.images x) (stand_of g.D.Disk.tells g.D.Disk.content g.D.Disk.fault_count g.D.Disk.moment g.D.Disk.images (record { disk = new; takes = s.takes; memory = record { books = s.books; given = s.given.items; parts = s.parts.items; staged = s.staged.items; drawn = s.drawn; last_staged = s.last_staged; seat = s.seat; last_given = s.last_given; fulls = s.fulls; broken = Some c.faults.result } }))) c.self.view_is
     (counted)
@@ -157,9 +157,9 @@ returns-in-Err-clause-together g c =
     let n = c.args.self.now.takes.last + 1 in
     let named = c.requires.next.named in
     let both = c.take.ensures.both in
-    let read = took_read own n named g.D.Disk.tells g.D.Disk.content g.D.Disk.files g.D.Disk.moment g.D.Disk.images g.met.D.Disk.reads g.met.D.Disk.told s.disk new path _ both in
-    let left = took_left own n named g.D.Disk.tells g.D.Disk.content g.D.Disk.files g.D.Disk.moment g.D.Disk.images g.met.D.Disk.reads g.met.D.Disk.told s.disk new path _ both in
+    let read = took_read g.D.Disk.tells own n named g.D.Disk.content g.D.Disk.files g.D.Disk.moment g.D.Disk.images g.met.D.Disk.reads g.met.D.Disk.told s.disk new path _ both in
+    let left = took_left g.D.Disk.tells own n named g.D.Disk.content g.D.Disk.files g.D.Disk.moment g.D.Disk.images g.met.D.Disk.reads g.met.D.Disk.told s.disk new path _ both in
     let does = taken_so path own in
     let made = both.made in
     let allowed : (Option Moved → Type 0) = λ o. o ≡ made in
-    left_now g.D.Disk.tells g.D.Disk.content g.D.Disk.fault_count g.D.Disk.moment g.D.Disk.images s.disk new m c.self.invariant.0 whole own does made read both.stop.grew both.stop.next allowed left (record m { broken = Some c.faults.result }) (λ o is. is) (λ t. refl)
+    left_now g.D.Disk.tells g.D.Disk.content g.D.Disk.fault_count g.D.Disk.moment g.D.Disk.images s.disk new m c.self.invariant.0 whole does made read both.stop.grew allowed left (record m { broken = Some c.faults.result }) (λ o is. is) (λ t. refl)

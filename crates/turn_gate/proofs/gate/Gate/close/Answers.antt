@@ -6,7 +6,7 @@ use Rattle.turn_gate.specs.Views.{joined_of}
 use Rattle.turn_gate.proofs.Continued.{continued}
 use Rattle.turn_gate.proofs.Ends.{ends_whole}
 use Rattle.turn_gate.proofs.Keepers.{is_keeper, gathered}
-use Rattle.turn_gate.proofs.Keeps.{takes_in, closed_value, closed_none}
+use Rattle.turn_gate.proofs.SeatsKept.{takes_in, closed_value, closed_none}
 use Rattle.turn_gate.proofs.Removed.{number_of_whole}
 use Rattle.turn_gate.proofs.gate.Gate.close.Goals as goal
 

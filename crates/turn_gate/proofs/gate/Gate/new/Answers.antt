@@ -2,7 +2,7 @@ use Rattle.std.proofs.Common.{rules, ◌≡◌, [], ◌∷◌, sym, refl, subst,
 use Rattle.atomic_table.specs.Table.{opening}
 use Rattle.turn_gate.specs.Rule.{IsKept}
 use Rattle.turn_gate.specs.Views.{keeper_view}
-use Rattle.turn_gate.proofs.Keeps.{opens}
+use Rattle.turn_gate.proofs.SeatsKept.{opens}
 use Rattle.turn_gate.proofs.gate.Gate.new.Goals as goal
 
 pub new-requires : goal.new-requires

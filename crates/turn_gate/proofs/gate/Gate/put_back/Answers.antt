@@ -3,7 +3,7 @@ use mathlib.Core.Option.{none}
 use Rattle.atomic_table.specs.Table.{rest, step}
 use Rattle.turn_gate.specs.declared.view.Counted.{Counted}
 use Rattle.turn_gate.specs.Views.{after_spent}
-use Rattle.turn_gate.proofs.Keeps.{finds_spent, releases}
+use Rattle.turn_gate.proofs.Visits.{finds_spent, releases}
 use Rattle.turn_gate.proofs.gate.Gate.put_back.Goals as goal
 
 pub swap-requires : goal.swap-requires

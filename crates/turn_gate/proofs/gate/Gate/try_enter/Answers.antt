@@ -3,7 +3,7 @@ use mathlib.Core.Option.{none}
 use Rattle.atomic_table.specs.Table.{rest, step}
 use Rattle.turn_gate.specs.Turns.{ByOthers}
 use Rattle.turn_gate.proofs.Continued.{continued}
-use Rattle.turn_gate.proofs.Keeps.{acquires_as}
+use Rattle.turn_gate.proofs.Visits.{acquires_as}
 use Rattle.turn_gate.proofs.gate.Gate.try_enter.Goals as goal
 
 pub compare_exchange-found-requires : goal.compare_exchange-found-requires

@@ -4,7 +4,7 @@ use Rattle.atomic_table.specs.Table.{rest, step}
 use Rattle.turn_gate.specs.declared.view.Counted.{Counted}
 use Rattle.turn_gate.specs.Views.{after_publish, after_release}
 use Rattle.turn_gate.proofs.Keepers.{same_keeper}
-use Rattle.turn_gate.proofs.Keeps.{publishes, releases}
+use Rattle.turn_gate.proofs.Visits.{publishes, releases}
 use Rattle.turn_gate.proofs.Slots.{not_full}
 use Rattle.turn_gate.proofs.held.Held.leave.Goals as goal
 

@@ -1,0 +1,31 @@
+use Rattle.std.proofs.Common.{List, Ok, ap, map, subst, ◌∙◌}
+use Rattle.std.specs.Prelude.{OnOk}
+use Rattle.std.proofs.lemmas.Result.{on_ok_weaker}
+use Rattle.ftn_addr.specs.declared.byte_list.Bytes.{Bytes}
+use Rattle.node_model.specs.StoreStates.{IfTold, StoreState}
+use Rattle.node_store.specs.Stored.{stand_of}
+use Rattle.outbound_places.specs.Outbound.{Finds, IsBelow, IsBeside, Lists}
+use Rattle.outbound_addresses.specs.Asking.{AsksLater}
+use Rattle.outbound_addresses.proofs.Asked.{and_then, answered, refused}
+use Rattle.outbound_addresses.proofs.NotedZones.{zone_noted}
+use Rattle.outbound_addresses.proofs.zones.note_zone.Goals as goal
+
+pub returns-in-Err-clause-asks : goal.returns-in-Err-clause-asks
+returns-in-Err-clause-asks g c = refused c.in-Err.fault _ _ c.in-Err.ensures.asks
+
+pub note_listed-requires-clause-whole : goal.note_listed-requires-clause-whole
+note_listed-requires-clause-whole g c = ap (λ (s : StoreState). s.counts.broken) c.in-Ok.ensures.asks.made ∙ c.requires.whole
+
+pub returns-in-Ok-clause-finds : goal.returns-in-Ok-clause-finds
+returns-in-Ok-clause-finds g c =
+    let start = stand_of g.D.Disk.tells g.D.Disk.content g.D.Disk.fault_count g.D.Disk.moment g.D.Disk.images c.args.store.now in
+    let mid = stand_of g.D.Disk.tells g.D.Disk.content g.D.Disk.fault_count g.D.Disk.moment g.D.Disk.images c.list.new.store in
+    let base = c.args.outbound.base.now.list in
+    let zone = c.args.outbound.zone in
+    let asked : AsksLater {T = Unit {0}} (Ok tt) start mid = answered c.in-Ok.names tt start mid c.in-Ok.ensures.asks in
+    let noted = subst (λ (l : List Bytes). OnOk c.note_listed.result (IfTold mid.state.content (λ s. IsBeside base c.args.folder.now.list → Lists c.args.folder.now.list s.outside (map (λ name. name.list) l) → Finds base zone s.outside (IsBelow c.args.folder.now.list) c.args.found.now c.note_listed.new.found))) c.as_slice.ensures.value c.note_listed.ensures.finds in
+    on_ok_weaker c.note_listed.result
+    (λ finds. zone_noted base zone start mid c.args.folder.now.list (map (λ name. name.list) c.in-Ok.names.items) c.args.found.now c.note_listed.new.found asked c.in-Ok.ensures.told finds) noted
+
+pub returns-in-Ok-clause-asks : goal.returns-in-Ok-clause-asks
+returns-in-Ok-clause-asks g c = and_then c.in-Ok.names c.note_listed.result _ _ _ c.in-Ok.ensures.asks c.note_listed.ensures.asks

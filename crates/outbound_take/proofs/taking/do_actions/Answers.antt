@@ -1,0 +1,16 @@
+use Rattle.std.proofs.Common.{◌∙◌, []}
+use Rattle.outbound_take.proofs.OurLemmas.{our_on, our_actions}
+use Rattle.outbound_take.proofs.taking.do_actions.Goals as goal
+
+pub acts-preserved : goal.acts-preserved
+acts-preserved g c = record {
+  works = our_on _ _ _ _ _ _ _ _ _ c.acts.invariant.works tt (our_actions _ _ _ _ _ c.in-Ok-Some.ensures.works);
+  left = c.in-Ok-Some.ensures.left tt ∙ c.acts.invariant.left;
+  whole = c.in-Ok-Some.ensures.whole tt;
+}
+
+pub returns-in-Ok-None-clause-works : goal.returns-in-Ok-None-clause-works
+returns-in-Ok-None-clause-works g c = our_on _ _ _ _ _ _ _ _ _ c.acts.invariant.works tt (our_actions _ _ _ _ _ c.in-Ok-None.ensures.works)
+
+pub returns-in-Err-clause-works : goal.returns-in-Err-clause-works
+returns-in-Err-clause-works g c = ([], our_on _ _ _ _ _ _ _ _ _ c.acts.invariant.works tt (our_actions _ _ _ _ _ c.in-Err.ensures.works))

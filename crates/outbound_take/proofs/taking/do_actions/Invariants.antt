@@ -1,0 +1,14 @@
+use Rattle.std.proofs.Common.{◌≡◌, [], None}
+use Rattle.ftn_addr.specs.Address.{address}
+use Rattle.outbound_take.specs.Ours.{OurWorks}
+use Rattle.outbound_take.proofs.taking.do_actions.Given as goal
+
+abbrev pub invariant-acts : goal.invariant-acts
+invariant-acts g l = record {
+  works : OurWorks (address l.dest) l.now (Unit {0}) [] (g.S.Outgoing.stand l.initial.store) (g.S.Outgoing.stand l.store);
+  left : (g.S.Outgoing.stand l.store).memory.left ≡ (g.S.Outgoing.stand l.initial.store).memory.left;
+  whole : (g.S.Outgoing.stand l.store).memory.broken ≡ None;
+}
+
+abbrev pub decreases-acts : goal.decreases-acts
+decreases-acts g l = (g.S.Outgoing.stand l.store).memory.undone

@@ -1,0 +1,4 @@
+pub mod Stand
+pub mod Calls
+pub mod Plans
+pub mod Ours

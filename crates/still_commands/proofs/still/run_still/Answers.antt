@@ -1,0 +1,21 @@
+use Rattle.std.proofs.Common.{refl}
+use Rattle.command_base.proofs.Causes.{printed_disk}
+use Rattle.command_base.proofs.Printed.{printed_out}
+use Rattle.command_words.specs.Forms.{texts}
+use Rattle.still_commands.specs.Came.{told_of}
+use Rattle.still_commands.proofs.Causes.{still_cause, still_not_out}
+use Rattle.still_commands.proofs.still.run_still.Goals as goal
+
+pub returns-clause-call : goal.returns-clause-call
+returns-clause-call g c = record { told = told_of c.do_still-came.result.0; does = c.do_still-came.ensures; prints = c.print_lines.ensures c.do_still-came.result.0.lines.list refl }
+
+pub returns-clause-cause : goal.returns-clause-cause
+returns-clause-cause g c =
+    printed_disk g.D.Disk.tells g.D.Disk.content g.D.Disk.fault_count g.D.Disk.moment g.D.Disk.images _ _ _ c.args.disk c.do_still-came.result.1 _ _
+    (still_cause g.D.Disk.files g.D.Disk.tells g.D.Disk.content g.D.Disk.fault_count g.D.Disk.moment g.D.Disk.images (texts c.args.words.now) c.args.disk (told_of c.do_still-came.result.0) c.do_still-came.result.1 c.do_still-came.ensures)
+    (c.print_lines.ensures c.do_still-came.result.0.lines.list refl)
+
+pub returns-clause-out_cause : goal.returns-clause-out_cause
+returns-clause-out_cause g c =
+    printed_out _ _ _ _ _ (c.print_lines.ensures c.do_still-came.result.0.lines.list refl)
+    (still_not_out g.D.Disk.files g.D.Disk.tells g.D.Disk.content g.D.Disk.fault_count g.D.Disk.moment g.D.Disk.images (texts c.args.words.now) c.args.disk (told_of c.do_still-came.result.0) c.do_still-came.result.1 c.do_still-came.ensures)

@@ -1,0 +1,69 @@
+//! The commands without a session, over a disk.
+ghost use Rattle.std.specs.Prelude.{◌≡◌, false, true};
+ghost use Rattle.disk_model.specs.Changes.{Every};
+ghost use Rattle.disk_model.specs.Moments.{Now};
+ghost use Rattle.node_store.specs.Opening.{IsReady};
+ghost use Rattle.command_base.specs.Causes.{DiskCause};
+ghost use Rattle.command_base.specs.Printing.{OutCause};
+ghost use Rattle.command_base.specs.Statuses.{status_text};
+ghost use Rattle.command_words.specs.Forms.{texts};
+ghost use Rattle.still_commands.specs.Came.{told_of};
+ghost use Rattle.still_commands.specs.Still.{AreStill, Over_still, StillCall};
+
+use crate::came::{Came, only};
+use crate::compiling::compile_file;
+use crate::looking::look_up;
+use binkp_link::Sink;
+use command_base::{Status, print_lines};
+use command_words::{Form, one_form, read_form};
+use disk_model::Yard;
+use ftn_addr::Bytes;
+use std::alloc::Global;
+
+/// Whether the words are a command without a session. It takes no memory.
+pub fn is_still(words: &[Bytes]) -> bool
+    ensures yes { result ≡ true → AreStill (texts words.now) }
+    ensures no { result ≡ false → AreStill (texts words.now) → ⊥ }
+{
+    one_form();
+    match read_form(words) {
+        Some(Form::Lookup(_)) => true,
+        Some(Form::Compile(_)) => true,
+        Some(Form::Answer) => false,
+        Some(Form::Call(_)) => false,
+        None => false,
+    }
+}
+
+/// Does what the words ask for over the disk, prints what came of it, and gives the disk back. The moment is for commands to come.
+pub fn run_still<D: Yard, O: Sink>(
+    alloc: Global,
+    words: &[Bytes],
+    disk: D,
+    _now: u64,
+    out: &mut O,
+) -> (Status, D)
+    requires ready { D.tells ≡ true → Every (Now D.moment D.images disk) (IsReady (D.content disk)) }
+    ensures call { StillCall D.files D.tells D.content D.fault_count D.moment D.images (texts words.now) disk (O.state out.old) (status_text result.0) result.1 (O.state out.new) }
+    ensures cause { DiskCause D.tells D.content D.fault_count (status_text result.0) disk result.1 }
+    ensures out_cause { OutCause (status_text result.0) (O.state out.old) (O.state out.new) }
+{
+    let (came, disk) = do_still(alloc, words, disk);
+    let Came { lines, status } = came;
+    (print_lines(alloc, Ok(lines), status, out), disk)
+}
+
+// The command, before anything is printed.
+fn do_still<D: Yard>(alloc: Global, words: &[Bytes], disk: D) -> (Came, D)
+    requires ready { D.tells ≡ true → Every (Now D.moment D.images disk) (IsReady (D.content disk)) }
+    ensures { Over_still D.files D.tells D.content D.fault_count D.moment D.images (texts words.now) disk (told_of result.0) result.1 }
+{
+    one_form();
+    match read_form(words) {
+        Some(Form::Lookup(text)) => look_up(alloc, text, disk),
+        Some(Form::Compile(path)) => compile_file(alloc, path, disk),
+        Some(Form::Answer) => (only(alloc, Status::Usage), disk),
+        Some(Form::Call(_)) => (only(alloc, Status::Usage), disk),
+        None => (only(alloc, Status::Usage), disk),
+    }
+}
