@@ -24,3 +24,7 @@ same_bytes (x ∷ xs) (y ∷ ys) e = search (rules)
 -- words are these two
 pub of_two : (words : List Content) (a b : Content) (command : List ℕ) → words ≡ a ∷ b ∷ [] → command ≡ a.list → (asked : Command) → HasForm (texts words) asked → HasForm (command ∷ b.list ∷ []) asked
 of_two words a b command are same asked h = subst (λ (l : List (List ℕ)). HasForm l asked) (ap texts are ∙ ap (λ (c : List ℕ). c ∷ b.list ∷ []) (sym same)) h
+
+-- words are this one
+pub of_one : (words : List Content) (a : Content) (command : List ℕ) → words ≡ a ∷ [] → command ≡ a.list → texts words ≡ command ∷ []
+of_one words a command are same = ap texts are ∙ ap (λ (c : List ℕ). c ∷ []) (sym same)

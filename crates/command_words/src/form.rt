@@ -19,6 +19,8 @@ pub enum Form<'a> {
     Lookup(&'a Bytes),
     /// `compile`, and the path of a nodelist, of at most 1,024 bytes
     Compile(&'a Bytes),
+    /// `list`
+    List,
 }
 
 /// Whether a word may stand behind a command: it isn't empty, doesn't begin with `-`, and is UTF-8.
@@ -29,6 +31,20 @@ fn is_plain(word: &[u8]) -> bool
         [] => false,
         [b'-', ..] => false,
         _ => str::from_utf8(word).is_ok(),
+    }
+}
+
+// The form of a command alone.
+fn form_of_one<'a>(command: &[u8]) -> Option<Form<'a>>
+    ensures some { IfSome result (λ form. HasForm (command.now ∷ []) (command_of form)) }
+    ensures none { result ≡ None → (asked : Command) → HasForm (command.now ∷ []) asked → ⊥ }
+{
+    if command == b"answer".as_slice() {
+        Some(Form::Answer)
+    } else if command == b"list".as_slice() {
+        Some(Form::List)
+    } else {
+        None
     }
 }
 
@@ -55,7 +71,7 @@ pub fn read_form<'a>(words: &'a [Bytes]) -> Option<Form<'a>>
     ensures none { result ≡ None → (command : Command) → HasForm (texts words.now) command → ⊥ }
 {
     match words {
-        [word] if word.as_slice() == b"answer".as_slice() => Some(Form::Answer),
+        [command] => form_of_one(command.as_slice()),
         [command, word] if is_plain(word.as_slice()) => form_of_two(command.as_slice(), word),
         _ => None,
     }

@@ -12,6 +12,7 @@ fn read(alloc: Global, texts: &[&[u8]]) -> Result<Option<(&'static str, Bytes)>,
     }
     let (command, word) = match read_form(words.as_slice()) {
         Some(Form::Answer) => return Ok(Some(("answer", Bytes::new(alloc)))),
+        Some(Form::List) => return Ok(Some(("list", Bytes::new(alloc)))),
         Some(Form::Call(text)) => ("call", text),
         Some(Form::Lookup(text)) => ("lookup", text),
         Some(Form::Compile(path)) => ("compile", path),
@@ -35,6 +36,7 @@ fn is_none(alloc: Global, texts: &[&[u8]]) -> Result<bool, Fail> {
 fn forms_are_read(rt: HostRuntime) -> Result<(), Fail> {
     let alloc = rt.alloc();
     assert!(rt; is(alloc, &[b"answer"], "answer", b"")?);
+    assert!(rt; is(alloc, &[b"list"], "list", b"")?);
     assert!(rt; is(alloc, &[b"call", b"2:5020/1"], "call", b"2:5020/1")?);
     assert!(rt; is(alloc, &[b"lookup", b"no address"], "lookup", b"no address")?);
     assert!(rt; is(alloc, &[b"compile", b"a/b-c"], "compile", b"a/b-c")?);
@@ -57,7 +59,8 @@ fn other_words_have_no_form(rt: HostRuntime) -> Result<(), Fail> {
     assert!(rt; is_none(alloc, &[b"lookup"])?);
     assert!(rt; is_none(alloc, &[b"compile", b"\xd0"])?);
     assert!(rt; is_none(alloc, &[b"take"])?);
-    assert!(rt; is_none(alloc, &[b"list"])?);
+    assert!(rt; is_none(alloc, &[b"list", b"x"])?);
+    assert!(rt; is_none(alloc, &[b"lists"])?);
     assert!(rt; is_none(alloc, &[b"serve"])?);
     assert!(rt; is_none(alloc, &[b"trial", b"1", b"1"])?);
     Ok(())
