@@ -17,6 +17,7 @@ OtherCommand W.Answer = ⊥
 OtherCommand (W.Call text) = ⊥
 OtherCommand (W.Lookup text) = Unit {0}
 OtherCommand (W.Compile path) = Unit {0}
+OtherCommand W.Listing = Unit {0}
 
 abbrev pub OneForm : Type 0
 OneForm = (words : List (List ℕ)) (a b : Command) → HasForm words a → HasForm words b → a ≡ b
@@ -50,6 +51,7 @@ text_of W.Answer = []
 text_of (W.Call text) = text
 text_of (W.Lookup text) = text
 text_of (W.Compile path) = path
+text_of W.Listing = []
 
 pub not_called : (words : List (List ℕ)) (home : Address) (text : List ℕ) → OneForm → HasForm words (W.Call text) → ((peer : Address) → Spells home text peer → ⊥) → (side : Side) → AreWords words home side → ⊥
 not_called words home text one form none side (to_answer is answer) = let clash : W.Answer ≡ W.Call text = one words W.Answer (W.Call text) answer form in cc

@@ -29,7 +29,7 @@ pub fn explanation(status: &Status) -> Option<&'static str>
 {
     match status {
         Status::Usage => Some(
-            "binkp: the words are `DIR answer`, `DIR call ADDR`, `DIR lookup ADDR` or `DIR compile FILE`, as in `. call 2:5047/13`; DIR has the settings, `binkp.conf`",
+            "binkp: the words are `DIR answer`, `DIR call ADDR`, `DIR lookup ADDR`, `DIR compile FILE` or `DIR list`, as in `. call 2:5047/13`; DIR has the settings, `binkp.conf`",
         ),
         Status::Done
         | Status::ConfBad(_)

@@ -32,6 +32,7 @@ pub fn have_form(words: &[Bytes]) -> bool
         Some(Form::Call(_)) => true,
         Some(Form::Lookup(_)) => false,
         Some(Form::Compile(_)) => false,
+        Some(Form::List) => false,
         None => false,
     }
 }
@@ -76,6 +77,7 @@ pub fn read_words(alloc: Global, words: &[Bytes], home: &Addr) -> Result<Side, W
         Some(Form::Call(text)) => read_side(alloc, text, home),
         Some(Form::Lookup(_)) => Err(WordsFault::Usage),
         Some(Form::Compile(_)) => Err(WordsFault::Usage),
+        Some(Form::List) => Err(WordsFault::Usage),
         None => Err(WordsFault::Usage),
     }
 }

@@ -4,7 +4,7 @@ use Rattle.ftn_addr.specs.Address.{Address}
 use Rattle.ftn_addr.specs.Reading.{reading}
 use Rattle.ftn_addr.specs.declared.reading.AddrFault.{AddrFault}
 use Rattle.ftn_addr.specs.declared.reading.AddrFault.TheVariants.{NoMemory}
-use Rattle.command_words.specs.Forms.{Command, Compile, HasForm, Lookup}
+use Rattle.command_words.specs.Forms.{Command, Compile, HasForm, Listing, Lookup}
 use Rattle.nodelist_files.specs.declared.fault.CompileFault.{CompileFault}
 use Rattle.disk_model.specs.Changes.{Every, Same}
 use Rattle.disk_model.specs.Moments.{Leaves}
@@ -15,7 +15,7 @@ use Rattle.command_base.specs.Causes.{IsBadIndex}
 use Rattle.command_base.specs.Settings.{OnlyRead}
 use Rattle.command_base.proofs.ReadOnly.{no_index_before, opened_before, refused_before, settings_before, then_read, unset_before}
 use Rattle.still_commands.specs.Came.{Told}
-use Rattle.still_commands.specs.Still.{AreStill, a_lookup, a_compile, CompilesFile, Over_still, Not_asked, Not_set, No_address, No_index, Not_opened, Bad_index, Looked_up, Compiled}
+use Rattle.still_commands.specs.Still.{AreStill, a_lookup, a_compile, a_list, CompilesFile, Over_still, Not_asked, Not_set, No_address, No_index, Not_opened, Bad_index, Looked_up, Compiled, Listed}
 
 module _ {D : Type 0} (files : D → World → Type 0) (tells : Bool) (content : D → World) (faults : D → ℕ) (moment : D → ℕ) (images : D → ℕ → World → Type 0) where
   pub still_before : (words : List (List ℕ)) (old mid new : D) (told : Told) → AreStill words → OnlyRead tells content faults moment images old mid → faults mid ≡ faults old
@@ -35,6 +35,8 @@ module _ {D : Type 0} (files : D → World → Type 0) (tells : Bool) (content :
       Looked_up conf (settings_before tells content faults moment images old mid conf only settings) text a form reads opened (opened_before tells content faults moment images old mid opened only calm h) disk_is index (λ telling. subst (λ (w : World). index_at (w.own index_name) ≡ Ok index) (only.same telling) (at telling)) is
   still_before words old mid new told still only calm (Compiled conf settings path form opened h result does is) =
       Compiled conf (settings_before tells content faults moment images old mid conf only settings) path form opened (opened_before tells content faults moment images old mid opened only calm h) result does is
+  still_before words old mid new told still only calm (Listed conf settings form opened h disk_is is) =
+      Listed conf (settings_before tells content faults moment images old mid conf only settings) form opened (opened_before tells content faults moment images old mid opened only calm h) disk_is is
 
   -- a disk of which more was read
   pub much_read : ((d : D) (w : World) → files d w → (tells ≡ true) × (w ≡ content d)) → (tells ≡ true → (d : D) → files d (content d))
@@ -61,3 +63,4 @@ spells_none t t' h h' fault text home other (inr refused) a reads = let clash : 
 pub no_still : (words : List (List ℕ)) → ((command : Command) → HasForm words command → ⊥) → AreStill words → ⊥
 no_still words none (a_lookup text form) = none (Lookup text) form
 no_still words none (a_compile path form) = none (Compile path) form
+no_still words none (a_list form) = none Listing form

@@ -17,8 +17,8 @@ use Rattle.command_base.proofs.Causes.{refused_so, unindexed_so, unset_so}
 use Rattle.command_base.proofs.Printed.{NotOut}
 use Rattle.node_store.specs.declared.opening.fault.StoreOpenFault.{StoreOpenFault}
 use Rattle.node_store.specs.declared.opening.fault.StoreOpenFault.TheVariants as F
-use Rattle.still_commands.specs.Came.{Told, IsTold, looked, only, told_compiled, told_line}
-use Rattle.still_commands.specs.Still.{CompilesFile, Over_still, Not_asked, Not_set, No_address, No_index, Not_opened, Bad_index, Looked_up, Compiled}
+use Rattle.still_commands.specs.Came.{Told, IsTold, looked, only, told_compiled, told_line, told_listed}
+use Rattle.still_commands.specs.Still.{CompilesFile, Over_still, Not_asked, Not_set, No_address, No_index, Not_opened, Bad_index, Looked_up, Compiled, Listed}
 
 -- No put failed yet.
 
@@ -70,6 +70,7 @@ module _ {D : Type 0} (files : D → World → Type 0) (tells : Bool) (content :
   still_not_out words disk told disk' (Bad_index conf settings text a form reads opened h disk_is bad is) = is_so told (only (S.FileBad index_name)) is tt
   still_not_out words disk told disk' (Looked_up conf settings text a form reads opened h disk_is index at is) = told_so (looked index a) told is (looked_not_out index a)
   still_not_out words disk told disk' (Compiled conf settings path form opened h result does is) = told_so (told_compiled result (faults disk')) told is (compiled_not_out result (faults disk'))
+  still_not_out words disk told disk' (Listed conf settings form opened h disk_is is) = told_so (told_listed opened.memory.books.folding.state) told is tt
 
   -- What is told of the disk.
 
@@ -108,3 +109,4 @@ module _ {D : Type 0} (files : D → World → Type 0) (tells : Bool) (content :
   still_cause words disk told disk' (Bad_index conf settings text a form reads opened h disk_is bad is) = cause_of disk disk' told (only (S.FileBad index_name)) is (λ telling. inr (refl, bad telling))
   still_cause words disk told disk' (Looked_up conf settings text a form reads opened h disk_is index at is) = told_cause disk disk' (looked index a) told is (looked_cause disk disk' index a)
   still_cause words disk told disk' (Compiled conf settings path form opened h result does is) = told_cause disk disk' (told_compiled result (faults disk')) told is (compiled_cause disk opened.disk disk' path result h.calm does)
+  still_cause words disk told disk' (Listed conf settings form opened h disk_is is) = told_cause disk disk' (told_listed opened.memory.books.folding.state) told is tt

@@ -1,8 +1,10 @@
 -- What a command came to, before anything is printed (own).
 use Rattle.std.specs.Prelude.{◌≡◌, ◌⊎◌, ℕ, List, [], Option, Some, None, Result, Ok, Err}
 use Rattle.ftn_addr.specs.Address.{Address}
+use Rattle.ledger_rec.specs.Fold.{State}
 use Rattle.nodelist_comp.specs.Node.{ListedNode}
 use Rattle.nodelist_files.specs.declared.fault.CompileFault.{CompileFault}
+use Rattle.outbound_lines.specs.Listing.{list_text}
 use Rattle.still_lines.specs.Lists.{lookup_text, nodes_text}
 use Rattle.command_base.specs.Statuses.{Status, Done, NoFile, NoMemory, NotFound, status_text, status_uncompiled}
 use Rattle.still_commands.specs.declared.came.Came.{Came}
@@ -37,3 +39,7 @@ looked (Some nodes) a = told_line (lookup_text nodes a)
 abbrev pub told_compiled : Result ℕ CompileFault → (faults : ℕ) → Told
 told_compiled (Ok count) faults = record { lines = nodes_text count; status = Done }
 told_compiled (Err fault) faults = only (status_uncompiled fault faults)
+
+-- what a store keeps, told
+abbrev pub told_listed : State → Told
+told_listed s = record { lines = list_text s; status = Done }

@@ -26,17 +26,20 @@ use Rattle.command_base.specs.Statuses as S
 use Rattle.command_base.specs.Statuses.{Status, status_unopened}
 use Rattle.command_words.specs.Forms as W
 use Rattle.command_words.specs.Forms.{Command, HasForm}
-use Rattle.still_commands.specs.Came.{Told, IsTold, looked, only, told_compiled}
+use Rattle.still_commands.specs.Came.{Told, IsTold, looked, only, told_compiled, told_listed}
 
 -- the words are such a command
 pub data AreStill (words : List (List ℕ)) : Type 0 where
   a_lookup : (text : List ℕ) → HasForm words (W.Lookup text) → AreStill words
   a_compile : (path : List ℕ) → HasForm words (W.Compile path) → AreStill words
+  a_list : HasForm words W.Listing → AreStill words
 
--- what they ask for by settings: to look up the node of an address, read with the home's parts, or to compile a file
+-- what they ask for by settings: to look up the node of an address, read with the home's parts, to compile a file, or to list what
+-- the store keeps
 pub data Asks (words : List (List ℕ)) (conf : ConfText) : Type 0 where
   To_look_up : (text : List ℕ) (a : Address) → HasForm words (W.Lookup text) → reading text (home_of conf.addresses) ≡ Ok a → Asks words conf
   To_compile : (path : List ℕ) → HasForm words (W.Compile path) → Asks words conf
+  To_list : HasForm words W.Listing → Asks words conf
 
 -- the word behind `lookup` spells no address, or there was no memory to read it
 abbrev pub IsNoAddress : List ℕ → ConfText → Told → Type 0
@@ -57,8 +60,8 @@ pub record CompilesFile {D : Type 0} (files : D → World → Type 0) (faults : 
 
 module _ {D : Type 0} (files : D → World → Type 0) (tells : Bool) (content : D → World) (faults : D → ℕ) (moment : D → ℕ) (images : D → ℕ → World → Type 0) where
   -- The words are no such command, and nothing was done; or the settings weren't read, or by them the word behind `lookup` is no
-  -- address, or the index couldn't be read, and the disk was read only; or no store was opened; or one was, and over its disk the
-  -- index is bad, or the node was looked up in it, or the file was compiled.
+  -- no address, or the index couldn't be read, and the disk was read only; or no store was opened; or one was, and over its disk the
+  -- index is bad, or the node was looked up in it, or the file was compiled, or what the store keeps was listed.
   pub data Over_still (words : List (List ℕ)) (disk : D) (told : Told) (disk' : D) : Type 0 where
     Not_asked : (AreStill words → ⊥) → told ≡ only S.Usage → disk' ≡ disk → Over_still words disk told disk'
     Not_set : AreStill words → (had : Status) → told ≡ only had → NoSettings tells content faults moment images disk disk' had → OnlyRead tells content faults moment images disk disk' → Over_still words disk told disk'
@@ -76,6 +79,8 @@ module _ {D : Type 0} (files : D → World → Type 0) (tells : Bool) (content :
     Compiled : (conf : ConfText) → HasSettings tells content faults moment images disk conf → (path : List ℕ) → HasForm words (W.Compile path)
         → (opened : Holding D) → HasOpened tells content faults moment images disk opened
         → (result : Result ℕ CompileFault) → CompilesFile files faults moment images path result opened.disk disk' → IsTold (told_compiled result (faults disk')) told → Over_still words disk told disk'
+    Listed : (conf : ConfText) → HasSettings tells content faults moment images disk conf → HasForm words W.Listing
+        → (opened : Holding D) → HasOpened tells content faults moment images disk opened → disk' ≡ opened.disk → IsTold (told_listed opened.memory.books.folding.state) told → Over_still words disk told disk'
 
   -- the whole command, and then what was printed of it
   pub record StillCall (words : List (List ℕ)) (disk : D) (out : SinkState) (status : Status) (disk' : D) (out' : SinkState) : Type 0 where

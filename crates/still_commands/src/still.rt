@@ -12,6 +12,7 @@ ghost use Rattle.still_commands.specs.Still.{AreStill, Over_still, StillCall};
 
 use crate::came::{Came, only};
 use crate::compiling::compile_file;
+use crate::listing::list_store;
 use crate::looking::look_up;
 use binkp_link::Sink;
 use command_base::{Status, print_lines};
@@ -29,6 +30,7 @@ pub fn is_still(words: &[Bytes]) -> bool
     match read_form(words) {
         Some(Form::Lookup(_)) => true,
         Some(Form::Compile(_)) => true,
+        Some(Form::List) => true,
         Some(Form::Answer) => false,
         Some(Form::Call(_)) => false,
         None => false,
@@ -62,6 +64,7 @@ fn do_still<D: Yard>(alloc: Global, words: &[Bytes], disk: D) -> (Came, D)
     match read_form(words) {
         Some(Form::Lookup(text)) => look_up(alloc, text, disk),
         Some(Form::Compile(path)) => compile_file(alloc, path, disk),
+        Some(Form::List) => list_store(alloc, disk),
         Some(Form::Answer) => (only(alloc, Status::Usage), disk),
         Some(Form::Call(_)) => (only(alloc, Status::Usage), disk),
         None => (only(alloc, Status::Usage), disk),
