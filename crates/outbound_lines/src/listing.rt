@@ -1,12 +1,15 @@
 //! What a ledger leaves, told line by line.
-ghost use Rattle.std.specs.Prelude.{◌≡◌, ◌++◌, count_by, IfOk, OnOk, map};
+ghost use Rattle.std.specs.Prelude.{◌≡◌, ◌∷◌, ◌++◌, [], codes, count_by, IfOk, OnOk, map};
 ghost use Rattle.std.specs.Fmt.{decimal};
 ghost use Rattle.std.specs.List.{flat_map};
+ghost use Rattle.binkp_args.specs.Escape.{escaped};
+ghost use Rattle.ftn_addr.specs.Address.{address};
+ghost use Rattle.ftn_addr.specs.Writing.{canonical};
 ghost use Rattle.ledger_rec.specs.Items.{entry, part_mark};
 ghost use Rattle.outbound_lines.specs.Listing.{counts_line, entry_line, flavour_word, list_text, live_line, part_line};
 
 use binkp_args::escape;
-use ftn_addr::{Bytes, NoMemory, write_addr};
+use ftn_addr::{Addr, Bytes, NoMemory, write_addr};
 use ledger_rec::{Folded, MarkItem, QueueItem};
 use std::alloc::Global;
 
@@ -31,19 +34,39 @@ fn push_field(alloc: Global, number: u64, line: &mut Bytes) -> Result<(), NoMemo
     line.push_slice(b" ")
 }
 
+// Adds a number and an address, with a blank behind each.
+fn push_start(alloc: Global, number: u32, addr: &Addr, lines: &mut Bytes) -> Result<(), NoMemory>
+    ensures { OnOk result (lines.new.list ≡ lines.old.list ++ decimal number ++ codes " " ++ canonical (address addr.now) ++ codes " ") }
+{
+    push_field(alloc, u64::from(number), lines)?;
+    write_addr(alloc, addr, lines)?;
+    lines.push_slice(b" ")
+}
+
+// Adds two numbers and a name, and ends the line.
+fn push_end(
+    alloc: Global,
+    first: u64,
+    second: u64,
+    name: &Bytes,
+    lines: &mut Bytes,
+) -> Result<(), NoMemory>
+    ensures { OnOk result (lines.new.list ≡ lines.old.list ++ decimal first ++ codes " " ++ decimal second ++ codes " " ++ escaped name.now.list ++ 10 ∷ []) }
+{
+    push_field(alloc, first, lines)?;
+    push_field(alloc, second, lines)?;
+    escape(alloc, name.as_slice(), lines)?;
+    lines.push_slice(b"\n")
+}
+
 // `N ADDR FLAVOUR SIZE TIME NAME`
 fn push_entry(alloc: Global, item: &QueueItem, lines: &mut Bytes) -> Result<(), NoMemory>
     ensures { OnOk result (lines.new.list ≡ lines.old.list ++ entry_line (entry item.now)) }
 {
-    push_field(alloc, u64::from(item.number), lines)?;
-    write_addr(alloc, &item.dest, lines)?;
-    lines.push_slice(b" ")?;
+    push_start(alloc, item.number, &item.dest, lines)?;
     lines.push_slice(flavour_word(item.flavour))?;
     lines.push_slice(b" ")?;
-    push_field(alloc, item.key.size, lines)?;
-    push_field(alloc, item.key.time, lines)?;
-    escape(alloc, item.key.name.as_slice(), lines)?;
-    lines.push_slice(b"\n")
+    push_end(alloc, item.key.size, item.key.time, &item.key.name, lines)
 }
 
 // `part N ADDR LEN SIZE NAME`
@@ -51,13 +74,18 @@ fn push_part(alloc: Global, item: &MarkItem, lines: &mut Bytes) -> Result<(), No
     ensures { OnOk result (lines.new.list ≡ lines.old.list ++ part_line (part_mark item.now)) }
 {
     lines.push_slice(b"part ")?;
-    push_field(alloc, u64::from(item.part), lines)?;
-    write_addr(alloc, &item.from, lines)?;
-    lines.push_slice(b" ")?;
-    push_field(alloc, item.len, lines)?;
-    push_field(alloc, item.key.size, lines)?;
-    escape(alloc, item.key.name.as_slice(), lines)?;
-    lines.push_slice(b"\n")
+    push_start(alloc, item.part, &item.from, lines)?;
+    push_end(alloc, item.len, item.key.size, &item.key.name, lines)
+}
+
+// The line of a file, where it waits.
+fn push_live(alloc: Global, item: &QueueItem, lines: &mut Bytes) -> Result<(), NoMemory>
+    ensures { OnOk result (lines.new.list ≡ lines.old.list ++ live_line (entry item.now)) }
+{
+    if item.live {
+        push_entry(alloc, item, lines)?;
+    }
+    Ok(())
 }
 
 // The lines of the files that wait.
@@ -65,9 +93,7 @@ fn push_queue(alloc: Global, queue: &[QueueItem], lines: &mut Bytes) -> Result<(
     ensures { OnOk result (lines.new.list ≡ lines.old.list ++ flat_map live_line (map entry queue.now)) }
 {
     for item in queue {
-        if item.live {
-            push_entry(alloc, item, lines)?;
-        }
+        push_live(alloc, item, lines)?;
     }
     Ok(())
 }
@@ -82,6 +108,13 @@ fn push_parts(alloc: Global, marks: &[MarkItem], lines: &mut Bytes) -> Result<()
     Ok(())
 }
 
+// How many files wait.
+fn live_count(queue: &[QueueItem]) -> usize
+    ensures { result ≡ count_by (λ e. e.live) (map entry queue.now) }
+{
+    queue.iter().filter(|item| item.live).count()
+}
+
 // Adds a word and how many there are.
 fn push_count(alloc: Global, word: &[u8], count: usize, lines: &mut Bytes) -> Result<(), NoMemory>
     ensures { OnOk result (lines.new.list ≡ lines.old.list ++ word.now ++ decimal count) }
@@ -94,8 +127,7 @@ fn push_count(alloc: Global, word: &[u8], count: usize, lines: &mut Bytes) -> Re
 fn push_counts(alloc: Global, folded: &Folded, lines: &mut Bytes) -> Result<(), NoMemory>
     ensures { OnOk result (lines.new.list ≡ lines.old.list ++ counts_line folded.now.state) }
 {
-    let live = folded.queue().iter().filter(|item| item.live).count();
-    push_count(alloc, b"live ", live, lines)?;
+    push_count(alloc, b"live ", live_count(folded.queue()), lines)?;
     push_count(alloc, b" parts ", folded.marks().len(), lines)?;
     push_count(alloc, b" received ", folded.inbox().len(), lines)?;
     push_count(alloc, b" refused ", folded.refused().len(), lines)?;

@@ -24,7 +24,13 @@ fn key(alloc: Global, name: &[u8], size: u64) -> Result<FileKey, NoMemory> {
 }
 
 // A file for 2:5047/13 that came from no other.
-fn queue(folded: &mut Folded, alloc: Global, number: u32, name: &[u8], flavour: u8) -> Result<(), Fail> {
+fn queue(
+    folded: &mut Folded,
+    alloc: Global,
+    number: u32,
+    name: &[u8],
+    flavour: u8,
+) -> Result<(), Fail> {
     folded.add_owned(Record::Queue(NewFileRec {
         number,
         dest: node(alloc, 5047, 13)?,
@@ -75,7 +81,13 @@ fn are(alloc: Global, folded: &Folded, text: &[u8]) -> Result<bool, Fail> {
 #[test]
 fn nothing_has_the_counts_alone(rt: HostRuntime) -> Result<(), Fail> {
     let alloc = rt.alloc();
-    assert!(rt; are(alloc, &Folded::new(alloc), b"live 0 parts 0 received 0 refused 0\n")?);
+    assert!(rt;
+        are(
+            alloc,
+            &Folded::new(alloc),
+            b"live 0 parts 0 received 0 refused 0\n"
+        )?
+    );
     Ok(())
 }
 
@@ -132,7 +144,8 @@ fn taken_outbound_has_its_counts(rt: HostRuntime) -> Result<(), Fail> {
         passed: 4_294_967_295,
     };
     let line = took_line(alloc, &node(alloc, 5020, 1042)?, &counts)?;
-    let wanted: &[u8] = b"took 2:5020/1042@fidonet queued 3 again 1 missing 2 over 0 passed 4294967295\n";
+    let wanted: &[u8] =
+        b"took 2:5020/1042@fidonet queued 3 again 1 missing 2 over 0 passed 4294967295\n";
     assert_eq!(rt; line.as_slice(), wanted);
     let line = marked_line(alloc, &node(alloc, 5020, 1042)?)?;
     let wanted: &[u8] = b"marked 2:5020/1042@fidonet\n";
