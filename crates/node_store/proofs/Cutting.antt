@@ -105,7 +105,7 @@ module _ (s : State) (m : PartMark) (there : Member m s.marks) (orderly : IsOrde
         go (Some take) is = cut_take n take is
 
     pub cut_restores : (payloads : List (List ℕ)) → fold_of payloads ≡ Some s → LedgerIs payloads d → Restores d c
-    cut_restores payloads folds ledger = steady_restores payloads s folds d c (inl ledger) (inl (cut_ledger payloads ledger)) cut_steady cut_takes (λ n note. step.own.others n (λ same. other_than n note (in_name m.number) (in_no_note m.number) (sym same)))
+    cut_restores payloads folds ledger = steady_restores payloads s folds d c (inl ledger) (inl (cut_ledger payloads ledger)) cut_steady cut_takes (λ n note. step.own.others n (λ same. other_than n note (in_name m.number) (in_no_note m.number) (sym same))) (λ n other. step.own.others n (other.received m.number))
 
   -- a cut that was made is one
   made_cut : (d c : World) → CutsPart m d c → Step d c

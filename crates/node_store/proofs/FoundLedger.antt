@@ -57,6 +57,7 @@ module _ (d c : World) (makes : Makes d c) where
   pub makes_restores : LedgerOf [] d → Restores d c
   makes_restores was = steady_restores [] nothing_folded refl d c was (ledger_made was) (record { live = tt; received = tt; marked = tt; outside = makes.outside; gifts = makes.gifts }) takes_made
       (λ n note. makes.others n (λ same. other_than n note ledger_name ledger_no_note (sym same)) (λ same. other_than n note new_name new_no_note (sym same)))
+      (λ n other. makes.others n other.ledger (λ same. other.work (inl same)))
 
 -- why a ledger that stands isn't opened
 refused_of : (fault : OpenFault) (w : World) → Refuses fault w → IsRefused (fault_of fault) w

@@ -13,7 +13,6 @@ mod Looked
 mod OpenSound
 mod Opened
 mod Passed
-mod Recovering
 mod Removing
 mod Requests
 mod Rest
@@ -34,6 +33,7 @@ pub mod Appended
 pub mod AroundCall
 pub mod ClearedNotes
 pub mod ClearedStore
+pub mod AsideFiles
 pub mod AskCall
 pub mod BatchFollows
 pub mod BegunParts
@@ -42,6 +42,7 @@ pub mod ClosedParts
 pub mod CommitCall
 pub mod Committed
 pub mod CopyCall
+pub mod DrawnNumbers
 pub mod Due
 pub mod FileNames
 pub mod FirstParts
@@ -78,6 +79,7 @@ pub mod OpenCall
 pub mod OpenTold
 pub mod OpenedNodes
 pub mod Openings
+pub mod OtherFiles
 pub mod OutboundCalls
 pub mod OutboundSteps
 pub mod PartOpened
@@ -98,6 +100,7 @@ pub mod Receipts
 pub mod RecordCall
 pub mod RecordTold
 pub mod Recorded
+pub mod Recovering
 pub mod RefuseCall
 pub mod ReplacedParts
 pub mod SettleCall

@@ -11,6 +11,7 @@ use Rattle.ledger_rec.specs.Items.{Entry, Receipt, PartMark}
 use Rattle.ledger_rec.specs.Payloads.{fold_of}
 use Rattle.node_model.specs.StoreStates.{Shelf}
 use Rattle.node_model.proofs.Lists.{some_inj}
+use Rattle.node_store.specs.Aside.{SameAside}
 use Rattle.node_store.specs.Clearing.{Restores}
 use Rattle.node_store.specs.Names.{in_name, is_note, out_name, take_number}
 use Rattle.node_store.specs.Opening.{IsTidied, Recovers}
@@ -52,10 +53,10 @@ recovers-then d e c x y = λ shelf opens.
     let second = y first.0 first.1 in
     (second.0, second.1, tidied-then shelf first.0 second.0 first.2 second.2)
 
--- and nothing outside changed, nor a note
+-- and nothing outside changed, nor a note, nor an own file that isn't the store's
 
 pub restores-refl : (d : World) → Restores d d
-restores-refl d = record { recovers = recovers-refl d; outside = refl; notes = λ name note. refl }
+restores-refl d = record { recovers = recovers-refl d; outside = refl; notes = λ name note. refl; aside = λ name other. refl }
 
 pub restores-same : (d c : World) → Same d c → Restores d c
 restores-same d c same = subst (Restores d) (sym same) (restores-refl d)
@@ -65,6 +66,7 @@ restores-then d e c x y = record {
   recovers = recovers-then d e c x.recovers y.recovers;
   outside = y.outside ∙ x.outside;
   notes = λ name note. y.notes name note ∙ x.notes name note;
+  aside = λ name other. y.aside name other ∙ x.aside name other;
 }
 
 module _ {D : Type 0} (moment : D → ℕ) (images : D → ℕ → World → Type 0) where
@@ -129,5 +131,5 @@ module _ (payloads : List (List ℕ)) (s : State) (folds : fold_of payloads ≡ 
       let o = opened_is d shelf was opens in
       (shelf_in c s, opens_so c now (steady_files s d c o.0 a), subst (λ (x : Shelf). IsTidied x (shelf_in c s)) (sym o.1) (steady_tidied s d c o.0 a takes))
 
-  pub steady_restores : (d c : World) → LedgerOf payloads d → LedgerOf payloads c → IsSteady s d c → TakesStay s d c → ((name : List ℕ) → is_note name ≡ true → c.own name ≡ d.own name) → Restores d c
-  steady_restores d c was now a takes notes = record { recovers = steady_recovers d c was now a takes; outside = a.outside; notes = notes }
+  pub steady_restores : (d c : World) → LedgerOf payloads d → LedgerOf payloads c → IsSteady s d c → TakesStay s d c → ((name : List ℕ) → is_note name ≡ true → c.own name ≡ d.own name) → SameAside d c → Restores d c
+  steady_restores d c was now a takes notes aside = record { recovers = steady_recovers d c was now a takes; outside = a.outside; notes = notes; aside = aside }

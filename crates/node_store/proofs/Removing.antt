@@ -11,6 +11,7 @@ use Rattle.ledger_rec.specs.Fold.{State, is_among}
 use Rattle.ledger_rec.specs.Items.{Entry, Receipt, PartMark}
 use Rattle.ledger_rec.specs.Payloads.{fold_of}
 use Rattle.node_model.proofs.Lists.{none_some, some_inj, off}
+use Rattle.node_store.specs.Aside.{IsAside}
 use Rattle.node_store.specs.Clearing.{Restores}
 use Rattle.node_store.specs.Names.{in_name, is_note, out_name, take_number}
 use Rattle.node_store.specs.Strays.{IsStray, nodelist_new}
@@ -106,6 +107,14 @@ module _ (s : State) (name : List ℕ) where
   not_note (inr (inr (inl part))) n note same = other_than n note (in_name part.number) (in_no_note part.number) (sym (same ∙ part.named))
   not_note (inr (inr (inr taken))) n note same = none_some (sym (note_no_take n note) ∙ ap take_number same ∙ taken.named)
 
+  -- a stray is the store's
+  not_aside : IsStray s name → (n : List ℕ) → IsAside n → n ≢ name
+  not_aside (inl (inl work)) n other same = other.work (inl (same ∙ work))
+  not_aside (inl (inr work)) n other same = other.work (inr (same ∙ work))
+  not_aside (inr (inl out)) n other same = other.queued out.number (same ∙ out.named)
+  not_aside (inr (inr (inl part))) n other same = other.received part.number (same ∙ part.named)
+  not_aside (inr (inr (inr taken))) n other same = none_some (sym other.taken ∙ ap take_number same ∙ taken.named)
+
   -- a stray that is a take's is recorded
   stray_take : IsStray s name → (take : ℕ) → take_number name ≡ Some take → is_among take s.takes ≡ true
   stray_take (inl (inl work)) take is = none_some (sym new_no_take ∙ sym (ap take_number work) ∙ is)
@@ -137,7 +146,7 @@ module _ (s : State) (name : List ℕ) where
         go (Some take) is (inr other) = inl (step.own.others n other)
 
     pub removed_restores : (payloads : List (List ℕ)) → fold_of payloads ≡ Some s → LedgerIs payloads d → Restores d c
-    removed_restores payloads folds ledger = steady_restores payloads s folds d c (inl ledger) (inl (removed_ledger payloads ledger)) removed_steady removed_takes (λ n note. step.own.others n (not_note stray n note))
+    removed_restores payloads folds ledger = steady_restores payloads s folds d c (inl ledger) (inl (removed_ledger payloads ledger)) removed_steady removed_takes (λ n note. step.own.others n (not_note stray n note)) (λ n other. step.own.others n (not_aside stray n other))
 
   -- what is read and what a stop leaves go on being the same
   module _ (stray : IsStray s name) (f f' c c' : World) (read : OnOwn (Puts name None) f f') (left : OnOwn (Puts name None) c c') where

@@ -2,6 +2,7 @@
 use Rattle.std.specs.Prelude.{◌≡◌, ◌≢◌, ◌⊎◌, ℕ, true, false, List, [], option_map, Some, None}
 use Rattle.disk_model.specs.World.{OutFile, World}
 use Rattle.node_model.specs.Lists.{Member}
+use Rattle.node_store.specs.Aside.{SameAside}
 use Rattle.node_store.specs.Names.{is_note}
 use Rattle.node_store.specs.Opening.{Recovers}
 
@@ -49,8 +50,9 @@ HasNotesAmong names w = (name bytes : List ℕ) → w.own name ≡ Some bytes �
 abbrev pub SameOut : World → World → Type 0
 SameOut f c = c.outside ≡ f.outside
 
--- what opens goes on opening so, and nothing outside changed, nor a note
+-- what opens goes on opening so, and nothing outside changed, nor a note, nor an own file that isn't the store's
 pub record Restores (d c : World) : Type 0 where
   pub recovers : Recovers d c
   pub outside : c.outside ≡ d.outside
   pub notes : (name : List ℕ) → is_note name ≡ true → c.own name ≡ d.own name
+  pub aside : SameAside d c

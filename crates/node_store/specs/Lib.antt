@@ -1,4 +1,5 @@
 pub mod Acting
+pub mod Aside
 pub mod Asking
 pub mod Beginnings
 pub mod Books

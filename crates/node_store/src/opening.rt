@@ -5,6 +5,7 @@ ghost use Rattle.disk_model.specs.Changes.{Every};
 ghost use Rattle.disk_model.specs.Moments.{Leaves, Now};
 ghost use Rattle.ftn_addr.specs.Address.{address};
 ghost use Rattle.ftn_addr.specs.Counts.{Increased};
+ghost use Rattle.node_store.specs.Aside.{SameAside};
 ghost use Rattle.node_store.specs.Clearing.{ClearsMarks};
 ghost use Rattle.node_store.specs.Finding.{IsNewMemory, IsOpened, disk_left};
 ghost use Rattle.node_store.specs.Keeping.{AreReceipts, given_in};
@@ -149,6 +150,10 @@ impl<D: Yard> NodeStore<D> {
         // Outside nothing changes but that marks of this node go whose paths notes held, and no note goes before its mark.
         ensures marks_stop { D.tells ≡ true → Leaves D.moment D.images (ClearsMarks (mark_text (address home.now))) disk (disk_left result) }
         ensures marks_read { D.tells ≡ true → ClearsMarks (mark_text (address home.now)) (D.content disk) (D.content (disk_left result)) }
+
+        // Own files that aren't the store's, as settings and a nodelist, are the same.
+        ensures aside_stop { D.tells ≡ true → Leaves D.moment D.images SameAside disk (disk_left result) }
+        ensures aside_read { D.tells ≡ true → SameAside (D.content disk) (D.content (disk_left result)) }
 
         ensures later { D.fault_count disk ≤ D.fault_count (disk_left result) }
         ensures calm { OnOk result (D.fault_count (disk_left result) ≡ D.fault_count disk) }

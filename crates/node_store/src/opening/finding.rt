@@ -4,6 +4,7 @@ ghost use Rattle.busy_marks.specs.Text.{mark_text};
 ghost use Rattle.disk_model.specs.Changes.{Every, Follows};
 ghost use Rattle.disk_model.specs.Moments.{Leaves, Now};
 ghost use Rattle.ftn_addr.specs.Address.{address};
+ghost use Rattle.node_store.specs.Aside.{SameAside};
 ghost use Rattle.node_store.specs.Clearing.{ClearsMarks, HasNoNote, Restores};
 ghost use Rattle.node_store.specs.Finding.{IsFound};
 ghost use Rattle.node_store.specs.Keeping.{HasReason};
@@ -73,6 +74,8 @@ pub(crate) fn find<D: Yard>(
     ensures read { Follows Recovers (D.files disk.old) (D.files disk.new) }
     ensures marks_stop { D.tells ≡ true → Leaves D.moment D.images (ClearsMarks (mark_text (address home.now))) disk.old disk.new }
     ensures marks_read { Follows (ClearsMarks (mark_text (address home.now))) (D.files disk.old) (D.files disk.new) }
+    ensures aside_stop { D.tells ≡ true → Leaves D.moment D.images SameAside disk.old disk.new }
+    ensures aside_read { Follows SameAside (D.files disk.old) (D.files disk.new) }
     ensures reason { HasReason (D.fault_count disk.old) (D.fault_count disk.new) result }
 {
     let text = match mark_text(alloc, home) {

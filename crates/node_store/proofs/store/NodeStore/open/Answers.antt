@@ -2,10 +2,12 @@ use Rattle.std.proofs.Common.{refl, sym, subst}
 use Rattle.busy_marks.specs.Text.{mark_text}
 use Rattle.disk_model.specs.Moments.{Leaves}
 use Rattle.ftn_addr.specs.Address.{address}
+use Rattle.node_store.specs.Aside.{SameAside}
 use Rattle.node_store.specs.Clearing.{ClearsMarks}
 use Rattle.node_store.specs.Finding.{IsOpened}
 use Rattle.node_store.specs.Opening.{Recovers}
 use Rattle.node_store.specs.Stored.{Memory}
+use Rattle.node_store.proofs.AsideFiles.{content_aside, none_aside}
 use Rattle.node_store.proofs.ClearedNotes.{clears-same}
 use Rattle.node_store.proofs.ClearedStore.{content_clears, none_marks, none_stop}
 use Rattle.node_store.proofs.OpenSound.{content_recovers, opened_told}
@@ -53,3 +55,22 @@ returns-in-Err-clause-marks_read g c = λ t. (clears-same (mark_text (address c.
 
 pub returns-in-Err-clause-read : goal.returns-in-Err-clause-read
 returns-in-Err-clause-read g c = λ t. recovers-refl (g.D.Disk.content c.args.disk)
+
+pub returns-in-Ok-find-clause-aside_read : goal.returns-in-Ok-find-clause-aside_read
+returns-in-Ok-find-clause-aside_read g c = λ t.
+    subst (λ (d : g.row.D.Denot). SameAside (g.D.Disk.content c.args.disk) (g.D.Disk.content d)) (sym c.of_found.ensures.disk)
+    (content_aside g.D.Disk.files g.D.Disk.tells g.D.Disk.content g.met.D.Disk.reads g.met.D.Disk.told c.args.disk c.find.new.disk c.find.ensures.aside_read t)
+
+pub returns-in-Err-find-clause-aside_read : goal.returns-in-Err-find-clause-aside_read
+returns-in-Err-find-clause-aside_read g c = λ t.
+    content_aside g.D.Disk.files g.D.Disk.tells g.D.Disk.content g.met.D.Disk.reads g.met.D.Disk.told c.args.disk c.find.new.disk c.find.ensures.aside_read t
+
+pub returns-in-Ok-find-clause-aside_stop : goal.returns-in-Ok-find-clause-aside_stop
+returns-in-Ok-find-clause-aside_stop g c = λ t.
+    subst (λ (d : g.row.D.Denot). Leaves g.D.Disk.moment g.D.Disk.images SameAside c.args.disk d) (sym c.of_found.ensures.disk) (c.find.ensures.aside_stop t)
+
+pub returns-in-Err-clause-aside_stop : goal.returns-in-Err-clause-aside_stop
+returns-in-Err-clause-aside_stop g c = λ t. none_aside g.D.Disk.moment g.D.Disk.images c.args.disk
+
+pub returns-in-Err-clause-aside_read : goal.returns-in-Err-clause-aside_read
+returns-in-Err-clause-aside_read g c = λ t name other. refl
