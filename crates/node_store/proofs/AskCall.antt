@@ -1,18 +1,19 @@
 -- Calls that only ask the disk: nothing that is kept changes, and where the disk failed the store is broken.
-use Rattle.std.proofs.Common.{◌≡◌, ℕ, ◌≤◌, List, length, take, drop, Option, Some, None, Result, Bool, true, refl, sym, ◌∙◌, ap, subst, arith}
+use Rattle.std.proofs.Common.{◌≡◌, ℕ, ◌≤◌, List, length, take, drop, Option, Some, None, Result, Bool, true, false, refl, sym, ◌∙◌, ap, subst, arith}
 use Rattle.std.specs.Prelude.{IsSome, option_map}
 use Rattle.disk_model.specs.Answers as D
 use Rattle.disk_model.specs.World as W
 use Rattle.disk_model.specs.World.{World}
-use Rattle.disk_model.specs.Changes.{Same}
+use Rattle.disk_model.specs.Changes.{Every, Same}
+use Rattle.disk_model.specs.Folders.{ListsFolder}
 use Rattle.disk_model.specs.Moments.{Steps, Leaves}
 use Rattle.disk_model.proofs.MomentLemmas.{started, goes_on}
 use Rattle.ftn_addr.specs.Counts.{Increased}
 use Rattle.node_model.specs.declared.store.StoreFault.{StoreFault}
-use Rattle.node_model.specs.StoreStates.{shelf_of}
+use Rattle.node_model.specs.StoreStates.{IfTold, shelf_of}
 use Rattle.node_model.specs.Stores.{IsShelf}
 use Rattle.node_model.proofs.Lists.{none_some, off, some_inj}
-use Rattle.node_store.specs.Asking.{FailsDisk, AskedSo, Asks, stat_of}
+use Rattle.node_store.specs.Asking.{FailsDisk, AskedSo, Asks, ListsOutside, stat_of}
 use Rattle.node_store.specs.Names.{take_number}
 use Rattle.node_store.specs.Stored.{Memory, IsKept, HasBodies, IsSound, stored_in, state_of}
 use Rattle.node_store.specs.Worlds.{bytes_of, if_take, out_file_of, shelf_in, takes_in}
@@ -26,6 +27,12 @@ use Rattle.node_store.proofs.ReadCall.{same_state}
 pub looked : (o : Option W.OutFile) → option_map D.stat_of o ≡ option_map stat_of (option_map out_file_of o)
 looked None = refl
 looked (Some f) = refl
+
+-- the names in a folder
+pub lists_told : {D : Type 0} (files : D → World → Type 0) (tells : Bool) (content : D → World) → (tells ≡ true → (d : D) → files d (content d)) → (disk : D) (faults : ℕ) (m : Memory) (folder : List ℕ) (names : List (List ℕ))
+    → Every (files disk) (λ w. ListsFolder folder w.outside names) → IfTold (state_of tells (content disk) faults m).content (λ s. ListsOutside folder s.outside names)
+lists_told files true content told disk faults m folder names lists = record { files = (content disk).outside; are = refl; lists = lists (content disk) (told refl disk) }
+lists_told files false content told disk faults m folder names lists = tt
 
 pub own_take : (w : World) (own : List ℕ) → IsSome (take_number own) → takes_in w own ≡ w.own own
 own_take w own some = go (take_number own) some

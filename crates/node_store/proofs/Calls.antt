@@ -34,6 +34,14 @@ module _ {D : Type 0} (tells : Bool) (content : D → World) (faults : D → ℕ
       let now = kept_opens tells t told m folds w (kept w image) in
       opens_to (λ d. d ≡ shelf_of (stored_in told m)) w (shelf_in w m.books.folding.state) now.0 now.1 o opens
 
+  -- and it is what the store keeps
+  pub now_told : (disk : D) (m : Memory) → fold_of m.books.payloads ≡ Some m.books.folding.state → Every (Now moment images disk) (IsKept tells (content disk) m)
+      → (o : Option Shelf) → left_of tells (images disk) (moment disk) o → OpensShelf (IsShelf (state_of tells (content disk) (faults disk) m).content) o
+  now_told disk m folds kept o left =
+      opens_weaker (λ d. d ≡ shelf_of (stored_in (content disk) m)) (IsShelf (state_of tells (content disk) (faults disk) m).content)
+      (λ d is. is_told tells left.0 (content disk) (faults disk) m d is) o
+      (settled disk (content disk) m folds kept o left)
+
   -- a call without a call of the disk, after which the same is told
   pub still_call : (disk : D) (m m' : Memory) (call : StoreCall) (answer : StoreAnswer)
       → fold_of m.books.payloads ≡ Some m.books.folding.state → (m'.broken ≡ None → Every (Now moment images disk) (IsKept tells (content disk) m))

@@ -10,7 +10,7 @@ use Rattle.ledger_file.specs.Ledger.{ledger_name, new_name}
 use Rattle.node_model.proofs.Lists.{and_both, and_true, off}
 use Rattle.node_store.specs.declared.names.MarkKind.{MarkKind}
 use Rattle.node_store.specs.declared.names.MarkKind.TheVariants.{Busy, Call}
-use Rattle.node_store.specs.Names.{HasPlace, eight_digits, four_digits, hex_value, in_name, is_hex, is_mark_ending, is_note, is_one, is_take_ending, mark_name, out_name, place_digits, take_number}
+use Rattle.node_store.specs.Names.{HasPlace, eight_digits, four_digits, from_one, hex_value, in_name, is_hex, is_mark_ending, is_note, is_one, is_take_ending, mark_name, out_name, place_digits, take_number}
 use Rattle.node_store.specs.Strays.{nodelist_new}
 use Rattle.node_store.specs.Worlds.{takes_in}
 use Rattle.node_store.proofs.HeldTakes.{other_takes}
@@ -27,12 +27,12 @@ unfolding take_number
 note_no_take name is = go (length name == 30) refl
   where
     go : (b : Bool) → (length name == 30) ≡ b
-        → (if length name == 30 && (is_one (take 1 name) (codes "t") && (is_one (take 1 (drop 9 name)) (codes "-") && (list_all is_hex (take 16 (drop 10 name)) && is_take_ending (take 4 (drop 26 name))))) then hex_value (take 8 (drop 1 name)) else None) ≡ None
+        → (if length name == 30 && (is_one (take 1 name) (codes "t") && (is_one (take 1 (drop 9 name)) (codes "-") && (list_all is_hex (take 16 (drop 10 name)) && is_take_ending (take 4 (drop 26 name))))) then from_one (hex_value (take 8 (drop 1 name))) else None) ≡ None
     go true e =
         let long = note_long name is in
         let other = (Decides-eqb (length name) 30).0 e in
         absurd (omega (arith, long, other))
-    go false e = ap (λ (b : Bool). if b && (is_one (take 1 name) (codes "t") && (is_one (take 1 (drop 9 name)) (codes "-") && (list_all is_hex (take 16 (drop 10 name)) && is_take_ending (take 4 (drop 26 name))))) then hex_value (take 8 (drop 1 name)) else None) e
+    go false e = ap (λ (b : Bool). if b && (is_one (take 1 name) (codes "t") && (is_one (take 1 (drop 9 name)) (codes "-") && (list_all is_hex (take 16 (drop 10 name)) && is_take_ending (take 4 (drop 26 name))))) then from_one (hex_value (take 8 (drop 1 name))) else None) e
 
 pub in_no_note : (n : ℕ) → is_note (in_name n) ≡ false
 unfolding is_note in_name eight_digits

@@ -115,9 +115,14 @@ abbrev pub is_take_form : List ℕ → Bool
 is_take_form name =
     length name == 30 && (is_one (take 1 name) (codes "t") && (is_one (take 1 (drop 9 name)) (codes "-") && (list_all is_hex (take 16 (drop 10 name)) && is_take_ending (take 4 (drop 26 name)))))
 
+-- takes are numbered from 1 on
+abbrev pub from_one : Option ℕ → Option ℕ
+from_one None = None
+from_one (Some number) = if number == 0 then None else Some number
+
 -- the number of the take whose name this is, if it is a take's
 unfoldable pub take_number : List ℕ → Option ℕ
-take_number name = if is_take_form name then hex_value (take 8 (drop 1 name)) else None
+take_number name = if is_take_form name then from_one (hex_value (take 8 (drop 1 name))) else None
 
 -- the endings of marks
 abbrev pub is_mark_ending : List ℕ → Bool

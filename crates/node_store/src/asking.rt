@@ -5,7 +5,7 @@ ghost use Rattle.disk_model.specs.Changes.{Every, Same};
 ghost use Rattle.disk_model.specs.Folders.{ListsFolder};
 ghost use Rattle.disk_model.specs.Moments.{Leaves};
 ghost use Rattle.node_model.specs.StoreStates.{IfTold};
-ghost use Rattle.node_store.specs.Asking.{Asks, stat_of};
+ghost use Rattle.node_store.specs.Asking.{Asks, ListsOutside, stat_of};
 ghost use Rattle.node_store.specs.Names.{take_number};
 ghost use Rattle.node_store.specs.Stored.{stand_of};
 ghost use Rattle.node_store.specs.Worlds.{bytes_of};
@@ -53,6 +53,7 @@ impl<D: Yard> NodeStore<D> {
     pub fn names(&mut self, folder: &Bytes) -> Result<Vec<Bytes>, StoreFault>
         requires { self.old.memory.broken ≡ None }
         ensures told { IfOk result (λ names. Every (D.files self.old.disk) (λ w. ListsFolder folder.now.list w.outside (map (λ name. name.list) names.items))) }
+        ensures listed { IfOk result (λ names. IfTold (stand_of D.tells D.content D.fault_count D.moment D.images self.old).state.content (λ s. ListsOutside folder.now.list s.outside (map (λ name. name.list) names.items))) }
         ensures asks { Asks true result (stand_of D.tells D.content D.fault_count D.moment D.images self.old) (stand_of D.tells D.content D.fault_count D.moment D.images self.new) }
         ensures takes { self.new.takes ≡ self.old.takes }
     {

@@ -1,5 +1,5 @@
 //! What holds of every name, of every ledger, and of every world.
-ghost use Rattle.std.specs.Prelude.{◌≡◌, ◌≢◌, ◌<◌, ◌^◌, ℕ, List, Some};
+ghost use Rattle.std.specs.Prelude.{◌≡◌, ◌≢◌, ◌<◌, ◌≤◌, ◌^◌, ℕ, List, Some};
 ghost use Rattle.ftn_addr.specs.Address.{Address};
 ghost use Rattle.ledger_file.specs.Ledger.{ledger_name, new_name};
 ghost use Rattle.disk_model.specs.World.{World};
@@ -32,9 +32,9 @@ pub fn names_are_apart()
     ensures no_queued_new_ledger { (n : ℕ) → out_name n ≢ new_name }
 {}
 
-/// A take's name is read as its number.
+/// A take's name is read as its number. There is no take 0.
 pub fn take_is_read()
-    ensures { (take : ℕ) (a : Address) (kind : KindOfTake) → take < 2 ^ 32 → HasPlace a → take_number (take_name take a kind) ≡ Some take }
+    ensures { (take : ℕ) (a : Address) (kind : KindOfTake) → 1 ≤ take → take < 2 ^ 32 → HasPlace a → take_number (take_name take a kind) ≡ Some take }
 {}
 
 /// Whatever a ledger's payloads are, no two entries that they leave have one number, and no two receipts.

@@ -215,7 +215,7 @@ fn is_take_form(name: &[u8]) -> bool
     is_ending(&name[26..30])
 }
 
-/// The number of the take whose name this is, if it is a take's.
+/// The number of the take whose name this is, from 1 on, if it is a take's.
 #[tactic(auto, unfolding(crate::specs::Names::take_number))]
 pub fn take_number(name: &Name) -> Option<u32>
     ensures { result ≡ take_number name.now }
@@ -224,7 +224,10 @@ pub fn take_number(name: &Name) -> Option<u32>
     if !is_take_form(bytes) {
         return None;
     }
-    value(&bytes[1..9])
+    match value(&bytes[1..9]) {
+        Some(0) => None,
+        number => number,
+    }
 }
 
 // Whether those are the endings of marks.

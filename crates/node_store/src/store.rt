@@ -1,15 +1,16 @@
 //! The store on a disk, with what it has in memory.
-ghost use Rattle.std.specs.Prelude.{◌≡◌, ◌≤◌, length, option_map, None, true};
+ghost use Rattle.std.specs.Prelude.{◌≡◌, ◌≤◌, length, option_map, None, Option, true};
 ghost use Rattle.ftn_addr.specs.Address.{address};
 ghost use Rattle.ftn_addr.specs.Key.{key_of as key_in};
 ghost use Rattle.node_model.specs.Durable.{mark_of as mark_in};
 ghost use Rattle.node_model.specs.Node.{Settings};
 ghost use Rattle.node_model.specs.StoreWords.{part_at};
 ghost use Rattle.node_model.specs.Stocks.{known_in};
-ghost use Rattle.node_model.specs.Stores.{By_seat, IsOpen, Part_put, Release, Reserve, StoreKept, Well, well_answer};
+ghost use Rattle.node_model.specs.Lists.{Each};
+ghost use Rattle.node_model.specs.Stores.{By_seat, IsOpen, IsShelf, OpensShelf, Part_put, Release, Reserve, StoreKept, Well, well_answer};
 ghost use Rattle.disk_model.specs.Changes.{Every};
 ghost use Rattle.disk_model.specs.Moments.{Now};
-ghost use Rattle.node_model.specs.StoreStates.{shelf_of};
+ghost use Rattle.node_model.specs.StoreStates.{Shelf, shelf_of};
 ghost use Rattle.node_store.specs.Finding.{IsNewMemory};
 ghost use Rattle.node_store.specs.Sounds.{KeepsSound};
 ghost use Rattle.node_store.specs.Stored.{stand_of, stored_in};
@@ -105,6 +106,22 @@ impl<D: Disk> NodeStore<D> {
         requires { self.now.memory.broken ≡ None }
         ensures read { D.tells ≡ true → OpensAs (D.content self.now.disk) (shelf_of (stored_in (D.content self.now.disk) self.now.memory)) }
         ensures stopped { D.tells ≡ true → Every (Now D.moment D.images self.now.disk) (λ w. OpensAs w (shelf_of (stored_in (D.content self.now.disk) self.now.memory))) }
+    {
+        let _seat = self.seat;
+    }
+
+    /// What a stop now may leave of a whole store opens to what it tells. It does nothing.
+    pub fn now_is_told(&self)
+        requires { self.now.memory.broken ≡ None }
+        ensures { (d : Option Shelf) → (stand_of D.tells D.content D.fault_count D.moment D.images self.now).images (stand_of D.tells D.content D.fault_count D.moment D.images self.now).moment d → OpensShelf (IsShelf (stand_of D.tells D.content D.fault_count D.moment D.images self.now).state.content) d }
+    {
+        let _seat = self.seat;
+    }
+
+    /// No number of a queued or a staged file is above the last that was drawn for staging. It does nothing.
+    pub fn numbers_are_drawn(&self)
+        ensures queued { Each (λ entry. entry.number ≤ (stand_of D.tells D.content D.fault_count D.moment D.images self.now).state.staged) (stand_of D.tells D.content D.fault_count D.moment D.images self.now).state.stock.state.queue }
+        ensures staged { Each (λ file. file.number ≤ (stand_of D.tells D.content D.fault_count D.moment D.images self.now).state.staged) (stand_of D.tells D.content D.fault_count D.moment D.images self.now).state.stock.staged }
     {
         let _seat = self.seat;
     }

@@ -37,6 +37,13 @@ fn a_take_is_named_by_its_number_for_whom_and_what_it_is(rt: HostRuntime) -> Res
 }
 
 #[test]
+fn there_is_no_take_0(rt: HostRuntime) -> Result<(), Fail> {
+    let name = Name::new(b"t00000000-0002139c04120007.clo").expect(&rt, "a name");
+    assert_eq!(rt; take_number(&name), None);
+    Ok(())
+}
+
+#[test]
 fn names_are_read_as_they_are_written(rt: HostRuntime) -> Result<(), Fail> {
     assert_eq!(rt; received_number(&in_file(42)), Some(42));
     assert_eq!(rt; queued_number(&out_file(1)), Some(1));

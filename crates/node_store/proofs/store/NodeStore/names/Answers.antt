@@ -1,9 +1,10 @@
 use Rattle.std.proofs.Common.{◌≡◌, ℕ, None, Some, Ok, Err, map, refl, sym, ◌∙◌, ap, subst}
 use Rattle.std.specs.Prelude.{true}
 use Rattle.node_model.specs.declared.store.StoreFault.TheVariants.{Disk, NoMemory}
-use Rattle.node_store.specs.Asking.{Asks}
+use Rattle.node_model.specs.StoreStates.{IfTold}
+use Rattle.node_store.specs.Asking.{Asks, ListsOutside}
 use Rattle.node_store.specs.Stored.{Holding, Memory, stand_of}
-use Rattle.node_store.proofs.AskCall.{once, asks, asks_unchanged, asks_failed, asks_sound, asks_broken}
+use Rattle.node_store.proofs.AskCall.{lists_told, once, asks, asks_unchanged, asks_failed, asks_sound, asks_broken}
 use Rattle.node_store.proofs.ReadCall.{read_again}
 use Rattle.disk_model.specs.Changes.{Every}
 use Rattle.disk_model.specs.Folders.{ListsFolder}
@@ -69,3 +70,10 @@ returns-in-Err-NoMemory-clause-asks g c =
 pub returns-in-Ok-clause-told : goal.returns-in-Ok-clause-told
 returns-in-Ok-clause-told g c =
     subst (λ (x : Holding g.row.D.Denot). Every (g.D.Disk.files x.disk) (λ w. ListsFolder c.args.folder.now.list w.outside (map (λ name. name.list) c.in-Ok.names.items))) c.self.view_is c.in-Ok.ensures.told
+
+pub returns-in-Ok-clause-listed : goal.returns-in-Ok-clause-listed
+returns-in-Ok-clause-listed g c =
+    let s = c.self.inside in
+    let m : Memory = record { books = s.books; given = s.given.items; parts = s.parts.items; staged = s.staged.items; drawn = s.drawn; last_staged = s.last_staged; seat = s.seat; last_given = s.last_given; fulls = s.fulls; broken = s.broken } in
+    subst (λ (x : Holding g.row.D.Denot). IfTold (stand_of g.D.Disk.tells g.D.Disk.content g.D.Disk.fault_count g.D.Disk.moment g.D.Disk.images x).state.content (λ a. ListsOutside c.args.folder.now.list a.outside (map (λ name. name.list) c.in-Ok.names.items))) c.self.view_is
+    (lists_told g.D.Disk.files g.D.Disk.tells g.D.Disk.content g.met.D.Disk.told s.disk (g.D.Disk.fault_count s.disk) m c.args.folder.now.list (map (λ name. name.list) c.in-Ok.names.items) c.in-Ok.ensures.told)
