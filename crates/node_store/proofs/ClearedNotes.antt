@@ -1,11 +1,11 @@
 -- A note is cleared: what a read gives, and what a stop leaves.
-use Rattle.std.proofs.Common.{◌≡◌, ◌≢◌, ◌⊎◌, inl, inr, ⊎_elim, ℕ, ◌≤◌, List, [], ◌∷◌, Option, Some, None, Result, Ok, Err, Bool, true, false, refl, sym, ◌∙◌, ap, subst, arith}
+use Rattle.std.proofs.Common.{◌≡◌, ◌≢◌, ◌⊎◌, inl, inr, ⊎_elim, ℕ, List, [], ◌∷◌, Option, Some, None, Result, Bool, true, false, refl, sym, ◌∙◌, ap, subst, arith}
 use Rattle.std.specs.Prelude.{OnOk, option_map, unwrap_or}
 use Rattle.std.specs.Str.{bytes_eq}
 use Rattle.std.proofs.lemmas.Slice.Eq.{bytes_eq-Decides}
 use Rattle.busy_marks.specs.Undoing.{Both, ClearsAs, IsUndone, MarkAtLeast, MarkGoes, MayUndo, Neither, NoteGoes, Undoes, UndoesInPart, UndoesSo, Undone, noted_path}
 use Rattle.disk_model.specs.Answers.{Removes, UnmarkOf}
-use Rattle.disk_model.specs.Changes.{Every, Follows, IsFree, Puts, Same}
+use Rattle.disk_model.specs.Changes.{Every, Follows, IsFree, Same}
 use Rattle.disk_model.specs.Moments.{Leaves, Now, Steps}
 use Rattle.disk_model.specs.World.{Files, OutFile, World}
 use Rattle.disk_model.specs.declared.answers.Hit.{Hit}

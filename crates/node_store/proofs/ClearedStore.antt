@@ -1,7 +1,6 @@
 -- Notes of marks were cleared: the disk of a store goes on opening to the same.
-use Rattle.std.proofs.Common.{◌≡◌, ◌⊎◌, inl, inr, ℕ, ◌+◌, ◌<◌, ◌≤◌, List, [], ◌∷◌, length, drop, get_or, map, Option, Some, None, Bool, true, false, refl, sym, ◌∙◌, ap, subst, arith}
+use Rattle.std.proofs.Common.{◌≡◌, ◌⊎◌, inl, inr, ℕ, ◌+◌, ◌<◌, ◌≤◌, List, ◌∷◌, length, drop, get_or, Option, Some, None, Bool, true, false, refl, sym, ◌∙◌, ap, subst, arith}
 use Rattle.std.specs.Prelude.{option_map}
-use Rattle.std.specs.List.{AllByRecursion}
 use Rattle.std.proofs.lemmas.List.{at_drop_all, at_drop_more}
 use Rattle.disk_model.specs.Changes.{Every, Follows, IsFree, Same, SameAt, Stands}
 use Rattle.disk_model.specs.Folders.{ListsFiles}
@@ -9,23 +8,22 @@ use Rattle.disk_model.specs.Moments.{Leaves, Now}
 use Rattle.disk_model.specs.World as W
 use Rattle.disk_model.specs.World.{World}
 use Rattle.disk_model.proofs.MomentLemmas.{runs_on, started, weakened}
-use Rattle.ledger_file.specs.Ledger.{LedgerIs, ledger_name}
+use Rattle.ledger_file.specs.Ledger.{ledger_name}
 use Rattle.ledger_rec.specs.Fold.{State}
 use Rattle.ledger_rec.specs.Items.{Entry, PartMark, Receipt}
 use Rattle.node_model.specs.Lists.{Member}
 use Rattle.node_model.specs.StoreStates.{Shelf}
-use Rattle.node_model.proofs.Lists.{none_some, off}
+use Rattle.node_model.proofs.Lists.{none_some}
 use Rattle.node_store.specs.Books.{Books}
 use Rattle.node_store.specs.Clearing.{ClearsMarks, ClearsNotes, HasNoNote, HasNotesAmong, IsCleared, IsDropped, Restores, SameButNotes, SameOut}
 use Rattle.node_store.specs.Finding.{IsFound}
 use Rattle.node_store.specs.Keeping.{Beside}
 use Rattle.node_store.specs.Names.{in_name, is_note, out_name, take_number}
 use Rattle.node_store.specs.Opening.{IsTidied, Recovers}
-use Rattle.node_store.specs.Standing.{StandSo}
-use Rattle.node_store.specs.Strays.{HasNoStray, IsStray}
+use Rattle.node_store.specs.Strays.{HasNoStray}
 use Rattle.node_store.specs.Takes.{AreStanding, Takes, own_names}
 use Rattle.node_store.specs.Tending.{HasCutParts, HasSameFront, IsTended, Mirrors}
-use Rattle.node_store.specs.Worlds.{HasLength, LedgerOf, OpensAs, out_file_of, shelf_in, takes_in}
+use Rattle.node_store.specs.Worlds.{HasLength, LedgerOf, out_file_of, shelf_in, takes_in}
 use Rattle.node_store.proofs.Alike.{all_by, takes_alike}
 use Rattle.node_store.proofs.ClearedNotes.{clears-same, clears-then, marks-then}
 use Rattle.node_store.proofs.ListedItems.{contained}

@@ -1,10 +1,9 @@
 -- The name of a mark's note is none of the other own files'.
-use Rattle.std.proofs.Common.{◌≡◌, ◌≢◌, ℕ, List, length, Option, Some, None, Bool, true, false, ◌&&◌, ◌==◌, refl, sym, ◌∙◌, ap, arith, take, drop}
+use Rattle.std.proofs.Common.{◌≡◌, ◌≢◌, ℕ, List, length, None, Bool, true, false, ◌&&◌, ◌==◌, refl, sym, ◌∙◌, ap, arith, take, drop}
 use Rattle.std.specs.Prelude.{codes, if◌then◌else◌}
 use Rattle.std.specs.List.{list_all}
 use Rattle.std.proofs.lemmas.Bool.Decides.{Decides-eqb}
 use Rattle.ftn_addr.specs.Address.{Address}
-use Rattle.disk_model.specs.Changes.{Only}
 use Rattle.disk_model.specs.World.{World}
 use Rattle.ledger_file.specs.Ledger.{ledger_name, new_name}
 use Rattle.node_model.proofs.Lists.{and_both, and_true, off}

@@ -1,12 +1,12 @@
 -- Worlds that differ in no own file of a store, nor outside, open to the same.
-use Rattle.std.proofs.Common.{◌≡◌, ◌⊎◌, ℕ, List, Option, inl, inr, refl, sym, ◌∙◌, ap, subst}
+use Rattle.std.proofs.Common.{◌≡◌, ℕ, List, Option, inl, inr, refl, sym, ◌∙◌, ap, subst}
 use Rattle.std.specs.Prelude.{option_map}
 use Rattle.disk_model.specs.World as W
 use Rattle.disk_model.specs.World.{World}
 use Rattle.ledger_rec.specs.Fold.{State}
 use Rattle.node_model.specs.StoreStates.{Shelf}
 use Rattle.node_store.specs.Opening.{IsTidied, Recovers}
-use Rattle.node_store.specs.Worlds.{LedgerOf, OpensAs, out_file_of, shelf_in, takes_in}
+use Rattle.node_store.specs.Worlds.{LedgerOf, out_file_of, shelf_in, takes_in}
 use Rattle.node_store.proofs.TakeWorld.{IsBeside, files_stay, ledger_stays, shelf_same}
 
 module _ (d c : World) (beside : IsBeside d c) (takes : takes_in c ≡ takes_in d) (outside : c.outside ≡ d.outside) where

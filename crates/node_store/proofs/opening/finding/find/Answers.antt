@@ -3,8 +3,7 @@ use Rattle.busy_marks.specs.Text.{mark_text}
 use Rattle.disk_model.specs.Changes.{Follows}
 use Rattle.disk_model.specs.Moments.{Leaves}
 use Rattle.ftn_addr.specs.Address.{address}
-use Rattle.node_store.specs.Clearing.{ClearsMarks, SameOut}
-use Rattle.node_store.specs.Keeping.{Beside}
+use Rattle.node_store.specs.Clearing.{ClearsMarks}
 use Rattle.node_store.proofs.AsideFiles.{all_aside, all_aside_read, look_aside, look_aside_read, none_aside, none_aside_read}
 use Rattle.node_store.proofs.ClearedStore.{all_read, all_stop, found_then, look_marks, look_marks_read, look_read, look_stop, marks_read, marks_stop, none_marks, none_marks_read, none_read, none_stop}
 use Rattle.node_store.proofs.opening.finding.find.Goals as goal

@@ -2,7 +2,7 @@ use Rattle.std.proofs.Common.{ℕ, ◌≤◌, subst}
 use Rattle.node_model.specs.Items.{EntryOf}
 use Rattle.node_model.specs.Lists.{Each}
 use Rattle.node_model.specs.Stocks.{StagedOf}
-use Rattle.node_store.specs.Stored.{Holding, Memory, sizes_in, stand_of}
+use Rattle.node_store.specs.Stored.{Holding, sizes_in, stand_of}
 use Rattle.node_store.proofs.DrawnNumbers.{queued_drawn, staged_drawn}
 use Rattle.node_store.proofs.store.NodeStore.numbers_are_drawn.Goals as goal
 
