@@ -13,6 +13,7 @@
 //! Left out: the line of a status, which is every command's.
 #![tactic(auto)]
 
+mod counts;
 mod listing;
 mod taking;
 #[cfg(test)]

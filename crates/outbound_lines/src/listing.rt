@@ -8,6 +8,7 @@ ghost use Rattle.ftn_addr.specs.Writing.{canonical};
 ghost use Rattle.ledger_rec.specs.Items.{entry, part_mark};
 ghost use Rattle.outbound_lines.specs.Listing.{counts_line, entry_line, flavour_word, list_text, live_line, part_line};
 
+use crate::counts::push_count;
 use binkp_args::escape;
 use ftn_addr::{Addr, Bytes, NoMemory, write_addr};
 use ledger_rec::{Folded, MarkItem, QueueItem};
@@ -115,22 +116,14 @@ fn live_count(queue: &[QueueItem]) -> usize
     queue.iter().filter(|item| item.live).count()
 }
 
-// Adds a word and how many there are.
-fn push_count(alloc: Global, word: &[u8], count: usize, lines: &mut Bytes) -> Result<(), NoMemory>
-    ensures { OnOk result (lines.new.list ≡ lines.old.list ++ word.now ++ decimal count) }
-{
-    lines.push_slice(word)?;
-    lines.push_number(alloc, count as u64)
-}
-
 // `live L parts P received R refused F`
 fn push_counts(alloc: Global, folded: &Folded, lines: &mut Bytes) -> Result<(), NoMemory>
     ensures { OnOk result (lines.new.list ≡ lines.old.list ++ counts_line folded.now.state) }
 {
-    push_count(alloc, b"live ", live_count(folded.queue()), lines)?;
-    push_count(alloc, b" parts ", folded.marks().len(), lines)?;
-    push_count(alloc, b" received ", folded.inbox().len(), lines)?;
-    push_count(alloc, b" refused ", folded.refused().len(), lines)?;
+    push_count(alloc, b"live ", live_count(folded.queue()) as u64, lines)?;
+    push_count(alloc, b" parts ", folded.marks().len() as u64, lines)?;
+    push_count(alloc, b" received ", folded.inbox().len() as u64, lines)?;
+    push_count(alloc, b" refused ", folded.refused().len() as u64, lines)?;
     lines.push_slice(b"\n")
 }
 
