@@ -13,6 +13,7 @@ use Rattle.mail_conf.specs.declared.cause.ConfCause.TheVariants as C
 use Rattle.mail_conf.specs.declared.cause.ConfFault.{ConfFault}
 use Rattle.std.specs.Str.Lines.{lines}
 use Rattle.ftn_addr.specs.Counts.{Increased}
+use Rattle.node_store.specs.Aside.{SameAside}
 use Rattle.node_store.specs.Opening.{IsRefused, Recovers}
 use Rattle.node_store.specs.Stored.{Holding}
 use Rattle.node_store.specs.Worlds.{OpensAs}
@@ -103,11 +104,17 @@ module _ {D : Type 0} (tells : Bool) (content : D → World) (faults : D → ℕ
   pub leaves_before : (old mid new : D) → OnlyRead tells content faults moment images old mid → Leaves moment images Recovers mid new → Leaves moment images Recovers old new
   leaves_before old mid new only run = runs_on moment images Same Recovers Recovers old mid new only.stop run (λ d c now same. still_opens d c same) (λ d e c now left same recovers. subst (λ (w : World). Recovers w c) same recovers)
 
+  pub aside_before : (old mid new : D) → OnlyRead tells content faults moment images old mid → Leaves moment images SameAside mid new → Leaves moment images SameAside old new
+  aside_before old mid new only run = runs_on moment images Same SameAside SameAside old mid new only.stop run (λ d c now same name other. ap (λ (w : World). w.own name) same) (λ d e c now left same aside. subst (λ (w : World). SameAside w c) same aside)
+
   pub opened_before : (old mid : D) (opened : Holding D) → OnlyRead tells content faults moment images old mid → faults mid ≡ faults old → HasOpened tells content faults moment images mid opened → HasOpened tells content faults moment images old opened
   opened_before old mid opened only calm h = record {
     memory = h.memory;
     told = λ telling. subst (λ (w : World). IsOpened w (content opened.disk) opened.memory) (only.same telling) (h.told telling);
     stop = λ telling. leaves_before old mid opened.disk only (h.stop telling);
+    read = λ telling. subst (λ (w : World). Recovers w (content opened.disk)) (only.same telling) (h.read telling);
+    aside_stop = λ telling. aside_before old mid opened.disk only (h.aside_stop telling);
+    aside_read = λ telling. subst (λ (w : World). SameAside w (content opened.disk)) (only.same telling) (h.aside_read telling);
     calm = h.calm ∙ calm;
   }
 
@@ -122,6 +129,8 @@ module _ {D : Type 0} (tells : Bool) (content : D → World) (faults : D → ℕ
     failed = λ is. subst (λ (n : ℕ). Increased n (faults new)) calm (h.failed is);
     stop = λ telling. leaves_before old mid new only (h.stop telling);
     read = λ telling. subst (λ (w : World). Recovers w (content new)) (only.same telling) (h.read telling);
+    aside_stop = λ telling. aside_before old mid new only (h.aside_stop telling);
+    aside_read = λ telling. subst (λ (w : World). SameAside w (content new)) (only.same telling) (h.aside_read telling);
   }
 
 -- an index that couldn't be read behind a read that failed nowhere

@@ -2,12 +2,14 @@
 ghost use Rattle.std.specs.Prelude.{◌≡◌, false, true};
 ghost use Rattle.disk_model.specs.Changes.{Every};
 ghost use Rattle.disk_model.specs.Moments.{Now};
-ghost use Rattle.node_store.specs.Opening.{IsReady};
+ghost use Rattle.node_store.specs.Opening.{IsReady, Recovers};
+ghost use Rattle.nodelist_files.specs.Compiling.{OldPair};
 ghost use Rattle.command_base.specs.Causes.{DiskCause};
 ghost use Rattle.command_base.specs.Printing.{OutCause};
 ghost use Rattle.command_base.specs.Statuses.{status_text};
 ghost use Rattle.command_words.specs.Forms.{texts};
 ghost use Rattle.still_commands.specs.Came.{told_of};
+ghost use Rattle.still_commands.specs.Lists.{IsListRefused, ListsSo, Throughout};
 ghost use Rattle.still_commands.specs.Still.{AreStill, Over_still, StillCall};
 
 use crate::came::{Came, only};
@@ -49,6 +51,14 @@ pub fn run_still<D: Yard, O: Sink>(
     ensures call { StillCall D.files D.tells D.content D.fault_count D.moment D.images (texts words.now) disk (O.state out.old) (status_text result.0) result.1 (O.state out.new) }
     ensures cause { DiskCause D.tells D.content D.fault_count (status_text result.0) disk result.1 }
     ensures out_cause { OutCause (status_text result.0) (O.state out.old) (O.state out.new) }
+
+    // At each moment since the call began a stop leaves what opens as before, with each receipt, and so does the end of the call.
+    ensures stays { D.tells ≡ true → Throughout D.content D.moment D.images Recovers disk result.1 }
+
+    // List and index are as before then, or the list of the file that is compiled stands with the old or the new index. Where the
+    // file is refused, both are as before.
+    ensures lists { D.tells ≡ true → Throughout D.content D.moment D.images (ListsSo (D.files disk) (texts words.now)) disk result.1 }
+    ensures refused { D.tells ≡ true → IsListRefused (status_text result.0) → Throughout D.content D.moment D.images OldPair disk result.1 }
 {
     let (came, disk) = do_still(alloc, words, disk);
     let Came { lines, status } = came;

@@ -7,11 +7,11 @@ use Rattle.binkp_mailer.proofs.over_disk.refuse_index.Goals as goal
 pub returns-in-Ok : goal.returns-in-Ok
 returns-in-Ok g c = λ words challenge now line side are unhosted.
     Bad_index (conf_text c.args.conf.now) c.requires.settings side are unhosted c.requires.bad c.in-Ok.store
-    (record { memory = c.in-Ok.ensures.memory; told = c.in-Ok.ensures.told; stop = c.in-Ok.ensures.stop; calm = c.in-Ok.ensures.calm })
+    (record { memory = c.in-Ok.ensures.memory; told = c.in-Ok.ensures.told; stop = c.in-Ok.ensures.stop; read = c.in-Ok.ensures.read; aside_stop = c.in-Ok.ensures.aside_stop; aside_read = c.in-Ok.ensures.aside_read; calm = c.in-Ok.ensures.calm })
     refl refl refl c.into_disk.ensures
 
 pub returns-in-Err : goal.returns-in-Err
 returns-in-Err g c = λ words challenge now line side are unhosted.
     Not_opened (conf_text c.args.conf.now) c.requires.settings side are
     c.in-Err.fault refl (ap (status_unopened c.in-Err.fault) c.faults-faults.ensures) refl
-    (record { why = c.in-Err.ensures.refused; failed = c.in-Err.ensures.failed; stop = c.in-Err.ensures.stop; read = c.in-Err.ensures.read })
+    (record { why = c.in-Err.ensures.refused; failed = c.in-Err.ensures.failed; stop = c.in-Err.ensures.stop; read = c.in-Err.ensures.read; aside_stop = c.in-Err.ensures.aside_stop; aside_read = c.in-Err.ensures.aside_read })

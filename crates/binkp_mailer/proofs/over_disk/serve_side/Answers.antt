@@ -13,7 +13,7 @@ pub returns-in-Err : goal.returns-in-Err
 returns-in-Err g c = λ words are.
     Not_opened (conf_text c.args.conf.now) c.requires.settings (side_of c.args.side) are
     c.in-Err.fault refl (ap (status_unopened c.in-Err.fault) c.faults-faults.ensures) refl
-    (record { why = c.in-Err.ensures.refused; failed = c.in-Err.ensures.failed; stop = c.in-Err.ensures.stop; read = c.in-Err.ensures.read })
+    (record { why = c.in-Err.ensures.refused; failed = c.in-Err.ensures.failed; stop = c.in-Err.ensures.stop; read = c.in-Err.ensures.read; aside_stop = c.in-Err.ensures.aside_stop; aside_read = c.in-Err.ensures.aside_read })
 
 -- A session is held over the store that was opened.
 
@@ -26,6 +26,6 @@ returns g c = λ words are.
     let e = c.hold_session-outcome.ensures in
     retold g.D.Disk.tells g.D.Disk.content g.D.Disk.fault_count g.D.Disk.moment g.D.Disk.images _ _ _ _ c.args.disk _ _ _ _ _ c.give_behind-outcome.ensures.told
     (Over_store (conf_text c.args.conf.now) c.requires.settings (side_of c.args.side) are c.args.listed c.requires.listed c.in-Ok.store c.hold_session-outcome.result.1 c.give_behind-outcome.result.1
-    (record { memory = c.in-Ok.ensures.memory; told = c.in-Ok.ensures.told; stop = c.in-Ok.ensures.stop; calm = c.in-Ok.ensures.calm }) _
+    (record { memory = c.in-Ok.ensures.memory; told = c.in-Ok.ensures.told; stop = c.in-Ok.ensures.stop; read = c.in-Ok.ensures.read; aside_stop = c.in-Ok.ensures.aside_stop; aside_read = c.in-Ok.ensures.aside_read; calm = c.in-Ok.ensures.calm }) _
     (record { call = e.call _ are; cause = e.cause; once = e.once; stays = e.stays; stop_once = e.stop_once; stop_stays = e.stop_stays })
     c.give_behind-outcome.ensures.gives c.into_disk.ensures)
