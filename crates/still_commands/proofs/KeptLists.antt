@@ -11,7 +11,7 @@ use Rattle.node_model.specs.Outside.{OutFile}
 use Rattle.node_model.specs.StoreStates.{Shelf}
 use Rattle.node_model.proofs.Lists.{none_some}
 use Rattle.nodelist_comp.specs.declared.fault.ListTextFault.{ListTextFault}
-use Rattle.nodelist_files.specs.Compiling.{Clears, Compiles, HasNodes, NewList, OldPair, OnLists, text_at}
+use Rattle.nodelist_files.specs.Compiling.{Clears, Compiles, NewList, OldPair, OnLists, text_at}
 use Rattle.nodelist_files.specs.Files.{index_name, list_name, new_name}
 use Rattle.nodelist_files.specs.declared.fault.CompileFault.{CompileFault}
 use Rattle.nodelist_files.specs.declared.fault.CompileFault.TheVariants as M
@@ -35,14 +35,18 @@ use Rattle.command_base.specs.Statuses as S
 use Rattle.command_base.specs.Statuses.{Status}
 use Rattle.command_base.proofs.ReadOnly.{no_read}
 use Rattle.command_words.specs.Forms.{Compile, HasForm}
-use Rattle.still_commands.specs.Came.{IsTold, Told, only, told_compiled}
+use Rattle.still_commands.specs.Came.{IsTold, Told, told_compiled}
 use Rattle.still_commands.specs.Lists.{IsListRefused, ListsSo, Throughout}
 use Rattle.still_commands.specs.Still.{Bad_index, Compiled, CompilesFile, Listed, Looked_up, No_address, No_index, Not_asked, Not_opened, Not_set, Over_still}
 
 -- List, index and the file in which they are made are none of a store's files. All three names begin with `n`.
 
+-- the byte at a place
+abbrev at : ℕ → List ℕ → ℕ
+at place name = get_or name place 0
+
 abbrev first : List ℕ → ℕ
-first name = get_or name 0 0
+first name = at 0 name
 
 no_ledger : (name : List ℕ) → first name ≡ 110 → name ≢ ledger_name
 no_ledger name n same = let e : first name ≡ 108 = ap first same in omega (arith, n, e)
@@ -76,12 +80,12 @@ unfolding is_note
 index_no_note = refl
 
 list_no_work : IsWork list_name → ⊥
-list_no_work (inl same) = cc same
-list_no_work (inr same) = cc same
+list_no_work (inl same) = let e : 110 ≡ 108 = ap (at 0) same in omega (arith, e)
+list_no_work (inr same) = let e : 116 ≡ 110 = ap (at 9) same in omega (arith, e)
 
 index_no_work : IsWork index_name → ⊥
-index_no_work (inl same) = cc same
-index_no_work (inr same) = cc same
+index_no_work (inl same) = let e : 110 ≡ 108 = ap (at 0) same in omega (arith, e)
+index_no_work (inr same) = let e : 105 ≡ 110 = ap (at 9) same in omega (arith, e)
 
 list_aside : IsAside list_name
 list_aside = record { ledger = no_ledger list_name refl; work = list_no_work; queued = no_out list_name refl; received = no_in list_name refl; taken = list_no_take; note = list_no_note }
@@ -121,13 +125,13 @@ pair_aside : (d c : World) → SameAside d c → OldPair d c
 pair_aside d c same = record { list = same list_name list_aside; index = same index_name index_aside }
 
 pair_only : (d c : World) → Only new_name d c → OldPair d c
-pair_only d c only = record { list = only.others list_name list_not_new; index = only.others index_name index_not_new }
+pair_only d c changed = record { list = changed.others list_name list_not_new; index = changed.others index_name index_not_new }
   where
     list_not_new : list_name ≢ new_name
-    list_not_new same = cc same
+    list_not_new same = let e : 116 ≡ 110 = ap (at 9) same in omega (arith, e)
 
     index_not_new : index_name ≢ new_name
-    index_not_new same = cc same
+    index_not_new same = let e : 105 ≡ 110 = ap (at 9) same in omega (arith, e)
 
 pair_then : (d e c : World) → OldPair d e → OldPair e c → OldPair d c
 pair_then d e c first second = record { list = second.list ∙ first.list; index = second.index ∙ first.index }
@@ -214,9 +218,9 @@ module _ {D : Type 0} (files : D → World → Type 0) (tells : Bool) (content :
 
   -- a disk that was read only
   read_so : (step : World → World → Type 0) → ((w : World) → step w w) → tells ≡ true → (d : D) → OnlyRead tells content faults moment images disk d → Stays step d
-  read_so step same t d only = record {
-    stop = weakened moment images Same step disk d (λ w c now is. subst (step w) (sym is) (same w)) only.stop;
-    read = subst (step (content disk)) (sym (only.same t)) (same (content disk));
+  read_so step same t d more = record {
+    stop = weakened moment images Same step disk d (λ w c now is. subst (step w) (sym is) (same w)) more.stop;
+    read = subst (step (content disk)) (sym (more.same t)) (same (content disk));
   }
 
   weaker : (R T : World → World → Type 0) → ((w c : World) → R w c → T w c) → (d : D) → Leaves moment images R disk d → R (content disk) (content d) → Stays T d
@@ -261,7 +265,7 @@ module _ {D : Type 0} (files : D → World → Type 0) (tells : Bool) (content :
         (λ opened h. weaker SameAside OldPair pair_aside opened.disk (h.aside_stop t) (h.aside_read t))
         (λ path opened result d form h does is.
         let so = told_refused (told_compiled result (faults d)) told is refused in
-        then_so SameAside (Only new_name) OldPair pair_aside (λ w e c same only. pair_then w e c (pair_aside w e same) (pair_only e c only)) opened.disk d (h.aside_stop t) (h.aside_read t)
+        then_so SameAside (Only new_name) OldPair pair_aside (λ w e c same changed. pair_then w e c (pair_aside w e same) (pair_only e c changed)) opened.disk d (h.aside_stop t) (h.aside_read t)
         (refused_so result (faults d) so does.kept) (cleared_only opened.disk d (refused_so result (faults d) so does.cleared)))
       where
         cleared_only : (mid d : D) → Follows Clears (files mid) (files d) → Follows (Only new_name) (files mid) (files d)

@@ -1,7 +1,5 @@
-use Rattle.std.proofs.Common.{subst}
-use Rattle.ledger_rec.specs.Fold.{State}
+use Rattle.std.proofs.Common.{rules}
 use Rattle.mail_conf.specs.ConfView.{conf_text}
-use Rattle.still_commands.specs.Came.{IsTold, told_listed, told_of}
 use Rattle.still_commands.specs.Still.{Listed, Not_opened, To_list}
 use Rattle.still_commands.proofs.Before.{left_so}
 use Rattle.still_commands.proofs.listing.list_by.Goals as goal
