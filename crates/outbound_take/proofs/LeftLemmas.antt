@@ -1,16 +1,17 @@
 -- The takes that are left, by their own names.
-use Rattle.std.proofs.Common.{◌≡◌, inl, inr, ℕ, ◌<◌, ◌≤◌, Bool, true, false, not, List, [], ◌∷◌, ◌++◌, length, map, refl, sym, ◌∙◌, ap, subst, arith}
+use Rattle.std.proofs.Common.{◌≡◌, inl, inr, ℕ, ◌<◌, ◌≤◌, Bool, true, false, not, List, [], ◌∷◌, ◌++◌, length, map, Option, Some, None, refl, sym, ◌∙◌, ap, subst, arith}
+use Rattle.std.specs.Global.{Vec}
 use Rattle.std.specs.Prelude.{if◌then◌else◌}
 use Rattle.std.specs.Str.{bytes_eq}
 use Rattle.std.proofs.lemmas.List.{map-append}
 use Rattle.std.proofs.lemmas.Slice.Eq.{bytes_eq-Decides}
-use Rattle.ftn_addr.specs.Address.{Address}
-use Rattle.node_model.specs.Lists.{Member, Each}
-use Rattle.node_model.proofs.Lists.{Each-without, eqb_refl}
+use Rattle.node_model.specs.Lists.{Member}
+use Rattle.node_model.proofs.Lists.{eqb_refl}
+use Rattle.outbound_model.specs.declared.fate.Fate.{Fate}
 use Rattle.outbound_model.specs.OwnNames.{number_of}
-use Rattle.outbound_take.specs.Calls.{Has, IsOther, NoneFor, names_without, noted, owns, with_take, without_take}
+use Rattle.outbound_take.specs.Calls.{Has, names_without, noted, owns, with_take, without_take}
 use Rattle.outbound_take.specs.declared.words.TookFile.{TookFile}
-use Rattle.outbound_take.specs.Ours.{all_took, took}
+use Rattle.outbound_take.specs.Ours.{all_took, left_noted, names_behind, took}
 use Rattle.outbound_take.specs.Stand.{Left}
 
 -- Recording changes no name.
@@ -64,22 +65,6 @@ shorter own (x ∷ names) (inr there) = go (bytes_eq x own) (shorter own names t
     go true less = omega (arith, less)
     go false less = omega (arith, less)
 
--- None for an address.
-
-pub none_without : (dest : Address) (own : List ℕ) (names : List (List ℕ)) → Each (IsOther dest) names → Each (IsOther dest) (names_without own names)
-none_without dest own names none = Each-without (IsOther dest) (λ (o : List ℕ). bytes_eq o own) names none
-
--- where one more stood, and is removed
-pub none_again : (dest : Address) (own : List ℕ) (names : List (List ℕ)) → Each (IsOther dest) names → Each (IsOther dest) (names_without own (names ++ own ∷ []))
-none_again dest own [] none =
-    let e : bytes_eq own own ≡ true = (bytes_eq-Decides own own).1 refl in
-    subst (λ (b : Bool). Each (IsOther dest) (if not b then own ∷ [] else [])) (sym e) tt
-none_again dest own (x ∷ names) none = go (bytes_eq x own) (none_again dest own names none.1)
-  where
-    go : (b : Bool) → Each (IsOther dest) (names_without own (names ++ own ∷ [])) → Each (IsOther dest) (if not b then x ∷ names_without own (names ++ own ∷ []) else names_without own (names ++ own ∷ []))
-    go true rest = rest
-    go false rest = (none.0, rest)
-
 pub owns_with : (own : List ℕ) (left : List Left) → owns (with_take own left) ≡ owns left ++ own ∷ []
 owns_with own left = map-append (λ (t : Left). t.own) left (record { own = own; recorded = false } ∷ [])
 
@@ -87,15 +72,13 @@ pub has_with : (own : List ℕ) (left : List Left) → Has own false (with_take 
 has_with own [] = inl refl
 has_with own (t ∷ left) = inr (has_with own left)
 
--- what is left behind a take-in of one file
-pub left_behind : (dest : Address) (own : List ℕ) (left mid new : List Left) → NoneFor dest left → mid ≡ with_take own left → owns new ≡ names_without own (owns mid) → NoneFor dest new
-left_behind dest own left mid new none is removed =
-    subst (Each (IsOther dest)) (sym (removed ∙ ap (λ (x : List Left). names_without own (owns x)) is ∙ ap (names_without own) (owns_with own left))) (none_again dest own (owns left) none)
-
 -- what is left behind one take that waited
 pub left_one : (own : List ℕ) (left noted_left new : List Left) → noted_left ≡ map (noted (number_of own)) left → new ≡ without_take own noted_left → owns new ≡ names_without own (owns left)
 left_one own left noted_left new is gone =
     ap owns gone ∙ (owns_without own noted_left ∙ ap (names_without own) (ap owns is ∙ owns_noted (number_of own) left))
+
+pub names_gone : (own : List ℕ) (left new : List Left) → new ≡ without_take own left → owns new ≡ names_without own (owns left)
+names_gone own left new is = ap owns is ∙ owns_without own left
 
 pub has_in : (own : List ℕ) (a b : List Left) → b ≡ a → Has own true a → Has own true b
 has_in own a b same there = subst (Has own true) (sym same) there
@@ -103,6 +86,18 @@ has_in own a b same there = subst (Has own true) (sym same) there
 -- the own file of a take stands as one that isn't recorded
 pub has_from : (own : List ℕ) (left new : List Left) → new ≡ with_take own left → Has own false new
 has_from own left new is = subst (Has own false) (sym is) (has_with own left)
+
+pub noted_some : (own : List ℕ) (o : Option (Vec Fate)) (fates : Vec Fate) (left new : List Left) → o ≡ Some fates → new ≡ left_noted own o left → new ≡ map (noted (number_of own)) left
+noted_some own o fates left new is h = subst (λ (x : Option (Vec Fate)). new ≡ left_noted own x left) is h
+
+pub names_noted_none : (own : List ℕ) (o : Option (Vec Fate)) (left new : List Left) → o ≡ None → new ≡ left_noted own o left → owns new ≡ owns left
+names_noted_none own o left new is h = ap owns (subst (λ (x : Option (Vec Fate)). new ≡ left_noted own x left) is h)
+
+pub names_some : (own : List ℕ) (o : Option (Vec Fate)) (fates : Vec Fate) (names new : List (List ℕ)) → o ≡ Some fates → new ≡ names_behind own o names → new ≡ names_without own names
+names_some own o fates names new is h = subst (λ (x : Option (Vec Fate)). new ≡ names_behind own x names) is h
+
+pub names_none : (own : List ℕ) (o : Option (Vec Fate)) (names new : List (List ℕ)) → o ≡ None → new ≡ names_behind own o names → new ≡ names
+names_none own o names new is h = subst (λ (x : Option (Vec Fate)). new ≡ names_behind own x names) is h
 
 -- What is told of the files.
 

@@ -1,6 +1,9 @@
 pub mod WorkLemmas
 pub mod OurLemmas
 pub mod LeftLemmas
+pub mod SpareLemmas
+pub mod OverLemmas
 pub mod PlanLemmas
 pub mod QueueLemmas
 pub mod WholeLemmas
+pub mod EndLemmas

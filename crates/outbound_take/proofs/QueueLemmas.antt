@@ -1,5 +1,5 @@
 -- What was planned, once it is queued, is what each line does.
-use Rattle.std.proofs.Common.{◌≡◌, inl, inr, ⊎_elim, ℕ, ◌<◌, ◌≤◌, List, [], ◌∷◌, length, map, Option, Some, None, Result, Ok, Err, refl, sym, ◌∙◌, ap, subst}
+use Rattle.std.proofs.Common.{◌≡◌, inl, inr, ⊎_elim, ℕ, ◌≤◌, List, [], ◌∷◌, length, map, Option, Some, None, Result, Ok, Err, refl, sym, ◌∙◌, ap, subst}
 use Rattle.ftn_addr.specs.Address.{Address}
 use Rattle.ftn_addr.specs.declared.limits.TheConstants.{MAX_SIZE}
 use Rattle.bso_outbound.specs.declared.kind.Kind.{Kind}
@@ -91,14 +91,6 @@ whole_brings (K.Flow flavour) dest moment outside bytes queue fate after whole h
 whole_brings (K.Mail flavour) dest moment outside bytes queue fate after whole h = h
 whole_brings K.Request dest moment outside bytes queue fate after whole h = h
 
-pub over_plan : (kind : Kind) (dest : Address) (moment : ℕ) (own bytes : List ℕ) (s : Outbound) (bodies : ℕ → Option (List ℕ))
-    → IsWhole kind → s.takes own ≡ Some bytes → MAX_SIZE < length bytes → PlansTake kind dest moment own s bodies (L.Is F.Over ∷ []) []
-over_plan kind dest moment own bytes s bodies whole stands over = record { bytes = bytes; stands = stands; brings = brings }
-  where
-    brings : (slots : List Slot) (after : List Entry) → Enqueued bodies s.queue [] slots after → Brings kind dest moment s.outside bytes s.queue (fates_in (L.Is F.Over ∷ []) slots) after
-    brings [] after e = whole_brings kind dest moment s.outside bytes s.queue F.Over after whole (over, e)
-    brings (slot ∷ slots) after e = absurd e
-
 pub whole_plan : (kind : Kind) (dest : Address) (moment n : ℕ) (own bytes : List ℕ) (s : Outbound) (bodies : ℕ → Option (List ℕ)) (f : NewEntry)
     → IsWhole kind → s.takes own ≡ Some bytes → length bytes ≤ MAX_SIZE → f ≡ whole_entry kind dest moment (length bytes) n → bodies n ≡ Some bytes → PlansTake kind dest moment own s bodies (L.File ∷ []) (f ∷ [])
 whole_plan kind dest moment n own bytes s bodies f whole stands within is body =
@@ -167,8 +159,8 @@ our_queue dest moment kind own bodies lines files result old new whom plans k = 
     step : (s : Outbound) → PlansTake kind dest moment own s bodies lines files → List Slot → Step
     step s p slots = Queued own p.bytes dest moment (fates_in lines slots)
 
-    at_ok : (text : List ℕ) (slots : List Slot) (s : Outbound) → PlansTake kind dest moment own s bodies lines files → Leads (IsOurs dest moment text) (QueuesFiles bodies own files slots) (Unit {0}) ((Some kind, fates_in lines slots) ∷ []) s
-    at_ok text slots s p =
+    at_ok : (slots : List Slot) (s : Outbound) → PlansTake kind dest moment own s bodies lines files → Leads (IsOurs dest moment None) (QueuesFiles bodies own files slots) (Unit {0}) ((Some kind, fates_in lines slots) ∷ []) s
+    at_ok slots s p =
         One (step s p slots) (refl, refl) (λ a. ap (λ (o : Option Kind). (o, fates_in lines slots) ∷ []) whom.named)
         (λ a t q. queued_so dest moment kind own bodies lines files slots s t whom p q) (λ t q. inr (queued_so dest moment kind own bodies lines files slots s t whom p q))
 
@@ -176,17 +168,17 @@ our_queue dest moment kind own bodies lines files result old new whom plans k = 
     broken s p t x =
         subst (λ (slots : List Slot). Queues own p.bytes dest moment (fates_in lines slots) s t) (slots_are bodies s.queue files x.0 t.queue x.1.queue) (queued_so dest moment kind own bodies lines files x.0 s t whom p x.1)
 
-    at_disk : (text : List ℕ) (s : Outbound) → PlansTake kind dest moment own s bodies lines files → Leads (IsOurs dest moment text) (Tried (Err Disk) (QueuesFiles bodies own files)) (SettledBy Disk) [] s
-    at_disk text s p =
+    at_disk : (s : Outbound) → PlansTake kind dest moment own s bodies lines files → Leads (IsOurs dest moment None) (Tried (Err Disk) (QueuesFiles bodies own files)) (SettledBy Disk) [] s
+    at_disk s p =
         One (step s p (slots_by bodies files s.queue)) (refl, refl) (λ a. absurd a) (λ a. absurd a)
         (λ t h. ⊎_elim (λ (same : t ≡ s). inl same) (λ (x : (slots : List Slot) × QueuesFiles bodies own files slots s t). inr (broken s p t x)) h)
 
     by : (r : Result (List Slot) StoreFault) → Kept (Tried r (QueuesFiles bodies own files)) (Settles r) old new → Ours dest moment (λ slots. (Some kind, fates_in lines slots) ∷ []) r old new
-    by (Ok slots) kept = λ text. kept_works (IsOurs dest moment text) (QueuesFiles bodies own files slots) (Unit {0}) ((Some kind, fates_in lines slots) ∷ []) old new (λ s tells. at_ok text slots s (plans s tells)) kept
-    by (Err Disk) kept = ([], λ text. kept_works (IsOurs dest moment text) (Tried (Err Disk) (QueuesFiles bodies own files)) (SettledBy Disk) [] old new (λ s tells. at_disk text s (plans s tells)) kept)
-    by (Err Read) kept = ([], λ text. kept_works (IsOurs dest moment text) (Tried (Err Read) (QueuesFiles bodies own files)) (SettledBy Read) [] old new (λ s tells. Nothing refl (λ t h. h)) kept)
-    by (Err Full) kept = ([], λ text. kept_works (IsOurs dest moment text) (Tried (Err Full) (QueuesFiles bodies own files)) (SettledBy Full) [] old new (λ s tells. Nothing refl (λ t h. h)) kept)
-    by (Err NoMemory) kept = ([], λ text. kept_works (IsOurs dest moment text) (Tried (Err NoMemory) (QueuesFiles bodies own files)) (SettledBy NoMemory) [] old new (λ s tells. Nothing refl (λ t h. h)) kept)
+    by (Ok slots) kept = kept_works (IsOurs dest moment None) (QueuesFiles bodies own files slots) (Unit {0}) ((Some kind, fates_in lines slots) ∷ []) old new (λ s tells. at_ok slots s (plans s tells)) kept
+    by (Err Disk) kept = ([], kept_works (IsOurs dest moment None) (Tried (Err Disk) (QueuesFiles bodies own files)) (SettledBy Disk) [] old new (λ s tells. at_disk s (plans s tells)) kept)
+    by (Err Read) kept = ([], kept_works (IsOurs dest moment None) (Tried (Err Read) (QueuesFiles bodies own files)) (SettledBy Read) [] old new (λ s tells. Nothing refl (λ t h. h)) kept)
+    by (Err Full) kept = ([], kept_works (IsOurs dest moment None) (Tried (Err Full) (QueuesFiles bodies own files)) (SettledBy Full) [] old new (λ s tells. Nothing refl (λ t h. h)) kept)
+    by (Err NoMemory) kept = ([], kept_works (IsOurs dest moment None) (Tried (Err NoMemory) (QueuesFiles bodies own files)) (SettledBy NoMemory) [] old new (λ s tells. Nothing refl (λ t h. h)) kept)
 
 -- the plan still holds where nothing told changed, and of the files as they are handed on
 pub plan_of_slice : (kind : Kind) (dest : Address) (moment : ℕ) (own : List ℕ) (before now : Option Outbound) (bodies : ℕ → Option (List ℕ)) (lines : List Line) (fs hs : List NewFile)

@@ -2,12 +2,13 @@
 use Rattle.std.specs.Prelude.{◌≡◌, ◌≢◌, ◌⊎◌, ℕ, ◌<◌, ◌≤◌, ◌+◌, ◌==◌, ◌||◌, Bool, false, List, [], ◌∷◌, ◌++◌, length, map, Option, Some, None, option_map}
 use Rattle.std.specs.Str.{bytes_eq}
 use Rattle.ftn_addr.specs.Address.{Address}
-use Rattle.ftn_addr.specs.declared.limits.TheConstants.{MAX_SIZE}
+use Rattle.ftn_addr.specs.declared.limits.TheConstants.{MAX_NUMBER, MAX_SIZE}
 use Rattle.bso_outbound.specs.declared.kind.Kind.{Kind}
 use Rattle.disk_model.specs.declared.answers.Moved.{Moved}
 use Rattle.disk_model.specs.declared.answers.Moved.TheVariants.{Done as MoveDone, Absent as NoFile}
 use Rattle.disk_model.specs.declared.answers.Marking.{Marking}
 use Rattle.disk_model.specs.declared.answers.Marking.TheVariants.{Made as MarkMade, Exists as MarkExists}
+use Rattle.node_model.specs.declared.store.OutStat.{OutStat}
 use Rattle.node_model.specs.declared.store.Staged.{Staged}
 use Rattle.node_model.specs.declared.store.Staged.TheVariants.{Copied, Absent, Over}
 use Rattle.node_model.specs.Items.{Entry}
@@ -30,24 +31,34 @@ pub record IsTakeFor (dest : Address) (kind : Kind) (own : List ℕ) : Type 0 wh
   pub addressed : IsFor dest own
   pub named : kind_of own ≡ Some kind
 
-abbrev pub IsOther : Address → List ℕ → Type 0
-IsOther dest own = (kind : Kind) → IsTakeFor dest kind own → ⊥
-
 abbrev pub owns : List Left → List (List ℕ)
 owns left = map (λ (t : Left). t.own) left
 
--- no take for that address
-abbrev pub NoneFor : Address → List Left → Type 0
-NoneFor dest left = Each (IsOther dest) (owns left)
+-- where it is a take for that address, its number is such a one
+abbrev pub IfFor : Address → (ℕ → Type 0) → List ℕ → Type 0
+IfFor dest P own = (kind : Kind) → IsTakeFor dest kind own → P (number_of own)
 
 -- such a take stands
 abbrev pub Has : List ℕ → Bool → List Left → Type 0
 Has own recorded left = Member (record { own = own; recorded = recorded }) left
 
--- the first take for an address
-abbrev pub FirstFor : Address → Option TakeLeft → List Left → Type 0
-FirstFor dest None left = NoneFor dest left
-FirstFor dest (Some t) left = IsTakeFor dest t.kind t.own × Has t.own t.recorded left
+-- the least number above that one, or of all
+abbrev pub next_above : Option ℕ → ℕ
+next_above None = 0
+next_above (Some above) = above + 1
+
+-- of the takes for an address that have at least that number, the one with the least
+pub record IsFirst (dest : Address) (from : ℕ) (t : TakeLeft) (left : List Left) : Type 0 where
+  pub named : IsTakeFor dest t.kind t.own
+  pub stands : Has t.own t.recorded left
+  pub numbered : number_of t.own ≡ t.take
+  pub above : from ≤ t.take
+  pub within : t.take ≤ MAX_NUMBER
+  pub first : Each (IfFor dest (λ n. (n < from) ⊎ (t.take ≤ n))) (owns left)
+
+abbrev pub FirstFor : Address → ℕ → Option TakeLeft → List Left → Type 0
+FirstFor dest from None left = Each (IfFor dest (λ n. n < from)) (owns left)
+FirstFor dest from (Some t) left = IsFirst dest from t left
 
 -- a take more, which isn't recorded
 abbrev pub with_take : List ℕ → List Left → List Left
@@ -77,7 +88,10 @@ pub record IsLike (old new : Memory) : Type 0 where
   pub undone : new.undone ≡ old.undone
   pub broken : new.broken ≡ None
 
--- Taking a file.
+-- Looking, and taking a file.
+
+abbrev pub stat_of : OutFile → OutStat
+stat_of f = record { size = length f.bytes; time = f.time }
 
 abbrev pub TakesFile : (path own : List ℕ) → Moved → Outbound → Outbound → Type 0
 TakesFile path own MoveDone s t = (bytes : List ℕ) × Moves path own bytes s t
@@ -117,7 +131,7 @@ CopiesSo Over old new = new ≡ old
 
 abbrev pub StagesAt : List ℕ → Staged → Outbound → Option Content → Option Content → Type 0
 StagesAt path (Copied n stat) s old new =
-    (f : OutFile) × (s.outside path ≡ Some f) × (length f.bytes ≤ MAX_SIZE) × (stat ≡ record { size = length f.bytes; time = f.time }) × StagesBytes n f.bytes old new
+    (f : OutFile) × (s.outside path ≡ Some f) × (length f.bytes ≤ MAX_SIZE) × (stat ≡ stat_of f) × StagesBytes n f.bytes old new
 StagesAt path Absent s old new = (s.outside path ≡ None) × (new ≡ old)
 StagesAt path Over s old new = ((f : OutFile) × (s.outside path ≡ Some f) × (MAX_SIZE < length f.bytes)) × (new ≡ old)
 

@@ -1,4 +1,6 @@
 pub mod Stand
 pub mod Calls
+pub mod Spares
 pub mod Plans
 pub mod Ours
+pub mod Ends

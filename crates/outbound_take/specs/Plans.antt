@@ -80,6 +80,17 @@ abbrev pub IsWhole : Kind → Type 0
 IsWhole (K.Flow flavour) = ⊥
 IsWhole kind = Unit {0}
 
+-- a take stands with more bytes than a file may have
+pub record IsOver (own : List ℕ) (s : Outbound) : Type 0 where
+  pub bytes : List ℕ
+  pub stands : s.takes own ≡ Some bytes
+  pub over : MAX_SIZE < length bytes
+
+-- so does a packet or a request, where that is told
+pub record WaitsOver (kind : Kind) (own : List ℕ) (told : Option Outbound) : Type 0 where
+  pub whole : IsWhole kind
+  pub over : (s : Outbound) → told ≡ Some s → IsOver own s
+
 -- The plan of a take: however its files are queued, that is what its bytes bring.
 pub record PlansTake (kind : Kind) (dest : Address) (moment : ℕ) (own : List ℕ) (s : Outbound) (bodies : ℕ → Option (List ℕ)) (lines : List Line) (files : List NewEntry) : Type 0 where
   pub bytes : List ℕ

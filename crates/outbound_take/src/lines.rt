@@ -39,17 +39,6 @@ pub(crate) struct Plans {
 }
 
 impl Plans {
-    /// The plan of one file whose fate is known.
-    pub(crate) fn of_fate(alloc: Global, fate: Fate) -> Result<Plans, NoMemory>
-        ensures lines { IfOk result (λ plans. plans.lines.items ≡ L.Is fate ∷ []) }
-        ensures files { IfOk result (λ plans. plans.files.items ≡ []) }
-    {
-        let mut lines = Vec::new(alloc);
-        lines.push(Line::Is(fate))?;
-        let files = Vec::new(alloc);
-        Ok(Plans { lines, files })
-    }
-
     /// The plan of one file that is to be queued.
     pub(crate) fn of_file(alloc: Global, file: NewFile) -> Result<Plans, NoMemory>
         ensures lines { IfOk result (λ plans. plans.lines.items ≡ L.File ∷ []) }

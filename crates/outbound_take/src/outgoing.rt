@@ -6,7 +6,7 @@ ghost use Rattle.node_model.specs.StoreWords.{entry_of, slot_of};
 ghost use Rattle.outbound_model.specs.Outbound.{Outbound};
 ghost use Rattle.outbound_model.specs.OwnNames.{number_of};
 ghost use Rattle.outbound_model.specs.Steps.{Drops};
-ghost use Rattle.outbound_take.specs.Calls.{AreNew, CopiesSo, FirstFor, Has, Holds, IsAction, IsLike, IsTakeFor, MarksAt, QueuesFiles, StagesAt, StagesMore, StagesTake, TakesFile, Tied, UnmarksAt, bodies_of, noted, with_take, without_take};
+ghost use Rattle.outbound_take.specs.Calls.{AreNew, CopiesSo, FirstFor, Has, Holds, IsAction, IsLike, IsTakeFor, MarksAt, QueuesFiles, StagesAt, StagesMore, StagesTake, TakesFile, Tied, UnmarksAt, bodies_of, next_above, noted, stat_of, with_take, without_take};
 ghost use Rattle.outbound_take.specs.Stand.{Kept, Same, Settles, TakeStand, Tried, Works, mapped, told};
 
 use bso_outbound::Kind;
@@ -18,6 +18,8 @@ use std::alloc::Global;
 /// A take of an address that stands in the own folder.
 #[derive(Clone, Copy, Debug)]
 pub struct TakeLeft {
+    /// Its number.
+    pub take: u32,
     pub own: Name,
     pub kind: Kind,
     /// Whether its number is recorded: then what it brought is queued.
@@ -32,9 +34,10 @@ pub struct TakeLeft {
 pub trait Outgoing {
     ghost stand: { Self → TakeStand };
 
-    /// The first take that stands for an address. It takes no memory.
-    fn first_left(&self, dest: &Addr) -> Option<TakeLeft>
-        ensures { FirstFor (address dest.now) result (stand self.now).memory.left };
+    /// The take with the least number of those that stand for an address, and have a number above that one, where one is given.
+    /// It takes no memory.
+    fn first_left(&self, dest: &Addr, above: Option<u32>) -> Option<TakeLeft>
+        ensures { FirstFor (address dest.now) (next_above above) result (stand self.now).memory.left };
 
     /// The own name of a take. It takes no memory.
     fn own_name(&self, take: u32, dest: &Addr, kind: Kind) -> Name
@@ -51,7 +54,8 @@ pub trait Outgoing {
     fn look(&mut self, path: &Bytes) -> Result<Option<OutStat>, StoreFault>
         requires { (stand self.old).memory.broken ≡ None }
         ensures kept { Kept Same (Settles result) (stand self.old) (stand self.new) }
-        ensures memory { Settles result → IsLike (stand self.old).memory (stand self.new).memory };
+        ensures memory { Settles result → IsLike (stand self.old).memory (stand self.new).memory }
+        ensures told { IfOk result (λ stat. (s : Outbound) → told (stand self.old) ≡ Some s → stat ≡ option_map stat_of (s.outside path.now.list)) };
 
     /// Draws the number of the next take: no take has or had it.
     fn next_take(&mut self) -> Result<u32, StoreFault>

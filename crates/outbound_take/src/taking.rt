@@ -1,10 +1,12 @@
 //! Taking in one file that was moved: it is queued, its actions are done, and the take is removed.
-ghost use Rattle.std.specs.Prelude.{◌≡◌, ◌≢◌, ◌++◌, ◌∷◌, [], List, IfOk, OnOk, None, Some, false, map};
+ghost use Rattle.std.specs.Prelude.{◌≡◌, ◌≢◌, ◌++◌, ◌∷◌, [], List, IfNone, IfOk, OnOk, None, Some, false, map};
 ghost use Rattle.ftn_addr.specs.Address.{address};
 ghost use Rattle.ftn_addr.specs.Limits.{IsAddress};
-ghost use Rattle.outbound_take.specs.Calls.{Has, IsTakeFor, names_without, owns};
-ghost use Rattle.outbound_take.specs.Ours.{Ours};
-ghost use Rattle.outbound_take.specs.Stand.{IsCalm, Settles, TakeStand};
+ghost use Rattle.outbound_take.specs.Calls.{Has, IsTakeFor, owns};
+ghost use Rattle.outbound_take.specs.Ours.{Ours, names_behind, queued_as};
+ghost use Rattle.outbound_take.specs.Plans.{WaitsOver};
+ghost use Rattle.outbound_take.specs.Spares.{SparesOthers, SparesTakes, TellsSo};
+ghost use Rattle.outbound_take.specs.Stand.{IsCalm, Settles, TakeStand, told};
 
 use crate::Outgoing;
 use crate::queueing::queue_take;
@@ -22,6 +24,7 @@ pub fn do_actions<S: Outgoing>(store: &mut S, dest: &Addr, now: u64) -> Result<(
     ensures works { Ours (address dest.now) now (λ done. []) result (S.stand store.old) (S.stand store.new) }
     ensures left { Settles result → (S.stand store.new).memory.left ≡ (S.stand store.old).memory.left }
     ensures whole { Settles result → (S.stand store.new).memory.broken ≡ None }
+    ensures spares { OnOk result (TellsSo SparesTakes (S.stand store.old) (S.stand store.new)) }
 {
     'acts: loop {
         match store.act_next(dest) {
@@ -32,7 +35,8 @@ pub fn do_actions<S: Outgoing>(store: &mut S, dest: &Addr, now: u64) -> Result<(
     }
 }
 
-/// Takes in a take that waits, and removes it.
+/// Takes in a take that waits, and removes it. A packet or a request of more than 2,147,483,647 bytes stays as it is, and has no
+/// fates.
 pub fn take_one<S: Outgoing>(
     store: &mut S,
     alloc: Global,
@@ -40,18 +44,21 @@ pub fn take_one<S: Outgoing>(
     now: u64,
     own: &Name,
     kind: Kind,
-) -> Result<Vec<Fate>, StoreFault>
+) -> Result<Option<Vec<Fate>>, StoreFault>
     requires whole { (S.stand store.old).memory.broken ≡ None }
     requires calm { IsCalm (S.stand store.old) }
     requires address { IsAddress (address dest.now) }
     requires named { IsTakeFor (address dest.now) kind own.now }
     requires left { Has own.now false (S.stand store.old).memory.left }
-    ensures works { Ours (address dest.now) now (λ fates. (Some kind, fates.items) ∷ []) result (S.stand store.old) (S.stand store.new) }
+    ensures works { Ours (address dest.now) now (λ fates. queued_as kind fates) result (S.stand store.old) (S.stand store.new) }
     ensures whole { Settles result → (S.stand store.new).memory.broken ≡ None }
-    ensures left { OnOk result (owns (S.stand store.new).memory.left ≡ names_without own.now (owns (S.stand store.old).memory.left)) }
+    ensures left { IfOk result (λ fates. owns (S.stand store.new).memory.left ≡ names_behind own.now fates (owns (S.stand store.old).memory.left)) }
+    ensures spares { OnOk result (TellsSo (SparesOthers own.now) (S.stand store.old) (S.stand store.new)) }
+    ensures over { IfOk result (λ fates. IfNone fates (WaitsOver kind own.now (told (S.stand store.new)))) }
 {
     let fates = match queue_take(store, alloc, dest, now, own, kind) {
-        Ok(fates) => fates,
+        Ok(Some(fates)) => fates,
+        Ok(None) => return Ok(None),
         Err(fault) => return Err(fault),
     };
     match do_actions(store, dest, now) {
@@ -59,7 +66,7 @@ pub fn take_one<S: Outgoing>(
         Err(fault) => return Err(fault),
     }
     match store.finish_take(own) {
-        Ok(()) => Ok(fates),
+        Ok(()) => Ok(Some(fates)),
         Err(fault) => Err(fault),
     }
 }

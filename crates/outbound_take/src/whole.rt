@@ -1,5 +1,5 @@
 //! What is planned for packets and requests, which are one file each.
-ghost use Rattle.std.specs.Prelude.{◌≡◌, ◌∷◌, [], ◌≤◌, List, IfOk, OnOk, None, Some, false, map};
+ghost use Rattle.std.specs.Prelude.{◌≡◌, ◌∷◌, [], ◌≤◌, List, IfOk, IfSome, MatchOption, OnOk, None, Some, false, map};
 ghost use Rattle.ftn_addr.specs.Address.{address};
 ghost use Rattle.ftn_addr.specs.Limits.{IsAddress};
 ghost use Rattle.ftn_addr.specs.declared.limits.TheConstants.{MAX_SIZE as GREATEST};
@@ -8,7 +8,7 @@ ghost use Rattle.outbound_model.specs.Fates.{flavour_of, packet_name, request_na
 ghost use Rattle.outbound_model.specs.Outbound.{Outbound};
 ghost use Rattle.outbound_take.specs.Calls.{AreNew, Has, IsLike, bodies_of};
 ghost use Rattle.outbound_take.specs.Ours.{Ours};
-ghost use Rattle.outbound_take.specs.Plans.{IsWhole, PlansTake};
+ghost use Rattle.outbound_take.specs.Plans.{IsOver, IsWhole, PlansTake};
 ghost use Rattle.outbound_take.specs.Stand.{IsCalm, Settles, TakeStand, told};
 
 use crate::Outgoing;
@@ -17,7 +17,6 @@ use bso_outbound::{Kind, name_of};
 use disk_model::Name;
 use ftn_addr::{Action, Addr, Bytes, FileKey, MAX_SIZE, NoMemory};
 use node_model::{Flavour, NewFile, StoreFault, numbered_name};
-use outbound_model::Fate;
 use std::alloc::Global;
 
 fn flavour_of(kind: Kind) -> Flavour
@@ -89,7 +88,7 @@ fn whole_file(
     })
 }
 
-/// Stages a packet or a request, where it isn't over the limit of files.
+/// Stages a packet or a request. There is no plan where it is over the limit of files.
 pub(crate) fn plan_whole<S: Outgoing>(
     store: &mut S,
     alloc: Global,
@@ -97,33 +96,30 @@ pub(crate) fn plan_whole<S: Outgoing>(
     now: u64,
     own: &Name,
     kind: Kind,
-) -> Result<Plans, StoreFault>
+) -> Result<Option<Plans>, StoreFault>
     requires whole { (S.stand store.old).memory.broken ≡ None }
     requires address { IsAddress (address dest.now) }
     requires kind { IsWhole kind }
     requires left { Has own.now false (S.stand store.old).memory.left }
-    ensures works { Ours (address dest.now) now (λ plans. []) result (S.stand store.old) (S.stand store.new) }
+    ensures works { Ours (address dest.now) now (λ plan. []) result (S.stand store.old) (S.stand store.new) }
     ensures told { Settles result → told (S.stand store.new) ≡ told (S.stand store.old) }
     ensures memory { Settles result → IsLike (S.stand store.old).memory (S.stand store.new).memory }
-    ensures staged { IfOk result (λ plans. AreNew (map entry_of plans.files.items) (S.stand store.new).memory) }
-    ensures planned { IfOk result (λ plans. (s : Outbound) → told (S.stand store.old) ≡ Some s → PlansTake kind (address dest.now) now own.now s (bodies_of (S.stand store.new).content) plans.lines.items (map entry_of plans.files.items)) }
+    ensures staged { IfOk result (λ plan. IfSome plan (λ plans. AreNew (map entry_of plans.files.items) (S.stand store.new).memory)) }
+    ensures planned { IfOk result (λ plan. (s : Outbound) → told (S.stand store.old) ≡ Some s → MatchOption plan (IsOver own.now s) (λ plans. PlansTake kind (address dest.now) now own.now s (bodies_of (S.stand store.new).content) plans.lines.items (map entry_of plans.files.items))) }
 {
     let (number, size) = match store.stage_own(own) {
         Ok(staged) => staged,
         Err(fault) => return Err(fault),
     };
     if size > MAX_SIZE {
-        return match Plans::of_fate(alloc, Fate::Over) {
-            Ok(plans) => Ok(plans),
-            Err(_) => Err(StoreFault::NoMemory),
-        };
+        return Ok(None);
     }
     let file = match whole_file(alloc, kind, dest, now, size, number) {
         Ok(file) => file,
         Err(_) => return Err(StoreFault::NoMemory),
     };
     match Plans::of_file(alloc, file) {
-        Ok(plans) => Ok(plans),
+        Ok(plans) => Ok(Some(plans)),
         Err(_) => Err(StoreFault::NoMemory),
     }
 }

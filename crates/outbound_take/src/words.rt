@@ -7,6 +7,8 @@ use outbound_model::Fate;
 #[derive(Debug, Drop)]
 pub struct Taken {
     pub files: Vec<TookFile>,
+    /// The numbers of the takes that wait, since each is a packet or a request of more than 2,147,483,647 bytes.
+    pub over: Vec<u32>,
 }
 
 /// What became of one outbound file: of a flow file one fate for each line, in order; of a packet or a request one.
@@ -14,6 +16,17 @@ pub struct Taken {
 pub struct TookFile {
     pub kind: Kind,
     pub fates: Vec<Fate>,
+}
+
+/// What became of a file of the outbound.
+#[derive(Debug, Drop)]
+pub enum FileEnd {
+    /// It is gone, or over its limit: nothing was taken.
+    Stays,
+    /// It was taken in.
+    Took(TookFile),
+    /// It was moved, and is a packet or a request of more than 2,147,483,647 bytes. It waits as the take of that number.
+    Over(u32),
 }
 
 /// Why a take-in didn't end.

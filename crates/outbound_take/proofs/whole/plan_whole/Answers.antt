@@ -8,11 +8,8 @@ use Rattle.outbound_take.proofs.whole.plan_whole.Goals as goal
 pub returns-in-Err-clause-works : goal.returns-in-Err-clause-works
 returns-in-Err-clause-works g c = ([], our_same _ _ _ _ _ c.in-Err.ensures.kept)
 
-pub returns-in-Ok-of_fate-clause-works : goal.returns-in-Ok-of_fate-clause-works
-returns-in-Ok-of_fate-clause-works g c = our_same _ _ _ _ _ c.in-Ok.ensures.kept
-
-pub returns-in-Err-of_fate-clause-works : goal.returns-in-Err-of_fate-clause-works
-returns-in-Err-of_fate-clause-works g c = ([], our_same _ _ _ _ _ c.in-Ok.ensures.kept)
+pub returns-then-size-gt-MAX_SIZE-clause-works : goal.returns-then-size-gt-MAX_SIZE-clause-works
+returns-then-size-gt-MAX_SIZE-clause-works g c = our_same _ _ _ _ _ c.in-Ok.ensures.kept
 
 pub returns-in-Err-whole_file-clause-works : goal.returns-in-Err-whole_file-clause-works
 returns-in-Err-whole_file-clause-works g c = ([], our_same _ _ _ _ _ c.in-Ok.ensures.kept)
