@@ -1,5 +1,5 @@
 -- A store that was just opened is whole, and so is one of which a call on takes, on marks or on a batch was answered.
-use Rattle.std.proofs.Common.{◌≡◌, ℕ, List, Option, None, Some, Result, Ok, refl, sym, subst, ap, ◌∙◌}
+use Rattle.std.proofs.Common.{◌≤◌, arith, ◌≡◌, ℕ, List, Option, None, Some, Result, Ok, refl, sym, subst, ap, ◌∙◌}
 use Rattle.disk_model.specs.Changes.{Every}
 use Rattle.disk_model.specs.Moments.{AtRest, Now}
 use Rattle.disk_model.specs.World.{World}
@@ -39,3 +39,10 @@ drawn_next own take old new named draws =
 pub is_next : (own : List ℕ) (take : ℕ) (result : Result ℕ StoreFault) (old new : Holding MemDisk) → take_number own ≡ Some take → DrawsTake result old new → result ≡ Ok take → IsNext own new.takes
 is_next own take result old new named draws is =
     drawn_next own take old new named (subst (λ (r : Result ℕ StoreFault). DrawsTake r old new) is draws)
+
+drawn_one : (take : ℕ) (old new : Holding MemDisk) → DrawsTake (Ok take) old new → 1 ≤ take
+drawn_one take old new draws = omega (arith, draws.0)
+
+-- a number that was drawn is at least 1
+pub is_one : (take : ℕ) (result : Result ℕ StoreFault) (old new : Holding MemDisk) → DrawsTake result old new → result ≡ Ok take → 1 ≤ take
+is_one take result old new draws is = drawn_one take old new (subst (λ (r : Result ℕ StoreFault). DrawsTake r old new) is draws)

@@ -1,5 +1,5 @@
 //! Outside files that a store takes, over a disk in memory.
-ghost use Rattle.std.specs.Prelude.{◌≡◌, None, OnOk, Some};
+ghost use Rattle.std.specs.Prelude.{◌≡◌, ◌≤◌, IfOk, None, OnOk, Some};
 ghost use Rattle.disk_model.specs.Moments.{AtRest};
 ghost use Rattle.ftn_addr.specs.Address.{address};
 ghost use Rattle.ftn_addr.specs.Limits.{IsAddress};
@@ -16,7 +16,8 @@ use std::alloc::Global;
 
 // The name of a take: a normal flow file for a node.
 fn own_of(take: u32, addr: &Addr) -> Name
-    requires { IsAddress (address addr.now) }
+    requires one { 1 ≤ take }
+    requires addr { IsAddress (address addr.now) }
     ensures { take_number result ≡ Some take }
 {
     take_is_read();
@@ -31,7 +32,8 @@ fn take_next(
 ) -> Result<(u32, Moved), StoreFault>
     requires whole { store.old.memory.broken ≡ None }
     requires addr { IsAddress (address addr.now) }
-    ensures { OnOk result (store.new.memory.broken ≡ None) }
+    ensures whole { OnOk result (store.new.memory.broken ≡ None) }
+    ensures one { IfOk result (λ taken. 1 ≤ taken.0) }
 {
     let take = store.next_take()?;
     let own = own_of(take, addr);

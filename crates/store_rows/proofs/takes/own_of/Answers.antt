@@ -5,4 +5,4 @@ use Rattle.store_rows.proofs.takes.own_of.Goals as goal
 
 pub returns : goal.returns
 returns c =
-    ap take_number c.take_file.ensures ∙ c.take_is_read.ensures c.args.take (address c.args.addr.now) _ (search (rules)) (search (rules))
+    ap take_number c.take_file.ensures ∙ c.take_is_read.ensures c.args.take (address c.args.addr.now) _ c.requires.one (search (rules)) (search (rules))
