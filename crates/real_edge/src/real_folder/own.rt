@@ -78,8 +78,9 @@ impl<R: Files + Drop> Folder<R> {
     }
 
     pub fn cut(&mut self, name: &Name, len: u64) -> Answer<()> {
-        let opened = self.open_with(name, len)?;
+        let mut opened = self.open_with(name, len)?;
         cut_to(&opened.file, len)?;
+        opened.was_cut(len);
         self.hold(name, opened);
         Ok(())
     }
@@ -143,9 +144,12 @@ impl<R: Files + Drop> Folder<R> {
         }
     }
 
-    // The same file where it has at least so many bytes.
+    // The same file where it has at least so many bytes. The system is asked only where that isn't known.
     fn open_with(&mut self, name: &Name, len: u64) -> Answer<Placed<R::File>> {
         let opened = self.open(name)?;
+        if opened.has(len) {
+            return Ok(opened);
+        }
         if status_of(&opened.file)?.len() < len {
             return Err(refused(SystemCall::Stat, io::ErrorKind::InvalidInput));
         }
