@@ -1,9 +1,10 @@
 //! The call that acts on the sources of queued files.
-ghost use Rattle.std.specs.Prelude.{◌≡◌, ◌<◌, ℕ, None};
+ghost use Rattle.std.specs.Prelude.{◌≡◌, ◌⊎◌, ◌<◌, ℕ, IfErr, None};
 ghost use Rattle.ftn_addr.specs.Address.{address};
 ghost use Rattle.disk_model.specs.Causes.{HasCause};
 ghost use Rattle.disk_model.specs.Moments.{Together};
 ghost use Rattle.ledger_rec.specs.Items.{entry};
+ghost use Rattle.node_model.specs.declared.store.StoreFault.TheVariants.{Disk as DiskFailed};
 ghost use Rattle.node_model.specs.Stores.{Act_next, StoreKept, act_answer};
 ghost use Rattle.node_store.specs.Acting.{ActsOn, SameOutside};
 ghost use Rattle.node_store.specs.Keeping.{Beside};
@@ -44,11 +45,12 @@ fn act_on<D: Yard>(disk: &mut D, item: &QueueItem) -> Result<(), Failed>
 impl<D: Yard> NodeStore<D> {
     /// Does what is first to be done for an address: the source of a queued file is removed or cut to length 0, where it still has
     /// the size and time of the file's key, and that is recorded. It answers the file's number, or `None` where nothing is to be
-    /// done.
+    /// done. Where it is refused for want of memory or places, the disk wasn't touched.
     pub fn act_next(&mut self, dest: &Addr) -> Result<Option<u32>, StoreFault>
         requires { self.old.memory.broken ≡ None }
         ensures kept { StoreKept (stand_of D.tells D.content D.fault_count D.moment D.images self.old) (Act_next (address dest.now)) (act_answer result) (stand_of D.tells D.content D.fault_count D.moment D.images self.new) }
         ensures takes { self.new.takes ≡ self.old.takes }
+        ensures untouched { IfErr result (λ fault. (fault ≡ DiskFailed) ⊎ (self.new.disk ≡ self.old.disk)) }
     {
         let Some(number) = self.books.folded().next_acting(dest) else {
             return Ok(None);

@@ -55,8 +55,6 @@ mod store;
 mod store_calls;
 mod takes;
 mod taking;
-#[cfg(test)]
-mod tests;
 mod waiting;
 
 pub use laws::{

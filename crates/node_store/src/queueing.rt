@@ -1,7 +1,8 @@
 //! The call that queues staged files.
-ghost use Rattle.std.specs.Prelude.{◌≡◌, ◌==◌, MatchResult, None, map};
+ghost use Rattle.std.specs.Prelude.{◌≡◌, ◌⊎◌, ◌==◌, IfErr, MatchResult, None, map};
 ghost use Rattle.std.specs.List.{list_any};
 ghost use Rattle.node_model.specs.declared.store.NewFile.{NewFile};
+ghost use Rattle.node_model.specs.declared.store.StoreFault.TheVariants.{Disk as DiskFailed};
 ghost use Rattle.node_model.specs.Lists.{some_passes, without};
 ghost use Rattle.node_model.specs.Stocks.{NewEntry};
 ghost use Rattle.node_model.specs.StoreWords.{IsNewBatch, entry_of, slot_of};
@@ -42,7 +43,7 @@ fn unstage(files: &[NewFile], staged: &mut Vec<StagedFile>)
 impl<D: Disk> NodeStore<D> {
     /// Queues staged files, notes the take that brought them, and that they answer a received request, in one durable change.
     /// Numbers rise. A file whose address has its key already is [`Slot::Again`], and isn't kept: its own file stays until the next
-    /// opening.
+    /// opening. Where it is refused for want of memory or places, the disk wasn't touched.
     pub fn queue_all(
         &mut self,
         alloc: Global,
@@ -53,6 +54,7 @@ impl<D: Disk> NodeStore<D> {
         requires whole { self.old.memory.broken ≡ None }
         requires batch { IsNewBatch take answered (map entry_of files.now) (stand_of D.tells D.content D.fault_count D.moment D.images self.old).state }
         ensures noted { NotedSo take result self.old.takes self.new.takes }
+        ensures untouched { IfErr result (λ fault. (fault ≡ DiskFailed) ⊎ (self.new.disk ≡ self.old.disk)) }
         ensures kept { MatchResult result (λ slots. StoreKept (stand_of D.tells D.content D.fault_count D.moment D.images self.old) (Queue_all take answered (map entry_of files.now)) (Slots (map slot_of slots.items)) (stand_of D.tells D.content D.fault_count D.moment D.images self.new)) (λ fault. StoreKept (stand_of D.tells D.content D.fault_count D.moment D.images self.old) (Queue_all take answered (map entry_of files.now)) (Refuses fault) (stand_of D.tells D.content D.fault_count D.moment D.images self.new)) }
     {
         // With the records of a batch the fold goes on, one step after another.

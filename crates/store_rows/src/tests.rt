@@ -16,6 +16,7 @@ use std::test::Fail;
 mod asking;
 mod finishing;
 mod marks;
+mod names;
 mod takes;
 
 // A normal flow file for 2:5020/1042, of another program.

@@ -1,10 +1,11 @@
-use crate::{
-    MarkKind, TakeKind, in_file, mark_file, out_file, queued_number, received_number, take_file,
-    take_number,
-};
+//! The names of own files.
 use disk_model::Name;
 use ftn_addr::{Addr, Bytes};
 use node_model::Flavour;
+use node_store::{
+    MarkKind, TakeKind, in_file, mark_file, out_file, queued_number, received_number, take_file,
+    take_number,
+};
 use std::test::Fail;
 
 #[test]
