@@ -1,3 +1,4 @@
+pub mod RuledLemmas
 pub mod WorkLemmas
 pub mod OurLemmas
 pub mod LeftLemmas

@@ -1,3 +1,4 @@
+pub mod Ruled
 pub mod Stand
 pub mod Calls
 pub mod Spares

@@ -1,8 +1,8 @@
 -- What a store of takes tells, and what its calls may leave at each moment (own).
-use Rattle.std.specs.Prelude.{◌≡◌, ◌⊎◌, ℕ, ◌<◌, ◌≤◌, Bool, List, [], ◌∷◌, ◌++◌, Option, Some, None, option_map, Result, Ok, Err}
+use Rattle.std.specs.Prelude.{◌≡◌, ◌≢◌, ◌⊎◌, ℕ, ◌<◌, ◌≤◌, Bool, List, [], ◌∷◌, ◌++◌, Option, Some, None, option_map, Result, Ok, Err}
 use Rattle.bso_outbound.specs.declared.kind.Kind.{Kind}
 use Rattle.node_model.specs.declared.store.StoreFault.{StoreFault}
-use Rattle.node_model.specs.declared.store.StoreFault.TheVariants.{Disk}
+use Rattle.node_model.specs.declared.store.StoreFault.TheVariants.{Disk, Read}
 use Rattle.node_model.specs.Lists.{Each}
 use Rattle.outbound_model.specs.declared.fate.Fate.{Fate}
 use Rattle.outbound_model.specs.Outbound.{Outbound}
@@ -56,6 +56,13 @@ SettledBy fault = Unit {0}
 abbrev pub Settles : {T : Type 0} → Result T StoreFault → Type 0
 Settles (Ok answer) = Unit {0}
 Settles (Err fault) = SettledBy fault
+
+-- A failing disk leaves a broken store, and no call answers Read.
+abbrev pub Breaks : {T : Type 0} → Result T StoreFault → TakeStand → Type 0
+Breaks (Ok answer) s = Unit {0}
+Breaks (Err Disk) s = s.memory.broken ≢ None
+Breaks (Err Read) s = ⊥
+Breaks (Err fault) s = Unit {0}
 
 -- One change, which happens wholly or not at all, and was made where the call settles.
 pub record Kept (R : Outbound → Outbound → Type 0) (settles : Type 0) (old new : TakeStand) : Type 0 where

@@ -6,6 +6,10 @@
 //! left (`specs/Stand.antt`, `specs/Calls.antt`). What the functions do is said as steps of `outbound_model` (`specs/Ours.antt`):
 //! at every answer but a failing disk they were made, and what a stop leaves is what the first of them lead to.
 //!
+//! A store has more than its outbound, and the trait doesn't say what. What a store of one type says of each of its calls is its
+//! `rule`, and every function that is lent a store says that it made such calls only, one after the other (`specs/Ruled.antt`): who
+//! knows the store concludes the rest from that.
+//!
 //! A packet or a request of more than 2,147,483,647 bytes can't be sent. Where it was moved it stays as a take, and is told as
 //! over by its number.
 //!

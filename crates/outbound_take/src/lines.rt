@@ -1,4 +1,5 @@
 //! What is planned for the lines of a flow file before they are queued.
+ghost use Rattle.outbound_take.specs.Ruled.{Ruled};
 ghost use Rattle.std.specs.Prelude.{◌≡◌, ◌++◌, ◌∷◌, [], ◌≤◌, List, IfOk, OnOk, None, Some, map};
 ghost use Rattle.std.specs.Str.{IsUtf8};
 ghost use Rattle.ftn_addr.specs.Address.{address};
@@ -11,7 +12,7 @@ ghost use Rattle.outbound_take.specs.declared.words.Line.TheVariants as L;
 ghost use Rattle.outbound_take.specs.Calls.{AreNew, IsLike, bodies_of};
 ghost use Rattle.outbound_take.specs.Ours.{Ours};
 ghost use Rattle.outbound_take.specs.Plans.{Answers, PlanIs, PlanStages, Planned, fates_in, file_for};
-ghost use Rattle.outbound_take.specs.Stand.{IsCalm, Settles, TakeStand, told};
+ghost use Rattle.outbound_take.specs.Stand.{Breaks, IsCalm, Settles, TakeStand, told};
 
 use crate::Outgoing;
 use crate::words::Line;
@@ -151,6 +152,7 @@ fn file_of(
 }
 
 // Stages the file of a line, where it can be queued.
+#[tactic(auto, using(crate::proofs::RuledLemmas::ruled_one))]
 fn plan_line<S: Outgoing>(
     store: &mut S,
     alloc: Global,
@@ -167,6 +169,8 @@ fn plan_line<S: Outgoing>(
     ensures memory { Settles result → IsLike (S.stand store.old).memory (S.stand store.new).memory }
     ensures stages { IfOk result (λ plan. PlanStages plan (S.stand store.old).memory (S.stand store.new).memory) }
     ensures planned { IfOk result (λ plan. (s : Outbound) → told (S.stand store.old) ≡ Some s → PlanIs (address dest.now) flavour s.outside (item line) plan (S.stand store.old).content (S.stand store.new).content) }
+    ensures ruled { Ruled S.rule store.old store.new }
+    ensures breaks { Breaks result (S.stand store.new) }
 {
     let (action, path) = match line {
         FlowLine::Passed => return Ok(Plan::Is(Fate::Passed)),
@@ -189,6 +193,7 @@ fn plan_line<S: Outgoing>(
 }
 
 /// Stages the files of the lines, in order.
+#[tactic(auto, using(crate::proofs::RuledLemmas::ruled_on))]
 pub(crate) fn plan_lines<S: Outgoing>(
     store: &mut S,
     alloc: Global,
@@ -205,6 +210,8 @@ pub(crate) fn plan_lines<S: Outgoing>(
     ensures memory { Settles result → IsLike (S.stand store.old).memory (S.stand store.new).memory }
     ensures staged { IfOk result (λ plans. AreNew (map entry_of plans.files.items) (S.stand store.new).memory) }
     ensures planned { IfOk result (λ plans. (s : Outbound) → told (S.stand store.old) ≡ Some s → Planned (address dest.now) flavour s.outside (bodies_of (S.stand store.new).content) (map unless_mark (map item lines.items)) plans.lines.items (map entry_of plans.files.items)) }
+    ensures ruled { Ruled S.rule store.old store.new }
+    ensures breaks { Breaks result (S.stand store.new) }
 {
     let mut plans = Plans {
         lines: Vec::new(alloc),

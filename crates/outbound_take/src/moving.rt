@@ -1,11 +1,12 @@
 //! Taking in one file of the outbound: it is moved into the own folder, and what it brings is queued.
+ghost use Rattle.outbound_take.specs.Ruled.{Ruled};
 ghost use Rattle.std.specs.Prelude.{◌≡◌, ℕ, List, IfOk, OnOk, None, Some, true, false, option_map};
 ghost use Rattle.ftn_addr.specs.Address.{address};
 ghost use Rattle.ftn_addr.specs.Limits.{IsAddress};
 ghost use Rattle.outbound_take.specs.Calls.{IsLike};
 ghost use Rattle.outbound_take.specs.Ends.{IsDone, end_over, end_took, limit_of};
 ghost use Rattle.outbound_take.specs.Ours.{AreOver, OnlyFor, Ours};
-ghost use Rattle.outbound_take.specs.Stand.{IsCalm, Kept, Same, Settles, TakeStand, told};
+ghost use Rattle.outbound_take.specs.Stand.{Breaks, IsCalm, Kept, Same, Settles, TakeStand, told};
 
 use crate::Outgoing;
 use crate::taking::take_one;
@@ -31,11 +32,14 @@ fn limit_of(kind: Kind) -> u64
 }
 
 // Whether a file stands there that isn't over its limit.
+#[tactic(auto, using(crate::proofs::RuledLemmas::ruled_one))]
 fn can_take<S: Outgoing>(store: &mut S, path: &Bytes, kind: Kind) -> Result<bool, StoreFault>
     requires { (S.stand store.old).memory.broken ≡ None }
     ensures kept { Kept Same (Settles result) (S.stand store.old) (S.stand store.new) }
     ensures memory { Settles result → IsLike (S.stand store.old).memory (S.stand store.new).memory }
     ensures done { IfOk result (λ can. can ≡ false → IsDone path.now.list kind (told (S.stand store.old))) }
+    ensures ruled { Ruled S.rule store.old store.new }
+    ensures breaks { Breaks result (S.stand store.new) }
 {
     match store.look(path) {
         Ok(Some(stat)) => Ok(stat.size <= limit_of(kind)),
@@ -62,6 +66,8 @@ pub fn take_found<S: Outgoing>(
     ensures left { IfOk result (λ end. (over : List ℕ) → OnlyFor (address dest.now) over (S.stand store.old).memory.left → OnlyFor (address dest.now) (end_over over end) (S.stand store.new).memory.left) }
     ensures over { IfOk result (λ end. (over : List ℕ) → AreOver (address dest.now) over (told (S.stand store.old)) → AreOver (address dest.now) (end_over over end) (told (S.stand store.new))) }
     ensures done { OnOk result (IsDone path.now.list kind (told (S.stand store.new))) }
+    ensures ruled { Ruled S.rule store.old store.new }
+    ensures breaks { Breaks result (S.stand store.new) }
 {
     match can_take(store, path, kind) {
         Ok(true) => {}

@@ -1,4 +1,5 @@
 //! Queueing what a take brings, with its number.
+ghost use Rattle.outbound_take.specs.Ruled.{Ruled};
 ghost use Rattle.std.specs.Prelude.{◌≡◌, ◌∷◌, [], List, IfNone, IfOk, IfSome, MatchOption, OnOk, None, Some, false, map};
 ghost use Rattle.ftn_addr.specs.Address.{address};
 ghost use Rattle.ftn_addr.specs.Limits.{IsAddress};
@@ -10,7 +11,7 @@ ghost use Rattle.outbound_take.specs.Calls.{AreNew, Has, IsLike, IsTakeFor, bodi
 ghost use Rattle.outbound_take.specs.Ours.{Ours, left_noted, queued_as};
 ghost use Rattle.outbound_take.specs.Plans.{IsOver, IsWhole, PlansTake, WaitsOver};
 ghost use Rattle.outbound_take.specs.Spares.{SparesTakes, TellsSo};
-ghost use Rattle.outbound_take.specs.Stand.{IsCalm, Settles, TakeStand, told};
+ghost use Rattle.outbound_take.specs.Stand.{Breaks, IsCalm, Settles, TakeStand, told};
 
 use crate::Outgoing;
 use crate::lines::{Plans, fates_of, plan_lines};
@@ -41,6 +42,8 @@ fn plan_flow<S: Outgoing>(
     ensures memory { Settles result → IsLike (S.stand store.old).memory (S.stand store.new).memory }
     ensures staged { IfOk result (λ plans. AreNew (map entry_of plans.files.items) (S.stand store.new).memory) }
     ensures planned { IfOk result (λ plans. (s : Outbound) → told (S.stand store.old) ≡ Some s → PlansTake (K.Flow flavour) (address dest.now) now own.now s (bodies_of (S.stand store.new).content) plans.lines.items (map entry_of plans.files.items)) }
+    ensures ruled { Ruled S.rule store.old store.new }
+    ensures breaks { Breaks result (S.stand store.new) }
 {
     let bytes = match store.read_take(alloc, own) {
         Ok(bytes) => bytes,
@@ -75,6 +78,8 @@ fn plan_take<S: Outgoing>(
     ensures staged { IfOk result (λ plan. IfSome plan (λ plans. AreNew (map entry_of plans.files.items) (S.stand store.new).memory)) }
     ensures planned { IfOk result (λ plan. (s : Outbound) → told (S.stand store.old) ≡ Some s → MatchOption plan (IsOver own.now s) (λ plans. PlansTake kind (address dest.now) now own.now s (bodies_of (S.stand store.new).content) plans.lines.items (map entry_of plans.files.items))) }
     ensures over { IfOk result (λ plan. IfNone plan (IsWhole kind)) }
+    ensures ruled { Ruled S.rule store.old store.new }
+    ensures breaks { Breaks result (S.stand store.new) }
 {
     match kind {
         Kind::Flow(flavour) => match plan_flow(store, alloc, dest, now, own, flavour) {
@@ -106,6 +111,8 @@ pub fn queue_take<S: Outgoing>(
     ensures noted { IfOk result (λ fates. (S.stand store.new).memory.left ≡ left_noted own.now fates (S.stand store.old).memory.left) }
     ensures spares { OnOk result (TellsSo SparesTakes (S.stand store.old) (S.stand store.new)) }
     ensures over { IfOk result (λ fates. IfNone fates (WaitsOver kind own.now (told (S.stand store.new)))) }
+    ensures ruled { Ruled S.rule store.old store.new }
+    ensures breaks { Breaks result (S.stand store.new) }
 {
     let plans = match plan_take(store, alloc, dest, now, own, kind) {
         Ok(Some(plans)) => plans,

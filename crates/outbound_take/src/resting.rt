@@ -1,9 +1,10 @@
 //! Taking in what a stop left.
+ghost use Rattle.outbound_take.specs.Ruled.{Ruled};
 ghost use Rattle.std.specs.Prelude.{◌≡◌, IfOk, None};
 ghost use Rattle.ftn_addr.specs.Address.{address};
 ghost use Rattle.ftn_addr.specs.Limits.{IsAddress};
 ghost use Rattle.outbound_take.specs.Ours.{AreOver, OnlyFor, Ours, all_took};
-ghost use Rattle.outbound_take.specs.Stand.{IsCalm, Settles, TakeStand, told};
+ghost use Rattle.outbound_take.specs.Stand.{Breaks, IsCalm, Settles, TakeStand, told};
 
 use crate::Outgoing;
 use crate::taking::take_one;
@@ -14,6 +15,7 @@ use std::alloc::Global;
 
 /// Takes in each take of the address that a stop left. Of those that are recorded nothing is told. A packet or a request of more
 /// than 2,147,483,647 bytes stays, and is told as over.
+#[tactic(auto, using(crate::proofs::RuledLemmas::ruled_call, crate::proofs::RuledLemmas::ruled_on))]
 pub fn take_rest<S: Outgoing>(
     store: &mut S,
     alloc: Global,
@@ -27,6 +29,8 @@ pub fn take_rest<S: Outgoing>(
     ensures whole { Settles result → (S.stand store.new).memory.broken ≡ None }
     ensures left { IfOk result (λ taken. OnlyFor (address dest.now) taken.over.items (S.stand store.new).memory.left) }
     ensures over { IfOk result (λ taken. AreOver (address dest.now) taken.over.items (told (S.stand store.new))) }
+    ensures ruled { Ruled S.rule store.old store.new }
+    ensures breaks { Breaks result (S.stand store.new) }
 {
     let mut files = Vec::new(alloc);
     let mut over = Vec::new(alloc);

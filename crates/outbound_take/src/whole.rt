@@ -1,4 +1,5 @@
 //! What is planned for packets and requests, which are one file each.
+ghost use Rattle.outbound_take.specs.Ruled.{Ruled};
 ghost use Rattle.std.specs.Prelude.{◌≡◌, ◌∷◌, [], ◌≤◌, List, IfOk, IfSome, MatchOption, OnOk, None, Some, false, map};
 ghost use Rattle.ftn_addr.specs.Address.{address};
 ghost use Rattle.ftn_addr.specs.Limits.{IsAddress};
@@ -9,7 +10,7 @@ ghost use Rattle.outbound_model.specs.Outbound.{Outbound};
 ghost use Rattle.outbound_take.specs.Calls.{AreNew, Has, IsLike, bodies_of};
 ghost use Rattle.outbound_take.specs.Ours.{Ours};
 ghost use Rattle.outbound_take.specs.Plans.{IsOver, IsWhole, PlansTake};
-ghost use Rattle.outbound_take.specs.Stand.{IsCalm, Settles, TakeStand, told};
+ghost use Rattle.outbound_take.specs.Stand.{Breaks, IsCalm, Settles, TakeStand, told};
 
 use crate::Outgoing;
 use crate::lines::Plans;
@@ -89,6 +90,7 @@ fn whole_file(
 }
 
 /// Stages a packet or a request. There is no plan where it is over the limit of files.
+#[tactic(auto, using(crate::proofs::RuledLemmas::ruled_one))]
 pub(crate) fn plan_whole<S: Outgoing>(
     store: &mut S,
     alloc: Global,
@@ -106,6 +108,8 @@ pub(crate) fn plan_whole<S: Outgoing>(
     ensures memory { Settles result → IsLike (S.stand store.old).memory (S.stand store.new).memory }
     ensures staged { IfOk result (λ plan. IfSome plan (λ plans. AreNew (map entry_of plans.files.items) (S.stand store.new).memory)) }
     ensures planned { IfOk result (λ plan. (s : Outbound) → told (S.stand store.old) ≡ Some s → MatchOption plan (IsOver own.now s) (λ plans. PlansTake kind (address dest.now) now own.now s (bodies_of (S.stand store.new).content) plans.lines.items (map entry_of plans.files.items))) }
+    ensures ruled { Ruled S.rule store.old store.new }
+    ensures breaks { Breaks result (S.stand store.new) }
 {
     let (number, size) = match store.stage_own(own) {
         Ok(staged) => staged,

@@ -5,6 +5,7 @@ use Rattle.outbound_take.proofs.EndLemmas.{absent_done, absent_told, done_same, 
 use Rattle.outbound_take.proofs.LeftLemmas.{has_from, names_none, names_some}
 use Rattle.outbound_take.proofs.OurLemmas.{match_none, our_calm, our_on, our_same, our_silent, our_take, queued_none, queued_some}
 use Rattle.outbound_take.proofs.OverLemmas.{overs_more}
+use Rattle.outbound_take.proofs.RuledLemmas.{ruled_call, ruled_on}
 use Rattle.outbound_take.proofs.WorkLemmas.{same_told}
 use Rattle.outbound_take.proofs.moving.take_found.Goals as goal
 
@@ -118,3 +119,21 @@ returns-in-Err-take_one-clause-works g c = (_, our_on _ _ _ _ _ _ _ _ _ (our_on 
 
 pub returns-in-Err-take_one-clause-whole : goal.returns-in-Err-take_one-clause-whole
 returns-in-Err-take_one-clause-whole g c = c.in-Err-take_one.ensures.whole
+
+pub returns-in-Err-next_take-clause-ruled : goal.returns-in-Err-next_take-clause-ruled
+returns-in-Err-next_take-clause-ruled g c = ruled_call _ _ _ _ c.in-Ok-true.ensures.ruled c.in-Err-next_take.ensures.rule
+
+pub returns-in-Ok-Absent-clause-ruled : goal.returns-in-Ok-Absent-clause-ruled
+returns-in-Ok-Absent-clause-ruled g c = ruled_call _ _ _ _ (ruled_call _ _ _ _ c.in-Ok-true.ensures.ruled c.in-Ok.ensures.rule) c.in-Ok-Absent.ensures.rule
+
+pub returns-in-Err-take_file-clause-ruled : goal.returns-in-Err-take_file-clause-ruled
+returns-in-Err-take_file-clause-ruled g c = ruled_call _ _ _ _ (ruled_call _ _ _ _ c.in-Ok-true.ensures.ruled c.in-Ok.ensures.rule) c.in-Err-take_file.ensures.rule
+
+pub returns-in-Ok-Some-clause-ruled : goal.returns-in-Ok-Some-clause-ruled
+returns-in-Ok-Some-clause-ruled g c = ruled_on _ _ _ _ (ruled_call _ _ _ _ (ruled_call _ _ _ _ c.in-Ok-true.ensures.ruled c.in-Ok.ensures.rule) c.in-Ok-Done.ensures.rule) c.in-Ok-Some.ensures.ruled
+
+pub returns-in-Ok-None-clause-ruled : goal.returns-in-Ok-None-clause-ruled
+returns-in-Ok-None-clause-ruled g c = ruled_on _ _ _ _ (ruled_call _ _ _ _ (ruled_call _ _ _ _ c.in-Ok-true.ensures.ruled c.in-Ok.ensures.rule) c.in-Ok-Done.ensures.rule) c.in-Ok-None.ensures.ruled
+
+pub returns-in-Err-take_one-clause-ruled : goal.returns-in-Err-take_one-clause-ruled
+returns-in-Err-take_one-clause-ruled g c = ruled_on _ _ _ _ (ruled_call _ _ _ _ (ruled_call _ _ _ _ c.in-Ok-true.ensures.ruled c.in-Ok.ensures.rule) c.in-Ok-Done.ensures.rule) c.in-Err-take_one.ensures.ruled

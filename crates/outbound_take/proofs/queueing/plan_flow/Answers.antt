@@ -7,6 +7,7 @@ use Rattle.outbound_take.specs.Plans.{Planned}
 use Rattle.outbound_take.proofs.OurLemmas.{our_on, our_calm, our_same}
 use Rattle.outbound_take.proofs.PlanLemmas.{lines_read}
 use Rattle.outbound_take.proofs.QueueLemmas.{flow_plan}
+use Rattle.outbound_take.proofs.RuledLemmas.{ruled_on, ruled_one}
 use Rattle.outbound_take.proofs.WorkLemmas.{same_told}
 use Rattle.outbound_take.proofs.queueing.plan_flow.Goals as goal
 
@@ -44,3 +45,15 @@ returns-in-Ok-plan_lines-clause-planned g c = λ s tells.
     (subst (λ (is : List FlowItem). Planned (address c.args.dest.now) c.args.flavour s.outside (bodies_of (g.S.Outgoing.stand c.plan_lines.new.store).content) is c.in-Ok-plan_lines.plans.lines.items (map entry_of c.in-Ok-plan_lines.plans.files.items))
     (lines_read c.in-Ok-read_flow.lines.items c.in-Ok.bytes.list _ c.in-Ok-read_flow.ensures c.as_slice.ensures)
     (c.in-Ok-plan_lines.ensures.planned s (same_told _ _ _ c.in-Ok.ensures.kept tt ∙ tells)))
+
+pub returns-in-Err-clause-ruled : goal.returns-in-Err-clause-ruled
+returns-in-Err-clause-ruled g c = ruled_one _ _ _ c.in-Err.ensures.rule
+
+pub returns-in-Err-read_flow-clause-ruled : goal.returns-in-Err-read_flow-clause-ruled
+returns-in-Err-read_flow-clause-ruled g c = ruled_one _ _ _ c.in-Ok.ensures.rule
+
+pub returns-clause-ruled : goal.returns-clause-ruled
+returns-clause-ruled g c = ruled_on _ _ _ _ (ruled_one _ _ _ c.in-Ok.ensures.rule) c.in-Err-plan_lines.ensures.ruled
+
+pub returns-in-Ok-plan_lines-clause-ruled : goal.returns-in-Ok-plan_lines-clause-ruled
+returns-in-Ok-plan_lines-clause-ruled g c = ruled_on _ _ _ _ (ruled_one _ _ _ c.in-Ok.ensures.rule) c.in-Ok-plan_lines.ensures.ruled

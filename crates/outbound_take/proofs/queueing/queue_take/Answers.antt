@@ -5,6 +5,7 @@ use Rattle.outbound_model.specs.declared.fate.Fate.{Fate}
 use Rattle.outbound_take.specs.Calls.{bodies_of}
 use Rattle.outbound_take.proofs.OurLemmas.{our_on, our_files, match_none, match_some}
 use Rattle.outbound_take.proofs.QueueLemmas.{our_queue, plan_of_slice, fates_are}
+use Rattle.outbound_take.proofs.RuledLemmas.{ruled_call}
 use Rattle.outbound_take.proofs.SpareLemmas.{queued_spare, so_none}
 use Rattle.outbound_take.proofs.queueing.queue_take.Goals as goal
 
@@ -46,3 +47,12 @@ returns-clause-works g c =
     (plan_of_slice c.args.kind (address c.args.dest.now) c.args.now c.args.own.now _ _ (bodies_of (g.S.Outgoing.stand c.plan_take.new.store).content) c.in-Ok-Some.plans.lines.items c.in-Ok-Some.plans.files.items c.as_slice.result.now (c.in-Ok-Some.ensures.told tt) c.as_slice.ensures.value (λ s tells. match_some _ _ _ _ c.in-Ok-Some.field-0-is (c.in-Ok-Some.ensures.planned s tells)))
     c.in-Ok.ensures.kept in
     (_, our_on _ _ _ _ _ _ _ _ _ c.in-Ok-Some.ensures.works tt q)
+
+pub returns-in-Err-queue_all-clause-ruled : goal.returns-in-Err-queue_all-clause-ruled
+returns-in-Err-queue_all-clause-ruled g c = ruled_call _ _ _ _ c.in-Ok-Some.ensures.ruled c.in-Err-queue_all.ensures.rule
+
+pub returns-in-Ok-fates_of-clause-ruled : goal.returns-in-Ok-fates_of-clause-ruled
+returns-in-Ok-fates_of-clause-ruled g c = ruled_call _ _ _ _ c.in-Ok-Some.ensures.ruled c.in-Ok.ensures.rule
+
+pub returns-clause-ruled : goal.returns-clause-ruled
+returns-clause-ruled g c = ruled_call _ _ _ _ c.in-Ok-Some.ensures.ruled c.in-Ok.ensures.rule

@@ -1,9 +1,10 @@
-use Rattle.std.proofs.Common.{Bool, Ok, Err, length, ap, sym, subst, arith}
+use Rattle.std.proofs.Common.{Bool, Ok, Err, length, refl, ap, sym, subst, arith}
 use Rattle.outbound_take.specs.Calls.{Has}
 use Rattle.outbound_take.specs.Ours.{all_took}
 use Rattle.outbound_take.proofs.OurLemmas.{our_on, our_last, our_none, our_calm, our_drop, our_files, queued_none, queued_some, match_none}
 use Rattle.outbound_take.proofs.LeftLemmas.{took_more, fewer_without, fewer_names, names_gone, names_none, names_some}
 use Rattle.outbound_take.proofs.OverLemmas.{below_more, each_none, only_told, overs_below, overs_more, told_more, told_none, told_removed, first_great}
+use Rattle.outbound_take.proofs.RuledLemmas.{ruled_call, ruled_none, ruled_on}
 use Rattle.outbound_take.proofs.SpareLemmas.{drop_so}
 use Rattle.outbound_take.proofs.resting.take_rest.Goals as goal
 
@@ -14,6 +15,7 @@ takes-init g c = record {
   told_so = told_none _ _ _;
   below = each_none _ _ c.new-over.ensures.items;
   overs = λ s tells. each_none _ _ c.new-over.ensures.items;
+  ruled = ruled_none _ _ _ refl;
 }
 
 pub returns-in-None-clause-left : goal.returns-in-None-clause-left
@@ -47,6 +49,7 @@ takes-preserved-in-Ok g c = record {
   told_so = told_removed _ _ _ c.in-Some.take.own _ _ (names_gone c.in-Some.take.own _ _ c.in-Ok.ensures.memory.left) c.takes.invariant.told_so;
   below = c.takes.invariant.below;
   overs = overs_below _ _ _ c.in-Some.take.own _ _ c.in-Ok.ensures.kept.silent (drop_so _ _ _ c.in-Ok.ensures.kept) (first_great _ _ _ _ c.in-Some.ensures) c.takes.invariant.below c.takes.invariant.overs;
+  ruled = ruled_call _ _ _ _ c.takes.invariant.ruled c.in-Ok.ensures.rule;
 }
 
 pub takes-preserved-in_default : goal.takes-preserved-in_default
@@ -56,6 +59,7 @@ takes-preserved-in_default g c = record {
   told_so = told_removed _ _ _ c.in-Some.take.own _ _ (names_some c.in-Some.take.own _ _ _ _ c.in-Ok-Some.field-0-is c.in-Ok-Some.ensures.left) c.takes.invariant.told_so;
   below = c.takes.invariant.below;
   overs = overs_below _ _ _ c.in-Some.take.own _ _ c.in-Ok-Some.ensures.works.silent c.in-Ok-Some.ensures.spares (first_great _ _ _ _ c.in-Some.ensures) c.takes.invariant.below c.takes.invariant.overs;
+  ruled = ruled_on _ _ _ _ c.takes.invariant.ruled c.in-Ok-Some.ensures.ruled;
 }
 
 pub takes-preserved : goal.takes-preserved
@@ -66,6 +70,7 @@ takes-preserved g c = record {
   below = below_more _ _ _ _ c.in-Some.ensures.above c.in_default-push.ensures.items c.takes.invariant.below;
   overs = overs_more _ _ _ c.in-Some.take.own c.in-Some.take.kind _ _ c.in-Some.ensures.named c.in-Some.ensures.numbered (match_none _ _ _ c.in-Ok-None.field-0-is c.in-Ok-None.ensures.over) c.in_default-push.ensures.items
       (overs_below _ _ _ c.in-Some.take.own _ _ c.in-Ok-None.ensures.works.silent c.in-Ok-None.ensures.spares (first_great _ _ _ _ c.in-Some.ensures) c.takes.invariant.below c.takes.invariant.overs);
+  ruled = ruled_on _ _ _ _ c.takes.invariant.ruled c.in-Ok-None.ensures.ruled;
 }
 
 pub takes-smaller-in-Ok : goal.takes-smaller-in-Ok

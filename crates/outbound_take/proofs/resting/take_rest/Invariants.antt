@@ -3,6 +3,7 @@ use Rattle.ftn_addr.specs.Address.{address}
 use Rattle.node_model.specs.Lists.{Each}
 use Rattle.outbound_take.specs.Calls.{next_above, owns}
 use Rattle.outbound_take.specs.Ours.{AreOver, OurWorks, all_took}
+use Rattle.outbound_take.specs.Ruled.{Ruled}
 use Rattle.outbound_take.specs.Stand.{told}
 use Rattle.outbound_take.proofs.OverLemmas.{ToldBelow}
 use Rattle.outbound_take.proofs.resting.take_rest.Given as goal
@@ -14,6 +15,7 @@ invariant-takes g l = record {
   told_so : ToldBelow (address l.dest) (next_above l.above) l.over.items (owns (g.S.Outgoing.stand l.store).memory.left);
   below : Each (λ n. n < next_above l.above) l.over.items;
   overs : AreOver (address l.dest) l.over.items (told (g.S.Outgoing.stand l.store));
+  ruled : Ruled g.S.Outgoing.rule l.initial.store l.store;
 }
 
 abbrev pub decreases-takes : goal.decreases-takes

@@ -1,6 +1,7 @@
 use Rattle.std.proofs.Common.{◌∙◌, Ok, Err}
 use Rattle.outbound_take.proofs.OurLemmas.{our_on, our_last, our_calm, our_drop, queued_none, queued_some, match_none}
 use Rattle.outbound_take.proofs.LeftLemmas.{has_noted, left_one, has_in, names_noted_none, noted_some}
+use Rattle.outbound_take.proofs.RuledLemmas.{ruled_call, ruled_on}
 use Rattle.outbound_take.proofs.SpareLemmas.{drop_behind, others_so, spare_on}
 use Rattle.outbound_take.proofs.taking.take_one.Goals as goal
 
@@ -42,3 +43,12 @@ returns-in-Ok-None-clause-left g c = names_noted_none c.args.own.now _ _ _ c.in-
 
 pub returns-in-Ok-None-clause-over : goal.returns-in-Ok-None-clause-over
 returns-in-Ok-None-clause-over g c = match_none _ _ _ c.in-Ok-None.field-0-is c.in-Ok-None.ensures.over
+
+pub returns-in-Err-do_actions-clause-ruled : goal.returns-in-Err-do_actions-clause-ruled
+returns-in-Err-do_actions-clause-ruled g c = ruled_on _ _ _ _ c.in-Ok-Some.ensures.ruled c.in-Err-do_actions.ensures.ruled
+
+pub returns-in-Ok-finish_take-clause-ruled : goal.returns-in-Ok-finish_take-clause-ruled
+returns-in-Ok-finish_take-clause-ruled g c = ruled_call _ _ _ _ (ruled_on _ _ _ _ c.in-Ok-Some.ensures.ruled c.in-Ok.ensures.ruled) c.in-Ok-finish_take.ensures.rule
+
+pub returns-in-Err-finish_take-clause-ruled : goal.returns-in-Err-finish_take-clause-ruled
+returns-in-Err-finish_take-clause-ruled g c = ruled_call _ _ _ _ (ruled_on _ _ _ _ c.in-Ok-Some.ensures.ruled c.in-Ok.ensures.ruled) c.in-Err-finish_take.ensures.rule
