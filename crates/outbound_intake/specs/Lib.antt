@@ -1,0 +1,4 @@
+pub mod Asks
+pub mod Files
+pub mod Orders
+pub mod Answers
