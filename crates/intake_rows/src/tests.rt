@@ -1,0 +1,59 @@
+//! A flow file of four lines, in the outbound `out`.
+ghost use Rattle.std.specs.Prelude.{IfOk};
+ghost use Rattle.disk_model.specs.Moments.{AtRest};
+ghost use Rattle.mem_disk.specs.MemoryDisk.{mem_files, mem_images, mem_moment};
+
+use crate::{queue_of, take_once};
+use ftn_addr::{Failed, NoMemory};
+use mem_disk::MemDisk;
+use outbound_model::Fate;
+use outbound_take::{TakeFault, Taken};
+use std::alloc::Global;
+use std::test::Fail;
+use store_rows::{
+    failing_at, names_in, node, outside_file, picks_at, reopened, stopped, with_outside,
+};
+
+mod fates;
+mod stops;
+
+const FLOW: &[u8] = b"out/13b7000d.flo";
+
+const LINES: &[u8] = b"^in/x.zip\r\n~in/old\r\n#in/b.mo0\r\nin/gone\r\n";
+
+// A disk with that file, and the two sources that stand.
+fn with_flow(alloc: Global) -> Result<MemDisk, NoMemory>
+    ensures { IfOk result (AtRest mem_files mem_moment mem_images) }
+{
+    let disk = with_outside(alloc, MemDisk::new(alloc), FLOW, LINES)?;
+    let disk = with_outside(alloc, disk, b"in/x.zip", b"xx")?;
+    with_outside(alloc, disk, b"in/b.mo0", b"bbb")
+}
+
+// What its take-in answers, and the disk behind it.
+fn taken(alloc: Global, disk: MemDisk) -> Result<(Result<Taken, TakeFault>, MemDisk), Fail>
+    requires { AtRest mem_files mem_moment mem_images disk }
+{
+    match take_once(alloc, disk, &node(alloc, 5047, 13)?)? {
+        Some(intake) => Ok(intake),
+        None => Err(Failed.into()),
+    }
+}
+
+// Whether two files are queued, the sources are as the lines say, and neither flow file nor mark stands.
+fn is_whole(alloc: Global, disk: MemDisk) -> Result<bool, Fail>
+    requires { AtRest mem_files mem_moment mem_images disk }
+{
+    let mut disk = disk;
+    let deleted = outside_file(alloc, &mut disk, b"in/x.zip")?.is_none();
+    let cut = match outside_file(alloc, &mut disk, b"in/b.mo0")? {
+        Some(bytes) => bytes.is_empty(),
+        None => false,
+    };
+    let left = names_in(alloc, &mut disk, b"out")?;
+    let numbers = match queue_of(alloc, reopened(disk)?)? {
+        Some(numbers) => numbers.len(),
+        None => 0,
+    };
+    Ok(deleted && cut && left.is_empty() && numbers == 2)
+}
