@@ -78,9 +78,8 @@ impl<R: Files + Drop> Folder<R> {
     }
 
     pub fn cut(&mut self, name: &Name, len: u64) -> Answer<()> {
-        let mut opened = self.open_with(name, len)?;
+        let opened = self.open_with(name, len)?;
         cut_to(&opened.file, len)?;
-        opened.was_cut(len);
         self.hold(name, opened);
         Ok(())
     }
@@ -144,12 +143,9 @@ impl<R: Files + Drop> Folder<R> {
         }
     }
 
-    // The same file where it has at least so many bytes. The system is asked only where that isn't known.
+    // The same file where it has at least so many bytes.
     fn open_with(&mut self, name: &Name, len: u64) -> Answer<Placed<R::File>> {
         let opened = self.open(name)?;
-        if opened.has(len) {
-            return Ok(opened);
-        }
         if status_of(&opened.file)?.len() < len {
             return Err(refused(SystemCall::Stat, io::ErrorKind::InvalidInput));
         }
