@@ -4,8 +4,10 @@
 //! Nothing names this crate. Its tests stand here, above all that they run through.
 #![tactic(auto)]
 
+mod behind;
 mod taking;
 #[cfg(test)]
 mod tests;
 
-pub use taking::{Intake, queue_of, take_once};
+pub use behind::{Behind, disk_with, left_behind};
+pub use taking::{Intake, list_of, queue_of, take_once};

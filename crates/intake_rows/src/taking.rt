@@ -8,6 +8,7 @@ ghost use Rattle.mem_disk.specs.MemoryDisk.{mem_files, mem_images, mem_moment};
 use ftn_addr::{Addr, Bytes, NoMemory};
 use mem_disk::MemDisk;
 use outbound_intake::{OutboundAt, take_in};
+use outbound_lines::list_lines;
 use outbound_store::TakingStore;
 use outbound_take::{TakeFault, Taken};
 use std::alloc::Global;
@@ -49,4 +50,15 @@ pub fn queue_of(alloc: Global, disk: MemDisk) -> Result<Option<Vec<u32>>, NoMemo
         numbers.push(item.number)?;
     }
     Ok(Some(numbers))
+}
+
+/// What `list` tells of the store of a disk at rest. None where it isn't opened.
+pub fn list_of(alloc: Global, disk: MemDisk) -> Result<Option<Bytes>, NoMemory>
+    requires { AtRest mem_files mem_moment mem_images disk }
+{
+    let Ok((store, _recovery)) = open_store(alloc, disk)? else {
+        return Ok(None);
+    };
+    let lines = list_lines(alloc, store.state())?;
+    Ok(Some(lines))
 }

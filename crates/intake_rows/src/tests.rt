@@ -3,8 +3,8 @@ ghost use Rattle.std.specs.Prelude.{IfOk};
 ghost use Rattle.disk_model.specs.Moments.{AtRest};
 ghost use Rattle.mem_disk.specs.MemoryDisk.{mem_files, mem_images, mem_moment};
 
-use crate::{queue_of, take_once};
-use ftn_addr::{Failed, NoMemory};
+use crate::{Behind, disk_with, left_behind, queue_of, take_once};
+use ftn_addr::{Bytes, Failed, NoMemory};
 use mem_disk::MemDisk;
 use outbound_model::Fate;
 use outbound_take::{TakeFault, Taken};
@@ -14,7 +14,15 @@ use store_rows::{
     failing_at, names_in, node, outside_file, picks_at, reopened, stopped, with_outside,
 };
 
+mod again;
+mod changes;
 mod fates;
+mod kinds;
+mod lines;
+mod marks;
+mod places;
+mod sizes;
+mod sources;
 mod stops;
 
 const FLOW: &[u8] = b"out/13b7000d.flo";
@@ -56,4 +64,17 @@ fn is_whole(alloc: Global, disk: MemDisk) -> Result<bool, Fail>
         None => 0,
     };
     Ok(deleted && cut && left.is_empty() && numbers == 2)
+}
+
+// What a take-in of 2:5047/13 leaves of these outside files.
+fn behind_of(alloc: Global, files: &[(&[u8], &[u8])]) -> Result<Behind, Fail> {
+    left_behind(alloc, disk_with(alloc, files)?, &node(alloc, 5047, 13)?)
+}
+
+// Whether the take-in ended with these fates.
+fn has_fates(behind: &Behind, wanted: &[Fate]) -> bool {
+    match &behind.fates {
+        Ok(fates) => fates.as_slice() == wanted,
+        Err(_) => false,
+    }
 }

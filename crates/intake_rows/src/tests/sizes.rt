@@ -1,0 +1,22 @@
+//! The greatest flow file.
+use super::*;
+
+// What becomes of a flow file of that many bytes, which are one line of blanks.
+fn behind_sized(alloc: Global, len: usize) -> Result<Behind, Fail>
+    requires { len ≤ 1048577 }
+{
+    let blanks = vec![in alloc; b' '; len]?;
+    behind_of(alloc, &[(b"out/13b7000d.flo", blanks.as_slice())])
+}
+
+#[test]
+fn a_flow_file_over_one_mebibyte_is_left_in_place(rt: HostRuntime) -> Result<(), Fail> {
+    let greatest = behind_sized(rt.alloc(), 1_048_576)?;
+    assert!(rt; has_fates(&greatest, &[Fate::Passed]));
+    assert!(rt; greatest.outside.is_empty());
+    let greater = behind_sized(rt.alloc(), 1_048_577)?;
+    assert!(rt; has_fates(&greater, &[]));
+    let outside: &[u8] = b"out/13b7000d.flo 1048577\n";
+    assert_eq!(rt; greater.outside.as_slice(), outside);
+    Ok(())
+}
