@@ -64,10 +64,19 @@ in/i.zip 1
 
 // Whether all is queued in that order, and only the sources stand.
 fn is_all_taken(behind: &Behind) -> bool {
-    let mut wanted = [Fate::Passed; 11];
-    for (place, fate) in wanted.iter_mut().enumerate() {
-        *fate = Fate::Queued(place as u32 + 1);
-    }
+    let wanted = [
+        Fate::Queued(1),
+        Fate::Queued(2),
+        Fate::Queued(3),
+        Fate::Queued(4),
+        Fate::Queued(5),
+        Fate::Queued(6),
+        Fate::Queued(7),
+        Fate::Queued(8),
+        Fate::Queued(9),
+        Fate::Queued(10),
+        Fate::Queued(11),
+    ];
     has_fates(behind, &wanted)
         && behind.queue.as_slice() == QUEUE
         && behind.outside.as_slice() == SOURCES

@@ -76,10 +76,10 @@ live 3 parts 0 received 0 refused 0
     Ok(())
 }
 
-// A path of that length with the name `f`, of 6 bytes at least.
+// A path of that length with the name `f`, of 5 bytes at least.
 fn long_path(alloc: Global, len: usize) -> Result<Bytes, NoMemory> {
-    let mut path = Bytes::from_slice(alloc, b"in/d")?;
-    while path.len() + 2 < len {
+    let mut path = Bytes::from_slice(alloc, b"in/")?;
+    for _ in 5..len {
         path.push_slice(b"d")?;
     }
     path.push_slice(b"/f")?;

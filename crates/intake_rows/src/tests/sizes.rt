@@ -2,9 +2,7 @@
 use super::*;
 
 // What becomes of a flow file of that many bytes, which are one line of blanks.
-fn behind_sized(alloc: Global, len: usize) -> Result<Behind, Fail>
-    requires { len ≤ 1048577 }
-{
+fn behind_sized(alloc: Global, len: usize) -> Result<Behind, Fail> {
     let blanks = vec![in alloc; b' '; len]?;
     behind_of(alloc, &[(b"out/13b7000d.flo", blanks.as_slice())])
 }
