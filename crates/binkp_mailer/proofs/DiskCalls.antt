@@ -27,7 +27,7 @@ use Rattle.node_store.specs.Worlds.{OpensAs, Opens}
 use Rattle.node_store.proofs.Openings.{one_shelf, opens_to}
 use Rattle.session_run.specs.Reports.{ReportText}
 use Rattle.command_base.specs.Opening.{HasOpened}
-use Rattle.binkp_mailer.specs.DiskCall.{OpensTo, KeepsReceipts, Serves, Over_disk, Not_asked, Not_set, No_call, Not_opened, No_index, Bad_index, Over_store}
+use Rattle.binkp_mailer.specs.DiskCall.{OpensTo, KeepsReceipts, Serves, Over_disk, No_words, Not_asked, Not_set, No_call, Not_opened, No_index, Bad_index, Over_store}
 use Rattle.binkp_mailer.specs.Inbound.{Gives_behind, Gives_none, Gives_round}
 use Rattle.command_base.specs.Settings.{OnlyRead}
 use Rattle.command_base.specs.Statuses.{Status}
@@ -177,6 +177,7 @@ module _ {D : Type 0} (tells : Bool) (content : D → World) (faults : D → ℕ
       let now_is : images disk (moment disk) w = subst (λ (m : ℕ). images disk m w) (omega (arith, from, until)) here in
       let opens = all w now_is in
       opens_still d w opens.0 opens.1 opens.2 e op
+  keeps_receipts words challenge now line disk told had line' disk' telling (No_words none is only line_is) = read_still disk disk' only
   keeps_receipts words challenge now line disk told had line' disk' telling (Not_set none form why only line_is) = read_still disk disk' only
   keeps_receipts words challenge now line disk told had line' disk' telling (No_call conf settings none why only line_is) = read_still disk disk' only
   keeps_receipts words challenge now line disk told had line' disk' telling (Not_opened conf settings side are fault none had_is line_is refused) = λ d reads all k w e from to image op.

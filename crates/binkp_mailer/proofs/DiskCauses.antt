@@ -15,7 +15,7 @@ use Rattle.binkp_link.specs.Lines.{LineState, SinkState}
 use Rattle.session_core.specs.Ends.{End}
 use Rattle.session_core.specs.Ends as E
 use Rattle.session_run.specs.Reports.{ReportText}
-use Rattle.binkp_mailer.specs.DiskCall.{IsNoCall, Over_disk, Not_asked, Not_set, No_call, Not_opened, No_index, Bad_index, Over_store}
+use Rattle.binkp_mailer.specs.DiskCall.{IsNoCall, Over_disk, No_words, Not_asked, Not_set, No_call, Not_opened, No_index, Bad_index, Over_store}
 use Rattle.command_base.specs.Causes.{DiskCause}
 use Rattle.command_base.proofs.Causes.{had_no_memory, printed_disk, refused_so, said_none, unindexed_so, unset_so}
 use Rattle.binkp_mailer.specs.Inbound.{Gives_behind, Gives_none, Gives_round, status_behind}
@@ -74,6 +74,7 @@ module _ {D : Type 0} (tells : Bool) (content : D → World) (faults : D → ℕ
   served_so limit S.BadPassword line line' opened left disk calm of cause = tt
   served_so limit (S.Broke why n) line line' opened left disk calm of cause = tt
   served_so limit S.Endless line line' opened left disk calm of cause = tt
+  served_so limit (S.Marked name) line line' opened left disk calm of cause = tt
   served_so limit S.OutFault line line' opened left disk calm of cause = tt
   served_so limit S.NoMemory line line' opened left disk calm of cause = tt
   served_so limit S.NotFound line line' opened left disk calm of cause = tt
@@ -99,6 +100,7 @@ module _ {D : Type 0} (tells : Bool) (content : D → World) (faults : D → ℕ
   still_so S.BadPassword disk held left of grew cause = tt
   still_so (S.Broke why n) disk held left of grew cause = tt
   still_so S.Endless disk held left of grew cause = tt
+  still_so (S.Marked name) disk held left of grew cause = tt
   still_so S.OutFault disk held left of grew cause = tt
   still_so S.NoMemory disk held left of grew cause = tt
   still_so S.NotFound disk held left of grew cause = tt
@@ -122,6 +124,7 @@ module _ {D : Type 0} (tells : Bool) (content : D → World) (faults : D → ℕ
       subst (λ (x : Status). DiskCause tells content faults x disk left.disk) (sym had_is) (round_so conf was held left disk _ result of cause grew gives)
 
   had_so : (words : List (List ℕ)) (challenge : List ℕ) (now : ℕ) (line : LineState) (disk : D) (told : Option ReportText) (had : Status) (line' : LineState) (disk' : D) → Over_disk tells content faults moment images words challenge now line disk told had line' disk' → DiskCause tells content faults had disk disk'
+  had_so words challenge now line disk told had line' disk' (No_words none is only line_is) = subst (λ (x : Status). DiskCause tells content faults x disk disk') (sym is) tt
   had_so words challenge now line disk told had line' disk' (Not_asked none is form line_is disk_is) = said_none tells content faults moment images disk disk' had is
   had_so words challenge now line disk told had line' disk' (Not_set none form why only line_is) = unset_so tells content faults moment images disk disk' had why
   had_so words challenge now line disk told had line' disk' (No_call conf settings none why only line_is) = no_call_so words conf disk disk' had why

@@ -10,7 +10,7 @@ use Rattle.nodelist_files.specs.Files.{index_name}
 use Rattle.nodelist_files.specs.IndexFile.{index_at}
 use Rattle.command_base.specs.Causes.{IsBadIndex}
 use Rattle.session_auth.specs.Sides.{Side}
-use Rattle.binkp_mailer.specs.DiskCall.{IsListed, Over_disk, Not_asked, Not_set, No_call, Not_opened, No_index, Bad_index, Over_store}
+use Rattle.binkp_mailer.specs.DiskCall.{IsListed, Over_disk, No_words, Not_asked, Not_set, No_call, Not_opened, No_index, Bad_index, Over_store}
 use Rattle.binkp_mailer.specs.Words.{HaveForm}
 
 module _ {D : Type 0} (tells : Bool) (content : D → World) (faults : D → ℕ) (moment : D → ℕ) (images : D → ℕ → World → Type 0) where
@@ -21,6 +21,7 @@ module _ {D : Type 0} (tells : Bool) (content : D → World) (faults : D → ℕ
   pub call_before : (words : List (List ℕ)) (challenge : List ℕ) (now : ℕ) (line : LineState) (old mid : D) (told : Option ReportText) (had : Status) (line' : LineState) (new : D)
       → OnlyRead tells content faults moment images old mid → faults mid ≡ faults old → HaveForm words
       → Over_disk tells content faults moment images words challenge now line mid told had line' new → Over_disk tells content faults moment images words challenge now line old told had line' new
+  call_before words challenge now line old mid told had line' new only calm form (No_words none is more line_is) = No_words none is (then_read tells content faults moment images old mid new only more) line_is
   call_before words challenge now line old mid told had line' new only calm form (Not_asked none is other line_is disk_is) = absurd (other form)
   call_before words challenge now line old mid told had line' new only calm form (Not_set none has why more line_is) = Not_set none has (unset_before tells content faults moment images old mid new had only calm why) (then_read tells content faults moment images old mid new only more) line_is
   call_before words challenge now line old mid told had line' new only calm form (No_call conf settings none why more line_is) = No_call conf (settings_before tells content faults moment images old mid conf only settings) none why (then_read tells content faults moment images old mid new only more) line_is

@@ -78,6 +78,7 @@ turned limit S.PeerBusy line line' counts counts' h = h
 turned limit S.BadPassword line line' counts counts' h = h
 turned limit (S.Broke cause n) line line' counts counts' h = h
 turned limit S.Endless line line' counts counts' h = h
+turned limit (S.Marked name) line line' counts counts' h = h
 turned limit S.OutFault line line' counts counts' h = tt
 turned limit S.NoMemory line line' counts counts' h = tt
 turned limit (S.FileBad name) line line' counts counts' h = h

@@ -18,6 +18,7 @@ OtherCommand (W.Call text) = ⊥
 OtherCommand (W.Lookup text) = Unit {0}
 OtherCommand (W.Compile path) = Unit {0}
 OtherCommand W.Listing = Unit {0}
+OtherCommand W.Taking = Unit {0}
 
 abbrev pub OneForm : Type 0
 OneForm = (words : List (List ℕ)) (a b : Command) → HasForm words a → HasForm words b → a ≡ b
@@ -52,6 +53,7 @@ text_of (W.Call text) = text
 text_of (W.Lookup text) = text
 text_of (W.Compile path) = path
 text_of W.Listing = []
+text_of W.Taking = []
 
 pub not_called : (words : List (List ℕ)) (home : Address) (text : List ℕ) → OneForm → HasForm words (W.Call text) → ((peer : Address) → Spells home text peer → ⊥) → (side : Side) → AreWords words home side → ⊥
 not_called words home text one form none side (to_answer is answer) = let clash : W.Answer ≡ W.Call text = one words W.Answer (W.Call text) answer form in cc

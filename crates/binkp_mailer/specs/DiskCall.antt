@@ -62,10 +62,11 @@ module _ {D : Type 0} (tells : Bool) (content : D → World) (faults : D → ℕ
   abbrev pub IsListed : D → Side → Bool → Type 0
   IsListed disk side listed = (index : Option (List ListedNode)) × (tells ≡ true → index_at ((content disk).own index_name) ≡ Ok index) × (listed ≡ lists index side)
 
-  -- The words have no form of a call, and nothing was done; or the settings weren't read, or ask for no session by these words, or
+  -- There was no memory for the words, or they have no form of a call, and nothing was done; or the settings weren't read, or ask for no session by these words, or
   -- have no host for the node that is called and the index couldn't be read, and the disk was read only; or no store was opened; or
   -- one was, and the index is bad; or a call was made over the store of the disk, and then received files were given.
   pub data Over_disk (words : List (List ℕ)) (challenge : List ℕ) (now : ℕ) (line : LineState) (disk : D) (told : Option ReportText) (had : Status) (line' : LineState) (disk' : D) : Type 0 where
+    No_words : told ≡ None → had ≡ S.NoMemory → OnlyRead tells content faults moment images disk disk' → line' ≡ line → Over_disk words challenge now line disk told had line' disk'
     Not_asked : told ≡ None → had ≡ S.Usage → (HaveForm words → ⊥) → line' ≡ line → disk' ≡ disk → Over_disk words challenge now line disk told had line' disk'
     Not_set : told ≡ None → HaveForm words → NoSettings tells content faults moment images disk disk' had → OnlyRead tells content faults moment images disk disk' → line' ≡ line → Over_disk words challenge now line disk told had line' disk'
     No_call : (conf : ConfText) → HasSettings tells content faults moment images disk conf → told ≡ None → IsNoCall words conf had → OnlyRead tells content faults moment images disk disk' → line' ≡ line → Over_disk words challenge now line disk told had line' disk'

@@ -5,6 +5,7 @@ use Rattle.binkp_link.specs.Lines.{LineState, SinkState}
 use Rattle.binkp_mailer.specs.declared.program.Ended.{Ended}
 use Rattle.command_base.specs.Causes.{DiskCause}
 use Rattle.command_base.specs.Printing.{OutCause}
+use Rattle.still_commands.specs.Receipts.{KeepsReceived}
 use Rattle.still_commands.specs.Still.{AreStill, StillCall}
 use Rattle.binkp_mailer.specs.DiskCall.{DiskCall, KeepsReceipts}
 use Rattle.binkp_mailer.specs.Reports.{Prints}
@@ -20,14 +21,17 @@ module _ {D : Type 0} (files : D → World → Type 0) (tells : Bool) (content :
     pub stays : tells ≡ true → KeepsReceipts content moment images disk disk'
 
   -- a command without a session in the same way
-  pub record StillOver (words : List (List ℕ)) (disk : D) (out : SinkState) (status : Status) (disk' : D) (out' : SinkState) : Type 0 where
-    pub call : StillCall files tells content faults moment images words disk out status disk' out'
+  pub record StillOver (words : List (List ℕ)) (now : ℕ) (disk : D) (out : SinkState) (status : Status) (disk' : D) (out' : SinkState) : Type 0 where
+    pub call : StillCall files tells content faults moment images words now disk out status disk' out'
     pub cause : DiskCause tells content faults status disk disk'
     pub out_cause : OutCause status out out'
+    pub stays : tells ≡ true → KeepsReceived content moment images disk disk'
 
-  -- Words of a command without a session run that, and the line stays as it was; all others run a call over the line.
+  -- Words of a command without a session run that, and the line stays as it was; all others run a call over the line. Without memory
+  -- for the words that is told, and nothing was done.
   pub data Runs_over (words : List (List ℕ)) (challenge : List ℕ) (now : ℕ) (line : LineState) (disk : D) (out : SinkState) (status : Status) (line' : LineState) (disk' : D) (out' : SinkState) : Type 0 where
-    A_still : AreStill words → StillOver words disk out status disk' out' → line' ≡ line → Runs_over words challenge now line disk out status line' disk' out'
+    A_still : AreStill words → StillOver words now disk out status disk' out' → line' ≡ line → Runs_over words challenge now line disk out status line' disk' out'
+    No_words : Prints None NoMemory status out out' → line' ≡ line → disk' ≡ disk → Runs_over words challenge now line disk out status line' disk' out'
     A_call : (AreStill words → ⊥) → CallsOver words challenge now line disk out status line' disk' out' → Runs_over words challenge now line disk out status line' disk' out'
 
   -- the same, told by the exit status

@@ -24,7 +24,7 @@ use crate::{
 use binkp_link::{Line, Sink};
 use command_base::{Status, read_settings};
 use disk_model::{Disk, Yard};
-use ftn_addr::Bytes;
+use ftn_addr::{Bytes, NoMemory};
 use mail_conf::{Conf, what_is_read_keeps_limits};
 use node_store::NodeStore;
 use nodelist_files::{IndexFileFault, read_index};
@@ -72,9 +72,28 @@ fn serve_disk<D: Yard, L: Line>(
     requires open { (L.state line.old).closed ≡ false }
     ensures { Over_disk D.tells D.content D.fault_count D.moment D.images (texts words.now) random now (L.state line.old) disk (told_of result.0) (had_of result.0) (L.state line.new) result.1 }
 {
-    if !have_form(words) {
-        return (Outcome::Usage, disk);
+    match have_form(alloc, words) {
+        Ok(true) => serve_words(alloc, words, disk, line, now, random),
+        Ok(false) => (Outcome::Usage, disk),
+        Err(NoMemory) => (Outcome::NoMemory, disk),
     }
+}
+
+// The call of words that have the form of one.
+fn serve_words<D: Yard, L: Line>(
+    alloc: Global,
+    words: &[Bytes],
+    disk: D,
+    line: &mut L,
+    now: u64,
+    random: [u8; 16],
+) -> (Outcome, D)
+    requires form { HaveForm (texts words.now) }
+    requires ready { D.tells ≡ true → Every (Now D.moment D.images disk) (IsReady (D.content disk)) }
+    requires calm { (L.state line.old).calm ≡ 0 }
+    requires open { (L.state line.old).closed ≡ false }
+    ensures { Over_disk D.tells D.content D.fault_count D.moment D.images (texts words.now) random now (L.state line.old) disk (told_of result.0) (had_of result.0) (L.state line.new) result.1 }
+{
     let mut disk = disk;
     match read_settings(alloc, &mut disk) {
         Ok(conf) => {

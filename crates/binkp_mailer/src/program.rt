@@ -11,7 +11,7 @@ use crate::{Outcome, print, run_line};
 use binkp_link::{Line, Sink};
 use command_base::Status;
 use disk_model::Yard;
-use ftn_addr::Bytes;
+use ftn_addr::{Bytes, NoMemory};
 use std::alloc::Global;
 use still_commands::{is_still, run_still};
 
@@ -29,7 +29,7 @@ pub fn explanation(status: &Status) -> Option<&'static str>
 {
     match status {
         Status::Usage => Some(
-            "binkp: the words are `DIR answer`, `DIR call ADDR`, `DIR lookup ADDR`, `DIR compile FILE` or `DIR list`, as in `. call 2:5047/13`; DIR has the settings, `binkp.conf`",
+            "binkp: the words are `DIR answer`, `DIR call ADDR`, `DIR lookup ADDR`, `DIR compile FILE`, `DIR list` or `DIR take`, as in `. call 2:5047/13`; DIR has the settings, `binkp.conf`",
         ),
         Status::Done
         | Status::ConfBad(_)
@@ -44,6 +44,7 @@ pub fn explanation(status: &Status) -> Option<&'static str>
         | Status::BadPassword
         | Status::Broke(_, _)
         | Status::Endless
+        | Status::Marked(_)
         | Status::NotFound
         | Status::OutFault
         | Status::TurnedAway
@@ -80,10 +81,10 @@ fn run_words<D: Yard, L: Line, O: Sink>(
     requires open { (L.state line.old).closed ≡ false }
     ensures { Runs_over D.files D.tells D.content D.fault_count D.moment D.images (texts words.now) random now (L.state line.old) disk (O.state out.old) (status_text result.0) (L.state line.new) result.1 (O.state out.new) }
 {
-    if is_still(words) {
-        run_still(alloc, words, disk, now, out)
-    } else {
-        run_line(alloc, words, disk, line, now, random, out)
+    match is_still(alloc, words) {
+        Ok(true) => run_still(alloc, words, disk, now, out),
+        Ok(false) => run_line(alloc, words, disk, line, now, random, out),
+        Err(NoMemory) => (print(alloc, Outcome::NoMemory, out), disk),
     }
 }
 

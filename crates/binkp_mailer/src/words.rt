@@ -1,5 +1,5 @@
 //! The words that ask for a session.
-ghost use Rattle.std.specs.Prelude.{◌≡◌, ℕ, List, IfOk, Err, true, false};
+ghost use Rattle.std.specs.Prelude.{◌≡◌, ℕ, List, IfOk, Err, Ok, true, false};
 ghost use Rattle.ftn_addr.specs.Address.{Address, address};
 ghost use Rattle.session_auth.specs.Sides.{Calls, Side as AnySide, side_of};
 ghost use Rattle.command_words.specs.Forms.{texts};
@@ -7,7 +7,7 @@ ghost use Rattle.binkp_mailer.specs.Words.{AreWords, HaveForm, Spells};
 ghost use Rattle.binkp_mailer.specs.declared.words.WordsFault.TheVariants.{Usage};
 
 use command_words::{Form, one_form, read_form};
-use ftn_addr::{Addr, AddrFault, Bytes, read_addr};
+use ftn_addr::{Addr, AddrFault, Bytes, NoMemory, read_addr};
 use session_core::Side;
 use std::alloc::Global;
 use thiserror::Error;
@@ -21,19 +21,24 @@ pub enum WordsFault {
     NoMemory,
 }
 
-/// Whether the words have the form of a call: `answer`, or `call` and one more. It takes no memory.
-pub fn have_form(words: &[Bytes]) -> bool
-    ensures yes { result ≡ true → HaveForm (texts words.now) }
-    ensures no { result ≡ false → HaveForm (texts words.now) → ⊥ }
+/// Whether the words have the form of a call: `answer`, or `call` and one more.
+///
+/// # Errors
+/// Want of memory.
+pub fn have_form(alloc: Global, words: &[Bytes]) -> Result<bool, NoMemory>
+    ensures yes { result ≡ Ok true → HaveForm (texts words.now) }
+    ensures no { result ≡ Ok false → HaveForm (texts words.now) → ⊥ }
 {
     one_form();
-    match read_form(words) {
-        Some(Form::Answer) => true,
-        Some(Form::Call(_)) => true,
-        Some(Form::Lookup(_)) => false,
-        Some(Form::Compile(_)) => false,
-        Some(Form::List) => false,
-        None => false,
+    match read_form(alloc, words) {
+        Ok(Some(Form::Answer)) => Ok(true),
+        Ok(Some(Form::Call(_))) => Ok(true),
+        Ok(Some(Form::Lookup(_))) => Ok(false),
+        Ok(Some(Form::Compile(_))) => Ok(false),
+        Ok(Some(Form::List)) => Ok(false),
+        Ok(Some(Form::Take)) => Ok(false),
+        Ok(None) => Ok(false),
+        Err(NoMemory) => Err(NoMemory),
     }
 }
 
@@ -72,12 +77,14 @@ pub fn read_words(alloc: Global, words: &[Bytes], home: &Addr) -> Result<Side, W
     ensures usage { result ≡ Err Usage → (side : AnySide) → AreWords (texts words.now) (address home.now) side → ⊥ }
 {
     one_form();
-    match read_form(words) {
-        Some(Form::Answer) => Ok(Side::Answers),
-        Some(Form::Call(text)) => read_side(alloc, text, home),
-        Some(Form::Lookup(_)) => Err(WordsFault::Usage),
-        Some(Form::Compile(_)) => Err(WordsFault::Usage),
-        Some(Form::List) => Err(WordsFault::Usage),
-        None => Err(WordsFault::Usage),
+    match read_form(alloc, words) {
+        Ok(Some(Form::Answer)) => Ok(Side::Answers),
+        Ok(Some(Form::Call(text))) => read_side(alloc, text, home),
+        Ok(Some(Form::Lookup(_))) => Err(WordsFault::Usage),
+        Ok(Some(Form::Compile(_))) => Err(WordsFault::Usage),
+        Ok(Some(Form::List)) => Err(WordsFault::Usage),
+        Ok(Some(Form::Take)) => Err(WordsFault::Usage),
+        Ok(None) => Err(WordsFault::Usage),
+        Err(NoMemory) => Err(WordsFault::NoMemory),
     }
 }

@@ -26,6 +26,7 @@ same_faults S.PeerBusy out out' own same = same
 same_faults S.BadPassword out out' own same = same
 same_faults (S.Broke cause n) out out' own same = same
 same_faults S.Endless out out' own same = same
+same_faults (S.Marked name) out out' own same = same
 same_faults S.OutFault out out' own same = absurd own
 same_faults S.NoMemory out out' own same = same
 same_faults (S.FileBad name) out out' own same = same

@@ -42,6 +42,7 @@ pub data Status : Type 0 where
   BadPassword : Status
   Broke : (cause : Cause) (frame : ℕ) → Status
   Endless : Status
+  Marked : (name : List ℕ) → Status
   NotFound : Status
   OutFault : Status
   NoMemory : Status
@@ -65,6 +66,7 @@ status_text V.PeerBusy = PeerBusy
 status_text V.BadPassword = BadPassword
 status_text (V.Broke cause frame) = Broke cause frame
 status_text V.Endless = Endless
+status_text (V.Marked name) = Marked name.list
 status_text V.NotFound = NotFound
 status_text V.OutFault = OutFault
 status_text V.NoMemory = NoMemory
@@ -89,6 +91,7 @@ number_of_status PeerBusy = 10
 number_of_status BadPassword = 11
 number_of_status (Broke cause frame) = 12
 number_of_status Endless = 13
+number_of_status (Marked name) = 14
 number_of_status NotFound = 15
 number_of_status OutFault = 16
 number_of_status NoMemory = 17
@@ -154,6 +157,7 @@ status_word PeerBusy = codes "PeerBusy"
 status_word BadPassword = codes "BadPassword"
 status_word (Broke cause frame) = codes "Broke"
 status_word Endless = codes "Endless"
+status_word (Marked name) = codes "Marked"
 status_word NotFound = codes "NotFound"
 status_word OutFault = codes "OutFault"
 status_word NoMemory = codes "NoMemory"
@@ -207,6 +211,7 @@ status_rest (ListBad fault) = 32 ∷ decimal fault.line ++ 32 ∷ list_word faul
 status_rest (DiskFault count) = 32 ∷ decimal count
 status_rest (LedgerBad place) = 32 ∷ decimal place
 status_rest (FileBad name) = 32 ∷ escaped name
+status_rest (Marked name) = 32 ∷ escaped name
 status_rest (PeerError text) = 32 ∷ escaped text
 status_rest (Broke cause frame) = 32 ∷ cause_word cause ++ 32 ∷ decimal frame
 status_rest status = []

@@ -1,1 +1,3 @@
+pub mod PlainWords
+pub mod Splitting
 pub mod WordLists

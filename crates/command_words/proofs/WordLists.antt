@@ -1,19 +1,10 @@
--- Lists of one word and of two, and words that are the same.
-use Rattle.std.proofs.Common.{rules, refl, sym, ap, subst, arith, ◌∙◌, ◌≡◌, ℕ, List, ◌<◌, ◌≤◌, length, true, false, [], ◌∷◌, get_or, nat_eq}
+-- Bytes that are the same, and lines of one word and of two.
+use Rattle.std.proofs.Common.{rules, refl, sym, ap, arith, ◌∙◌, ◌≡◌, ℕ, List, length, true, false, [], ◌∷◌, get_or, nat_eq}
 use Rattle.std.specs.Cmp.Lexicographic.{pointwise}
 use Rattle.ftn_addr.specs.Content.{Content}
-use Rattle.command_words.specs.Forms.{Command, HasForm, texts}
-
-pub two_words : (words : List Content) (a b : Content) → 2 ≤ length words → length words < 3 → a ≡ get_or words 0 a → b ≡ get_or words 1 b → words ≡ a ∷ b ∷ []
-two_words [] a b some short first second = absurd (omega (arith, some))
-two_words (x ∷ []) a b some short first second = absurd (omega (arith, some))
-two_words (x ∷ y ∷ []) a b some short first second = ap (λ (w : Content). w ∷ y ∷ []) (sym first) ∙ ap (λ (w : Content). a ∷ w ∷ []) (sym second)
-two_words (x ∷ y ∷ z ∷ more) a b some short first second = absurd (omega (arith, short))
-
-pub one_word : (words : List Content) (a : Content) → 1 ≤ length words → length words < 2 → a ≡ get_or words 0 a → words ≡ a ∷ []
-one_word [] a some short first = absurd (omega (arith, some))
-one_word (x ∷ []) a some short first = ap (λ (w : Content). w ∷ []) (sym first)
-one_word (x ∷ y ∷ more) a some short first = absurd (omega (arith, short))
+use Rattle.command_words.specs.Forms.{texts}
+use Rattle.command_words.specs.Line.{IsLineOf}
+use Rattle.command_words.specs.declared.line.Line.{Line}
 
 pub same_bytes : (xs ys : List ℕ) → pointwise nat_eq xs ys ≡ true → xs ≡ ys
 same_bytes [] [] e = refl
@@ -21,10 +12,24 @@ same_bytes [] (y ∷ ys) e = absurd (let clash : false ≡ true = e in cc)
 same_bytes (x ∷ xs) [] e = absurd (let clash : false ≡ true = e in cc)
 same_bytes (x ∷ xs) (y ∷ ys) e = search (rules)
 
--- words are these two
-pub of_two : (words : List Content) (a b : Content) (command : List ℕ) → words ≡ a ∷ b ∷ [] → command ≡ a.list → (asked : Command) → HasForm (texts words) asked → HasForm (command ∷ b.list ∷ []) asked
-of_two words a b command are same asked h = subst (λ (l : List (List ℕ)). HasForm l asked) (ap texts are ∙ ap (λ (c : List ℕ). c ∷ b.list ∷ []) (sym same)) h
+-- a line of no value, and of one
+pub line_alone : (words : List (List ℕ)) (line : Line) → IsLineOf words line → line.values ≡ 0 → words ≡ line.command.now ∷ []
+line_alone words line is none = go is.rest is.words-are (sym is.count ∙ none)
+  where
+    go : (rest : List (List ℕ)) → words ≡ line.command.now ∷ rest → length rest ≡ 0 → words ≡ line.command.now ∷ []
+    go [] are zero = are
+    go (v ∷ vs) are zero = absurd (omega arith)
 
--- words are this one
-pub of_one : (words : List Content) (a : Content) (command : List ℕ) → words ≡ a ∷ [] → command ≡ a.list → texts words ≡ command ∷ []
-of_one words a command are same = ap texts are ∙ ap (λ (c : List ℕ). c ∷ []) (sym same)
+pub line_of_one : (words : List Content) (line : Line) (word : Content) → IsLineOf (texts words) line → line.values ≡ 1 → word ≡ get_or words 1 word
+    → texts words ≡ line.command.now ∷ word.list ∷ []
+line_of_one words line word is one at = go words at is.rest is.words-are (sym is.count ∙ one)
+  where
+    go : (words : List Content) → word ≡ get_or words 1 word → (rest : List (List ℕ)) → texts words ≡ line.command.now ∷ rest → length rest ≡ 1
+        → texts words ≡ line.command.now ∷ word.list ∷ []
+    go words at [] are count = absurd (omega arith)
+    go words at (v ∷ w ∷ vs) are count = absurd (omega arith)
+    go [] at (v ∷ []) are count = cc
+    go (a ∷ []) at (v ∷ []) are count = cc
+    go (a ∷ b ∷ more) at (v ∷ []) are count =
+        let last : v ≡ b.list = cc in
+        are ∙ ap (λ (w : List ℕ). line.command.now ∷ w ∷ []) (last ∙ ap (λ (w : Content). w.list) (sym at))

@@ -1,9 +1,13 @@
 //! The forms of words.
-ghost use Rattle.std.specs.Prelude.{◌≡◌, ◌∷◌, [], ◌↔◌, IfSome, List, None, true, ℕ};
+ghost use Rattle.std.specs.Prelude.{◌≡◌, ◌∷◌, [], ◌↔◌, IfOk, IfSome, List, None, Ok, ℕ};
 ghost use Rattle.command_words.specs.Forms.{Command, HasForm, IsPlain, command_of, texts};
+ghost use Rattle.command_words.specs.Line.{IsLineOf};
+ghost use Rattle.std.specs.List.{All};
 
-use ftn_addr::Bytes;
-use std::str;
+use crate::line::{Line, split};
+use crate::plain::plain_texts;
+use ftn_addr::{Bytes, NoMemory};
+use std::alloc::Global;
 
 /// The most bytes of a path.
 const MOST_PATH: usize = 1024;
@@ -21,17 +25,8 @@ pub enum Form<'a> {
     Compile(&'a Bytes),
     /// `list`
     List,
-}
-
-/// Whether a word may stand behind a command: it isn't empty, doesn't begin with `-`, and is UTF-8.
-fn is_plain(word: &[u8]) -> bool
-    ensures { result ≡ true ↔ IsPlain word.now }
-{
-    match word {
-        [] => false,
-        [b'-', ..] => false,
-        _ => str::from_utf8(word).is_ok(),
-    }
+    /// `take`
+    Take,
 }
 
 // The form of a command alone.
@@ -43,6 +38,8 @@ fn form_of_one<'a>(command: &[u8]) -> Option<Form<'a>>
         Some(Form::Answer)
     } else if command == b"list".as_slice() {
         Some(Form::List)
+    } else if command == b"take".as_slice() {
+        Some(Form::Take)
     } else {
         None
     }
@@ -65,15 +62,37 @@ fn form_of_two<'a>(command: &[u8], word: &'a Bytes) -> Option<Form<'a>>
     }
 }
 
-/// The form that the words have, or None where they have none.
-pub fn read_form<'a>(words: &'a [Bytes]) -> Option<Form<'a>>
+// The form of a command and as many values behind it, which are the words.
+fn form_of_line<'a>(line: Line<'_>, words: &'a [Bytes]) -> Option<Form<'a>>
+    requires line { IsLineOf (texts words.now) line }
+    requires plain { All IsPlain (texts words.now) }
     ensures some { IfSome result (λ form. HasForm (texts words.now) (command_of form)) }
-    ensures none { result ≡ None → (command : Command) → HasForm (texts words.now) command → ⊥ }
+    ensures none { result ≡ None → (asked : Command) → HasForm (texts words.now) asked → ⊥ }
 {
-    match words {
-        [command] => form_of_one(command.as_slice()),
-        [command, word] if is_plain(word.as_slice()) => form_of_two(command.as_slice(), word),
+    match line.values {
+        0 => form_of_one(line.command.as_bytes()),
+        1 => form_of_two(line.command.as_bytes(), &words[1]),
         _ => None,
+    }
+}
+
+/// The form that the words have, or None where they have none.
+///
+/// # Errors
+/// Want of memory.
+pub fn read_form<'a>(alloc: Global, words: &'a [Bytes]) -> Result<Option<Form<'a>>, NoMemory>
+    ensures some { IfOk result (λ found. IfSome found (λ form. HasForm (texts words.now) (command_of form))) }
+    ensures none { result ≡ Ok None → (command : Command) → HasForm (texts words.now) command → ⊥ }
+{
+    let Some(plain) = plain_texts(alloc, words)? else {
+        return Ok(None);
+    };
+    if plain.is_empty() {
+        return Ok(None);
+    }
+    match split(alloc, plain.as_slice())? {
+        Some(line) => Ok(form_of_line(line, words)),
+        None => Ok(None),
     }
 }
 

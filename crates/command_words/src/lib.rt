@@ -1,20 +1,28 @@
 //! The words that the program is given behind its folder, and the forms that they may have.
 //!
-//! [`read_form`] says which command words are: `answer`, `call ADDR`, `lookup ADDR`, `compile FILE` or `list`, and nothing else.
-//! It answers for every list of words, before anything is read or written; two forms never share words ([`one_form`]).
+//! [`read_form`] says which command words are: `answer`, `call ADDR`, `lookup ADDR`, `compile FILE`, `list` or `take`, and
+//! nothing else.
+//! It answers for every list of words, before anything is read or written, and fails for want of memory alone; two forms never
+//! share words ([`one_form`]).
 //!
 //! ```
-//! match read_form(words) {
+//! match read_form(alloc, words)? {
 //!     Some(Form::Call(text)) => { .. }
-//!     Some(Form::Answer | Form::Lookup(_) | Form::Compile(_) | Form::List) => { .. }
+//!     Some(Form::Answer | Form::Lookup(_) | Form::Compile(_) | Form::List | Form::Take) => { .. }
 //!     None => { .. }                       // no command
 //! }
 //! ```
+//!
+//! Words that are empty, begin with `-` or aren't UTF-8 are refused first (`plain`). `clap` then splits the others into a command
+//! and the values behind it (`line`): it refuses none of them, and has no options of its own, as `--help`, since no word begins
+//! with `-`. Which command takes how many values is said here (`form`).
 //!
 //! Left out: whether ADDR is an address, which the settings decide, and what a command does.
 #![tactic(auto)]
 
 mod form;
+mod line;
+mod plain;
 #[cfg(test)]
 mod tests;
 

@@ -10,9 +10,10 @@ fn read(alloc: Global, texts: &[&[u8]]) -> Result<Option<(&'static str, Bytes)>,
     for text in texts {
         words.push(Bytes::from_slice(alloc, text)?)?;
     }
-    let (command, word) = match read_form(words.as_slice()) {
+    let (command, word) = match read_form(alloc, words.as_slice())? {
         Some(Form::Answer) => return Ok(Some(("answer", Bytes::new(alloc)))),
         Some(Form::List) => return Ok(Some(("list", Bytes::new(alloc)))),
+        Some(Form::Take) => return Ok(Some(("take", Bytes::new(alloc)))),
         Some(Form::Call(text)) => ("call", text),
         Some(Form::Lookup(text)) => ("lookup", text),
         Some(Form::Compile(path)) => ("compile", path),
@@ -37,6 +38,7 @@ fn forms_are_read(rt: HostRuntime) -> Result<(), Fail> {
     let alloc = rt.alloc();
     assert!(rt; is(alloc, &[b"answer"], "answer", b"")?);
     assert!(rt; is(alloc, &[b"list"], "list", b"")?);
+    assert!(rt; is(alloc, &[b"take"], "take", b"")?);
     assert!(rt; is(alloc, &[b"call", b"2:5020/1"], "call", b"2:5020/1")?);
     assert!(rt; is(alloc, &[b"lookup", b"no address"], "lookup", b"no address")?);
     assert!(rt; is(alloc, &[b"compile", b"a/b-c"], "compile", b"a/b-c")?);
@@ -58,10 +60,16 @@ fn other_words_have_no_form(rt: HostRuntime) -> Result<(), Fail> {
     assert!(rt; is_none(alloc, &[b"call", b"2:5020/1", b"x"])?);
     assert!(rt; is_none(alloc, &[b"lookup"])?);
     assert!(rt; is_none(alloc, &[b"compile", b"\xd0"])?);
-    assert!(rt; is_none(alloc, &[b"take"])?);
+    assert!(rt; is_none(alloc, &[b"take", b"2:5020/1"])?);
     assert!(rt; is_none(alloc, &[b"list", b"x"])?);
     assert!(rt; is_none(alloc, &[b"lists"])?);
     assert!(rt; is_none(alloc, &[b"serve"])?);
     assert!(rt; is_none(alloc, &[b"trial", b"1", b"1"])?);
+    assert!(rt; is_none(alloc, &[b"answer", b"answer", b"answer"])?);
+    assert!(rt; is_none(alloc, &[b"call", b"2:5020/1", b"2:5020/2", b"2:5020/3"])?);
+    assert!(rt; is_none(alloc, &[b"help"])?);
+    assert!(rt; is_none(alloc, &[b"help", b"call"])?);
+    assert!(rt; is_none(alloc, &[b"--help"])?);
+    assert!(rt; is_none(alloc, &[b"--", b"answer"])?);
     Ok(())
 }

@@ -1,10 +1,17 @@
 -- A command over a disk that was read before.
-use Rattle.std.proofs.Common.{◌≡◌, ◌⊎◌, ◌∙◌, ℕ, Bool, true, List, Result, Ok, Err, inl, inr, subst, sym}
+use Rattle.std.proofs.Common.{◌<◌, [], ◌∷◌, length, arith, ◌≡◌, ◌⊎◌, ◌∙◌, ℕ, Bool, true, List, Option, Some, IfSome, Result, Ok, Err, inl, inr, subst, sym}
+use Rattle.std.specs.List.{All}
+use Rattle.std.proofs.lemmas.List.Elements.{All-head}
 use Rattle.ftn_addr.specs.Address.{Address}
+use Rattle.ftn_addr.specs.Limits.{IsAddress}
+use Rattle.mail_conf.specs.Conf.{ConfText}
+use Rattle.mail_conf.specs.Limits.{KeepsLimits}
+use Rattle.session_core.specs.Stages.{home_of}
 use Rattle.ftn_addr.specs.Reading.{reading}
 use Rattle.ftn_addr.specs.declared.reading.AddrFault.{AddrFault}
 use Rattle.ftn_addr.specs.declared.reading.AddrFault.TheVariants.{NoMemory}
-use Rattle.command_words.specs.Forms.{Command, Compile, HasForm, Listing, Lookup}
+use Rattle.command_words.specs.Forms.{Command, Compile, HasForm, Listing, Lookup, Taking, command_of}
+use Rattle.command_words.specs.declared.form.Form.{Form}
 use Rattle.nodelist_files.specs.declared.fault.CompileFault.{CompileFault}
 use Rattle.disk_model.specs.Changes.{Every, Same}
 use Rattle.disk_model.specs.Moments.{Leaves}
@@ -15,11 +22,12 @@ use Rattle.command_base.specs.Causes.{IsBadIndex}
 use Rattle.command_base.specs.Settings.{OnlyRead}
 use Rattle.command_base.proofs.ReadOnly.{no_index_before, opened_before, refused_before, settings_before, then_read, unset_before}
 use Rattle.still_commands.specs.Came.{Told}
-use Rattle.still_commands.specs.Still.{AreStill, a_lookup, a_compile, a_list, CompilesFile, Over_still, Not_asked, Not_set, No_address, No_index, Not_opened, Bad_index, Looked_up, Compiled, Listed}
+use Rattle.still_commands.specs.Still.{AreStill, a_lookup, a_compile, a_list, a_take, CompilesFile, Over_still, No_words, Not_asked, Not_set, No_address, No_index, Not_opened, Bad_index, Looked_up, Compiled, Listed, Runs_still, Before_takes, Taken_in}
 
 module _ {D : Type 0} (files : D → World → Type 0) (tells : Bool) (content : D → World) (faults : D → ℕ) (moment : D → ℕ) (images : D → ℕ → World → Type 0) where
   pub still_before : (words : List (List ℕ)) (old mid new : D) (told : Told) → AreStill words → OnlyRead tells content faults moment images old mid → faults mid ≡ faults old
       → Over_still files tells content faults moment images words mid told new → Over_still files tells content faults moment images words old told new
+  still_before words old mid new told still only calm (No_words is more) = No_words is (then_read tells content faults moment images old mid new only more)
   still_before words old mid new told still only calm (Not_asked none is disk_is) = absurd (none still)
   still_before words old mid new told still only calm (Not_set are had is why more) =
       Not_set are had is (unset_before tells content faults moment images old mid new had only calm why) (then_read tells content faults moment images old mid new only more)
@@ -37,6 +45,12 @@ module _ {D : Type 0} (files : D → World → Type 0) (tells : Bool) (content :
       Compiled conf (settings_before tells content faults moment images old mid conf only settings) path form opened (opened_before tells content faults moment images old mid opened only calm h) result does is
   still_before words old mid new told still only calm (Listed conf settings form opened h disk_is is) =
       Listed conf (settings_before tells content faults moment images old mid conf only settings) form opened (opened_before tells content faults moment images old mid opened only calm h) disk_is is
+
+  pub runs_before : (words : List (List ℕ)) (now : ℕ) (old mid new : D) (told : Told) → AreStill words → OnlyRead tells content faults moment images old mid → faults mid ≡ faults old
+      → Runs_still files tells content faults moment images words now mid told new → Runs_still files tells content faults moment images words now old told new
+  runs_before words now old mid new told still only calm (Before_takes over) = Before_takes (still_before words old mid new told still only calm over)
+  runs_before words now old mid new told still only calm (Taken_in conf settings form opened h takes) =
+      Taken_in conf (settings_before tells content faults moment images old mid conf only settings) form opened (opened_before tells content faults moment images old mid opened only calm h) takes
 
   -- a disk of which more was read
   pub much_read : ((d : D) (w : World) → files d w → (tells ≡ true) × (w ≡ content d)) → (tells ≡ true → (d : D) → files d (content d))
@@ -64,3 +78,18 @@ pub no_still : (words : List (List ℕ)) → ((command : Command) → HasForm wo
 no_still words none (a_lookup text form) = none (Lookup text) form
 no_still words none (a_compile path form) = none (Compile path) form
 no_still words none (a_list form) = none Listing form
+no_still words none (a_take form) = none Taking form
+
+-- the form that was read, by its kind
+pub form_is : (words : List (List ℕ)) (o : Option Form) (form known : Form) → o ≡ Some form → form ≡ known → IfSome o (λ (f : Form). HasForm words (command_of f)) → HasForm words (command_of known)
+form_is words o form known some is has =
+    let at : HasForm words (command_of form) = subst (λ (x : Option Form). IfSome x (λ (f : Form). HasForm words (command_of f))) some has in
+    subst (λ (f : Form). HasForm words (command_of f)) is at
+
+-- the home of settings that keep their limits
+pub home_within : (c : ConfText) → KeepsLimits c → IsAddress (home_of c.addresses)
+home_within c keeps = go c.addresses keeps.some keeps.addresses
+  where
+    go : (xs : List Address) → 0 < length xs → All IsAddress xs → IsAddress (home_of xs)
+    go [] some all = absurd (omega (arith, some))
+    go (x ∷ xs) some all = All-head IsAddress x xs all

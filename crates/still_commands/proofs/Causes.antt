@@ -1,5 +1,7 @@
 -- What the status of a command without a session tells of the disk and of the sink.
-use Rattle.std.proofs.Common.{◌≡◌, ℕ, Bool, List, Option, Some, None, Result, Ok, Err, refl, sym, subst, inl, inr}
+use Rattle.std.proofs.Common.{◌≡◌, ◌⊎◌, ◌∙◌, ℕ, Bool, List, Option, Some, None, Result, Ok, Err, refl, sym, ap, subst, inl, inr}
+use Rattle.mail_conf.specs.Conf.{ConfText}
+use Rattle.command_base.specs.Opening.{HasOpened}
 use Rattle.ftn_addr.specs.Address.{Address}
 use Rattle.ftn_addr.specs.Counts.{Increased}
 use Rattle.ftn_addr.proofs.CountsGrow.{count_grew-refl}
@@ -17,8 +19,13 @@ use Rattle.command_base.proofs.Causes.{refused_so, unindexed_so, unset_so}
 use Rattle.command_base.proofs.Printed.{NotOut}
 use Rattle.node_store.specs.declared.opening.fault.StoreOpenFault.{StoreOpenFault}
 use Rattle.node_store.specs.declared.opening.fault.StoreOpenFault.TheVariants as F
-use Rattle.still_commands.specs.Came.{Told, IsTold, looked, only, told_compiled, told_line, told_listed}
-use Rattle.still_commands.specs.Still.{CompilesFile, Over_still, Not_asked, Not_set, No_address, No_index, Not_opened, Bad_index, Looked_up, Compiled, Listed}
+use Rattle.node_store.specs.Finding.{IsNewMemory}
+use Rattle.node_store.specs.Stored.{Holding, Memory}
+use Rattle.outbound_round.specs.declared.words.RoundFault.{RoundFault}
+use Rattle.outbound_round.specs.declared.words.RoundFault.TheVariants as RF
+use Rattle.outbound_store.specs.GoesOn.{BrokeSince}
+use Rattle.still_commands.specs.Came.{Told, IsTold, looked, only, round_status, told_compiled, told_line, told_listed, told_taken}
+use Rattle.still_commands.specs.Still.{CompilesFile, Over_still, No_words, Not_asked, Not_set, No_address, No_index, Not_opened, Bad_index, Looked_up, Compiled, Listed, Runs_still, Before_takes, Taken_in, TakesIn}
 
 -- No put failed yet.
 
@@ -43,6 +50,13 @@ compiled_not_out (Err M.NoFile) faults = tt
 compiled_not_out (Err (M.ListBad fault)) faults = tt
 compiled_not_out (Err M.NoMemory) faults = tt
 
+round_not_out : (marked : Option (List ℕ)) (fault : Option RoundFault) (faults : ℕ) → NotOut (round_status marked fault faults)
+round_not_out marked (Some RF.Disk) faults = tt
+round_not_out marked (Some RF.Full) faults = tt
+round_not_out marked (Some RF.NoMemory) faults = tt
+round_not_out (Some name) None faults = tt
+round_not_out None None faults = tt
+
 is_so : (told wanted : Told) → told ≡ wanted → NotOut wanted.status → NotOut told.status
 is_so told wanted is own = subst (λ (t : Told). NotOut t.status) (sym is) own
 
@@ -61,6 +75,7 @@ module _ {D : Type 0} (files : D → World → Type 0) (tells : Bool) (content :
   unindexed_not_out disk disk' had (inr is) = subst NotOut (sym is) tt
 
   pub still_not_out : (words : List (List ℕ)) (disk : D) (told : Told) (disk' : D) → Over_still files tells content faults moment images words disk told disk' → NotOut told.status
+  still_not_out words disk told disk' (No_words is more) = is_so told (only S.NoMemory) is tt
   still_not_out words disk told disk' (Not_asked none is disk_is) = is_so told (only S.Usage) is tt
   still_not_out words disk told disk' (Not_set are had is why more) = is_so told (only had) is (unset_not_out disk disk' had why)
   still_not_out words disk told disk' (No_address conf settings text form (inl none) more) = is_so told (only S.Usage) none.0 tt
@@ -100,6 +115,7 @@ module _ {D : Type 0} (files : D → World → Type 0) (tells : Bool) (content :
   compiled_cause disk mid disk' path (Err M.NoMemory) calm does = tt
 
   pub still_cause : (words : List (List ℕ)) (disk : D) (told : Told) (disk' : D) → Over_still files tells content faults moment images words disk told disk' → DiskCause tells content faults told.status disk disk'
+  still_cause words disk told disk' (No_words is more) = cause_of disk disk' told (only S.NoMemory) is tt
   still_cause words disk told disk' (Not_asked none is disk_is) = cause_of disk disk' told (only S.Usage) is tt
   still_cause words disk told disk' (Not_set are had is why more) = cause_of disk disk' told (only had) is (unset_so tells content faults moment images disk disk' had why)
   still_cause words disk told disk' (No_address conf settings text form (inl none) more) = cause_of disk disk' told (only S.Usage) none.0 tt
@@ -110,3 +126,36 @@ module _ {D : Type 0} (files : D → World → Type 0) (tells : Bool) (content :
   still_cause words disk told disk' (Looked_up conf settings text a form reads opened h disk_is index at is) = told_cause disk disk' (looked index a) told is (looked_cause disk disk' index a)
   still_cause words disk told disk' (Compiled conf settings path form opened h result does is) = told_cause disk disk' (told_compiled result (faults disk')) told is (compiled_cause disk opened.disk disk' path result h.calm does)
   still_cause words disk told disk' (Listed conf settings form opened h disk_is is) = told_cause disk disk' (told_listed opened.memory.books.folding.state) told is tt
+
+  -- Taking in.
+
+  pub runs_not_out : (words : List (List ℕ)) (now : ℕ) (disk : D) (told : Told) (disk' : D) → Runs_still files tells content faults moment images words now disk told disk' → NotOut told.status
+  runs_not_out words now disk told disk' (Before_takes over) = still_not_out words disk told disk' over
+  runs_not_out words now disk told disk' (Taken_in conf settings form opened h takes) =
+      is_so told (told_taken takes.round (faults disk')) takes.told_is (round_not_out takes.round.marked takes.round.fault (faults disk'))
+
+  -- a store that was just opened isn't broken
+  pub new_whole : (m : Memory) → IsNewMemory m → m.broken ≡ None
+  new_whole m new = ap (λ (x : Memory). x.broken) new.3
+
+  -- it broke, so the disk failed since
+  failed_since : (conf : ConfText) (now : ℕ) (disk : D) (opened : Holding D) (told : Told) (disk' : D) → HasOpened tells content faults moment images disk opened
+      → (takes : TakesIn files tells content faults moment images conf now opened told disk') → takes.round.fault ≡ Some RF.Disk → Increased (faults disk) (faults disk')
+  failed_since conf now disk opened told disk' h takes fault = go takes.goes_on.counts.broken
+    where
+      go : (takes.left.memory.broken ≡ opened.memory.broken) ⊎ BrokeSince (record { faults = faults opened.disk; fulls = opened.memory.fulls; broken = opened.memory.broken }) (record { faults = faults takes.left.disk; fulls = takes.left.memory.fulls; broken = takes.left.memory.broken })
+          → Increased (faults disk) (faults disk')
+      go (inl same) = absurd (takes.broke fault (same ∙ new_whole opened.memory h.memory))
+      go (inr broke) = subst (λ (x : D). Increased (faults disk) (faults x)) (sym takes.disk_is) (subst (λ (n : ℕ). Increased n (faults takes.left.disk)) h.calm broke.rose)
+
+  round_cause : (disk disk' : D) (marked : Option (List ℕ)) (fault : Option RoundFault) → (fault ≡ Some RF.Disk → Increased (faults disk) (faults disk')) → DiskCause tells content faults (round_status marked fault (faults disk')) disk disk'
+  round_cause disk disk' marked (Some RF.Disk) rose = (rose refl, count_grew-refl (faults disk'))
+  round_cause disk disk' marked (Some RF.Full) rose = tt
+  round_cause disk disk' marked (Some RF.NoMemory) rose = tt
+  round_cause disk disk' (Some name) None rose = tt
+  round_cause disk disk' None None rose = tt
+
+  pub runs_cause : (words : List (List ℕ)) (now : ℕ) (disk : D) (told : Told) (disk' : D) → Runs_still files tells content faults moment images words now disk told disk' → DiskCause tells content faults told.status disk disk'
+  runs_cause words now disk told disk' (Before_takes over) = still_cause words disk told disk' over
+  runs_cause words now disk told disk' (Taken_in conf settings form opened h takes) =
+      cause_of disk disk' told (told_taken takes.round (faults disk')) takes.told_is (round_cause disk disk' takes.round.marked takes.round.fault (failed_since conf now disk opened told disk' h takes))

@@ -34,10 +34,12 @@ use Rattle.command_base.specs.Settings.{OnlyRead}
 use Rattle.command_base.specs.Statuses as S
 use Rattle.command_base.specs.Statuses.{Status}
 use Rattle.command_base.proofs.ReadOnly.{no_read}
-use Rattle.command_words.specs.Forms.{Compile, HasForm}
-use Rattle.still_commands.specs.Came.{IsTold, Told, told_compiled}
+use Rattle.command_words.specs.Forms.{Compile, HasForm, Taking}
+use Rattle.still_commands.specs.Came.{IsTold, Told, round_status, told_compiled}
 use Rattle.still_commands.specs.Lists.{IsListRefused, ListsSo, Throughout}
-use Rattle.still_commands.specs.Still.{Bad_index, Compiled, CompilesFile, Listed, Looked_up, No_address, No_index, Not_asked, Not_opened, Not_set, Over_still}
+use Rattle.outbound_round.specs.declared.words.RoundFault.{RoundFault}
+use Rattle.outbound_round.specs.declared.words.RoundFault.TheVariants as RF
+use Rattle.still_commands.specs.Still.{Bad_index, Before_takes, Compiled, CompilesFile, Listed, Looked_up, No_address, No_index, No_words, Not_asked, Not_opened, Not_set, Over_still, Runs_still, Taken_in}
 
 -- List, index and the file in which they are made are none of a store's files. All three names begin with `n`.
 
@@ -203,6 +205,7 @@ module _ {D : Type 0} (files : D → World → Type 0) (tells : Bool) (content :
       → ((opened : Holding D) → HasOpened tells content faults moment images disk opened → P opened.disk)
       → ((path : List ℕ) (opened : Holding D) (result : Result ℕ CompileFault) (d : D) → HasForm words (Compile path) → HasOpened tells content faults moment images disk opened → CompilesFile files faults moment images path result opened.disk d → IsTold (told_compiled result (faults d)) told → P d)
       → (disk' : D) → Over_still files tells content faults moment images words disk told disk' → P disk'
+  over_so P read refused opening compile disk' (No_words is more) = read disk' more
   over_so P read refused opening compile disk' (Not_asked none is disk_is) = subst P (sym disk_is) (read disk (no_read tells content faults moment images disk))
   over_so P read refused opening compile disk' (Not_set are had is why more) = read disk' more
   over_so P read refused opening compile disk' (No_address conf settings text form none more) = read disk' more
@@ -270,3 +273,33 @@ module _ {D : Type 0} (files : D → World → Type 0) (tells : Bool) (content :
       where
         cleared_only : (mid d : D) → Follows Clears (files mid) (files d) → Follows (Only new_name) (files mid) (files d)
         cleared_only mid d follows w is = let p = follows w is in (p.0, p.1, p.2.only)
+
+-- Beside a take-in.
+
+-- the statuses that tell no refused list
+abbrev IsNoRefusal : Status → Type 0
+IsNoRefusal S.NoFile = ⊥
+IsNoRefusal (S.ListBad fault) = ⊥
+IsNoRefusal status = Unit {0}
+
+no_refusal : {had : Status} → IsListRefused had → IsNoRefusal had → ⊥
+no_refusal (inl is) none = subst IsNoRefusal is none
+no_refusal (inr (fault, is)) none = subst IsNoRefusal is none
+
+-- no round is told as a refused list
+round_refused : (marked : Option (List ℕ)) (fault : Option RoundFault) (faults : ℕ) → IsListRefused (round_status marked fault faults) → ⊥
+round_refused marked (Some RF.Disk) faults refused = no_refusal refused tt
+round_refused marked (Some RF.Full) faults refused = no_refusal refused tt
+round_refused marked (Some RF.NoMemory) faults refused = no_refusal refused tt
+round_refused (Some name) None faults refused = no_refusal refused tt
+round_refused None None faults refused = no_refusal refused tt
+
+module _ {D : Type 0} (files : D → World → Type 0) (tells : Bool) (content : D → World) (faults : D → ℕ) (moment : D → ℕ) (images : D → ℕ → World → Type 0) (words : List (List ℕ)) (now : ℕ) (disk : D) (told : Told) (disk' : D) where
+  pub over_unless_take : (HasForm words Taking → ⊥) → Runs_still files tells content faults moment images words now disk told disk' → Over_still files tells content faults moment images words disk told disk'
+  over_unless_take other (Before_takes over) = over
+  over_unless_take other (Taken_in conf settings form opened h takes) = absurd (other form)
+
+  pub refused_over : IsListRefused told.status → Runs_still files tells content faults moment images words now disk told disk' → Over_still files tells content faults moment images words disk told disk'
+  refused_over refused (Before_takes over) = over
+  refused_over refused (Taken_in conf settings form opened h takes) =
+      absurd (round_refused takes.round.marked takes.round.fault (faults disk') (subst (λ (t : Told). IsListRefused t.status) takes.told_is refused))

@@ -5,8 +5,11 @@ use Rattle.ledger_rec.specs.Fold.{State}
 use Rattle.nodelist_comp.specs.Node.{ListedNode}
 use Rattle.nodelist_files.specs.declared.fault.CompileFault.{CompileFault}
 use Rattle.outbound_lines.specs.Listing.{list_text}
+use Rattle.outbound_round.specs.Round.{RoundTold}
+use Rattle.outbound_round.specs.declared.words.RoundFault.{RoundFault}
+use Rattle.outbound_round.specs.declared.words.RoundFault.TheVariants as RF
 use Rattle.still_lines.specs.Lists.{lookup_text, nodes_text}
-use Rattle.command_base.specs.Statuses.{Status, Done, NoFile, NoMemory, NotFound, status_text, status_uncompiled}
+use Rattle.command_base.specs.Statuses.{Status, DiskFault, Done, LedgerFull, Marked, NoFile, NoMemory, NotFound, status_text, status_uncompiled}
 use Rattle.still_commands.specs.declared.came.Came.{Came}
 
 -- its lines and its status
@@ -43,3 +46,15 @@ told_compiled (Err fault) faults = only (status_uncompiled fault faults)
 -- what a store keeps, told
 abbrev pub told_listed : State → Told
 told_listed s = record { lines = list_text s; status = Done }
+
+-- the status of a round: of what ended it, or by the first mark of another program that it met
+abbrev pub round_status : Option (List ℕ) → Option RoundFault → (faults : ℕ) → Status
+round_status marked (Some RF.Disk) faults = DiskFault faults
+round_status marked (Some RF.Full) faults = LedgerFull
+round_status marked (Some RF.NoMemory) faults = NoMemory
+round_status (Some name) None faults = Marked name
+round_status None None faults = Done
+
+-- what a round over an outbound comes to, told
+abbrev pub told_taken : RoundTold → (faults : ℕ) → Told
+told_taken round faults = record { lines = round.lines; status = round_status round.marked round.fault faults }

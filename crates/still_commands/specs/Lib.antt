@@ -1,3 +1,4 @@
 pub mod Came
 pub mod Lists
+pub mod Receipts
 pub mod Still

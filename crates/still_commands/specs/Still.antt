@@ -1,5 +1,5 @@
 -- What a command without a session does over a disk (own).
-use Rattle.std.specs.Prelude.{◌≡◌, ◌⊎◌, ℕ, Bool, true, List, Option, Result, Ok, OnOk, IfErr, IsErrOf}
+use Rattle.std.specs.Prelude.{◌≡◌, ◌⊎◌, ℕ, Bool, true, List, ◌≢◌, Option, Some, None, Result, Ok, OnOk, IfErr, IsErrOf}
 use Rattle.disk_model.specs.Changes.{Every, Follows, Only}
 use Rattle.disk_model.specs.Moments.{Now, Leaves}
 use Rattle.disk_model.specs.World.{World}
@@ -16,7 +16,7 @@ use Rattle.nodelist_files.specs.Files.{index_name, new_name}
 use Rattle.nodelist_files.specs.IndexFile.{index_at}
 use Rattle.nodelist_files.specs.declared.fault.CompileFault.{CompileFault}
 use Rattle.nodelist_files.specs.declared.fault.CompileFault.TheVariants as M
-use Rattle.node_store.specs.Stored.{Holding}
+use Rattle.node_store.specs.Stored.{Holding, stand_of}
 use Rattle.node_store.specs.declared.opening.fault.StoreOpenFault.{StoreOpenFault}
 use Rattle.command_base.specs.Causes.{IsBadIndex, NoIndex}
 use Rattle.command_base.specs.Opening.{HasOpened, HasRefused}
@@ -26,20 +26,25 @@ use Rattle.command_base.specs.Statuses as S
 use Rattle.command_base.specs.Statuses.{Status, status_unopened}
 use Rattle.command_words.specs.Forms as W
 use Rattle.command_words.specs.Forms.{Command, HasForm}
-use Rattle.still_commands.specs.Came.{Told, IsTold, looked, only, told_compiled, told_listed}
+use Rattle.outbound_round.specs.Round.{RoundTold, TakesRound}
+use Rattle.outbound_round.specs.declared.words.RoundFault.TheVariants as RF
+use Rattle.outbound_store.specs.GoesOn.{GoesOn}
+use Rattle.still_commands.specs.Came.{Told, IsTold, looked, only, told_compiled, told_listed, told_taken}
 
 -- the words are such a command
 pub data AreStill (words : List (List ℕ)) : Type 0 where
   a_lookup : (text : List ℕ) → HasForm words (W.Lookup text) → AreStill words
   a_compile : (path : List ℕ) → HasForm words (W.Compile path) → AreStill words
   a_list : HasForm words W.Listing → AreStill words
+  a_take : HasForm words W.Taking → AreStill words
 
--- what they ask for by settings: to look up the node of an address, read with the home's parts, to compile a file, or to list what
--- the store keeps
+-- what they ask for by settings: to look up the node of an address, read with the home's parts, to compile a file, to list what the
+-- store keeps, or to take in the outbound
 pub data Asks (words : List (List ℕ)) (conf : ConfText) : Type 0 where
   To_look_up : (text : List ℕ) (a : Address) → HasForm words (W.Lookup text) → reading text (home_of conf.addresses) ≡ Ok a → Asks words conf
   To_compile : (path : List ℕ) → HasForm words (W.Compile path) → Asks words conf
   To_list : HasForm words W.Listing → Asks words conf
+  To_take : HasForm words W.Taking → Asks words conf
 
 -- the word behind `lookup` spells no address, or there was no memory to read it
 abbrev pub IsNoAddress : List ℕ → ConfText → Told → Type 0
@@ -59,10 +64,11 @@ pub record CompilesFile {D : Type 0} (files : D → World → Type 0) (faults : 
   pub cleared : IfErr result (λ fault. (fault ≡ M.Disk) ⊎ Follows Clears (files old) (files new))
 
 module _ {D : Type 0} (files : D → World → Type 0) (tells : Bool) (content : D → World) (faults : D → ℕ) (moment : D → ℕ) (images : D → ℕ → World → Type 0) where
-  -- The words are no such command, and nothing was done; or the settings weren't read, or by them the word behind `lookup` is no
+  -- There was no memory for the words, or they are no such command, and nothing was done; or the settings weren't read, or by them the word behind `lookup` is no
   -- no address, or the index couldn't be read, and the disk was read only; or no store was opened; or one was, and over its disk the
   -- index is bad, or the node was looked up in it, or the file was compiled, or what the store keeps was listed.
   pub data Over_still (words : List (List ℕ)) (disk : D) (told : Told) (disk' : D) : Type 0 where
+    No_words : told ≡ only S.NoMemory → OnlyRead tells content faults moment images disk disk' → Over_still words disk told disk'
     Not_asked : (AreStill words → ⊥) → told ≡ only S.Usage → disk' ≡ disk → Over_still words disk told disk'
     Not_set : AreStill words → (had : Status) → told ≡ only had → NoSettings tells content faults moment images disk disk' had → OnlyRead tells content faults moment images disk disk' → Over_still words disk told disk'
     No_address : (conf : ConfText) → HasSettings tells content faults moment images disk conf → (text : List ℕ) → HasForm words (W.Lookup text) → IsNoAddress text conf told
@@ -82,8 +88,25 @@ module _ {D : Type 0} (files : D → World → Type 0) (tells : Bool) (content :
     Listed : (conf : ConfText) → HasSettings tells content faults moment images disk conf → HasForm words W.Listing
         → (opened : Holding D) → HasOpened tells content faults moment images disk opened → disk' ≡ opened.disk → IsTold (told_listed opened.memory.books.folding.state) told → Over_still words disk told disk'
 
+  -- The outbound of the settings was taken in, address by address, over a store that was opened; what it received stays so at each
+  -- moment, and where the disk failed it is broken.
+  pub record TakesIn (conf : ConfText) (now : ℕ) (opened : Holding D) (told : Told) (disk' : D) : Type 0 where
+    pub round : RoundTold
+    pub left : Holding D
+    pub takes : TakesRound tells content faults moment images conf.base conf.zone (home_of conf.addresses) now round opened left
+    pub goes_on : GoesOn (stand_of tells content faults moment images opened) (stand_of tells content faults moment images left)
+    pub broke : round.fault ≡ Some RF.Disk → left.memory.broken ≢ None
+    pub disk_is : disk' ≡ left.disk
+    pub told_is : told ≡ told_taken round (faults disk')
+
+  -- One of these; or a store was opened, and the outbound taken in at that moment.
+  pub data Runs_still (words : List (List ℕ)) (now : ℕ) (disk : D) (told : Told) (disk' : D) : Type 0 where
+    Before_takes : Over_still words disk told disk' → Runs_still words now disk told disk'
+    Taken_in : (conf : ConfText) → HasSettings tells content faults moment images disk conf → HasForm words W.Taking
+        → (opened : Holding D) → HasOpened tells content faults moment images disk opened → TakesIn conf now opened told disk' → Runs_still words now disk told disk'
+
   -- the whole command, and then what was printed of it
-  pub record StillCall (words : List (List ℕ)) (disk : D) (out : SinkState) (status : Status) (disk' : D) (out' : SinkState) : Type 0 where
+  pub record StillCall (words : List (List ℕ)) (now : ℕ) (disk : D) (out : SinkState) (status : Status) (disk' : D) (out' : SinkState) : Type 0 where
     pub told : Told
-    pub does : Over_still words disk told disk'
+    pub does : Runs_still words now disk told disk'
     pub prints : PrintsLines told.lines told.status status out out'

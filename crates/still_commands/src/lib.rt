@@ -1,8 +1,9 @@
-//! The commands that hold no session: `compile FILE`, `lookup ADDR` and `list`.
+//! The commands that hold no session: `compile FILE`, `lookup ADDR`, `list` and `take`.
 //!
 //! [`run_still`] reads the settings of the disk, opens its store and does what the words ask for over that disk, prints what came
 //! of it, and answers the status. `compile` puts a nodelist and its index into the own folder, and `lookup` says by that index how
-//! a node is reached; `list` tells what the store keeps. The contract says what all of it does, and what a stop at each moment leaves.
+//! a node is reached; `list` tells what the store keeps, and `take` takes the outbound in. The contract says what all of it does, and
+//! what a stop at each moment leaves.
 //!
 //! ```
 //! let (status, disk) = run_still(alloc, words, disk, now, &mut out);
@@ -11,7 +12,7 @@
 //! What refuses a command is judged in one order: the words, the settings, the store's opening, the index, whether there is a file
 //! or a node, and then the text of a nodelist.
 //!
-//! Left out: `take`, which goes with the outbound.
+//! Left out: how an outbound is taken in (`outbound_round`), and the commands with a session.
 #![tactic(auto)]
 
 mod came;
@@ -19,5 +20,6 @@ mod compiling;
 mod listing;
 mod looking;
 mod still;
+mod taking;
 
 pub use still::{is_still, run_still};

@@ -13,6 +13,8 @@ mod listed;
 #[cfg(test)]
 mod looked;
 #[cfg(test)]
+mod taken;
+#[cfg(test)]
 mod words;
 
 pub use boxes::{Ran, bare_disk, beside, failing_at, new_disk, reopened, run, stopped};

@@ -31,7 +31,7 @@ fn other_words_touch_nothing(rt: HostRuntime) -> Result<(), Fail> {
     assert!(rt; is_usage(alloc, &[b"compile", b"a", b"b"])?);
     // A byte that begins no UTF-8.
     assert!(rt; is_usage(alloc, &[b"compile", b"a\xff"])?);
-    assert!(rt; is_usage(alloc, &[b"take"])?);
+    assert!(rt; is_usage(alloc, &[b"take", b"2:5020/1"])?);
     assert!(rt; is_usage(alloc, &[b"list", b"x"])?);
     assert!(rt; is_usage(alloc, &[b"serve"])?);
     assert!(rt; is_usage(alloc, &[b"trial", b"100", b"1"])?);

@@ -1,27 +1,16 @@
-use Rattle.std.proofs.Common.{ℕ, refl, subst, sym}
-use Rattle.mail_conf.specs.ConfView.{conf_text}
-use Rattle.binkp_mailer.specs.DiskCall.{Not_asked, Not_set}
-use Rattle.command_base.specs.Settings.{NoSettings}
-use Rattle.command_base.specs.Statuses.{status_unset}
-use Rattle.binkp_mailer.proofs.ReadOnly.{call_before}
+use Rattle.std.proofs.Common.{Bool, Ok, ap, refl}
+use Rattle.binkp_mailer.specs.DiskCall.{No_words, Not_asked}
+use Rattle.command_base.proofs.ReadOnly.{no_read}
 use Rattle.binkp_mailer.proofs.over_disk.serve_disk.Goals as goal
 
-pub returns-then-not-have_form : goal.returns-then-not-have_form
-returns-then-not-have_form g c = Not_asked refl refl (c.have_form.ensures.no c.if-not-have_form.true) refl refl
+pub serve_words-requires-clause-form : goal.serve_words-requires-clause-form
+serve_words-requires-clause-form g c = c.in-Ok-true.ensures.yes (ap (λ (b : Bool). Ok b) c.in-Ok-true.field-0-test)
 
-pub serve_by-requires-clause-keeps : goal.serve_by-requires-clause-keeps
-serve_by-requires-clause-keeps g c = c.what_is_read_keeps_limits.ensures c.in-Ok.ensures.ok.text (conf_text c.in-Ok.conf) c.in-Ok.ensures.ok.spells
+pub returns-in-Ok-true : goal.returns-in-Ok-true
+returns-in-Ok-true g c = c.serve_words.ensures
 
-pub serve_by-requires-clause-form : goal.serve_by-requires-clause-form
-serve_by-requires-clause-form g c = c.have_form.ensures.yes c.if-not-have_form.false
-
-pub returns-in-Ok : goal.returns-in-Ok
-returns-in-Ok g c =
-    call_before g.D.Disk.tells g.D.Disk.content g.D.Disk.fault_count g.D.Disk.moment g.D.Disk.images _ _ _ _ c.args.disk c.read_settings.new.disk _ _ _ _
-    c.in-Ok.ensures.only c.in-Ok.ensures.calm (c.have_form.ensures.yes c.if-not-have_form.false) c.serve_by.ensures
+pub returns-in-Ok-false : goal.returns-in-Ok-false
+returns-in-Ok-false g c = Not_asked refl refl (c.in-Ok-false.ensures.no (ap (λ (b : Bool). Ok b) c.in-Ok-false.field-0-test)) refl refl
 
 pub returns-in-Err : goal.returns-in-Err
-returns-in-Err g c =
-    Not_set refl (c.have_form.ensures.yes c.if-not-have_form.false)
-    (subst (λ (n : ℕ). NoSettings g.D.Disk.tells g.D.Disk.content g.D.Disk.fault_count g.D.Disk.moment g.D.Disk.images c.args.disk c.read_settings.new.disk (status_unset c.in-Err.fault n)) (sym c.faults-faults.ensures) c.in-Err.ensures.unset)
-    c.in-Err.ensures.only refl
+returns-in-Err g c = No_words refl refl (no_read g.D.Disk.tells g.D.Disk.content g.D.Disk.fault_count g.D.Disk.moment g.D.Disk.images c.args.disk) refl
