@@ -13,6 +13,7 @@ use binkp_mailer::{Ended, refuse_for_memory, run_program};
 use ftn_addr::{Bytes, NoMemory};
 use lock::lock;
 use real_edge::{RealFolder, StdLine, StdSink, SystemClock, SystemDice};
+use std::io::BufReader;
 use std::process::ExitCode;
 use std::rt::Env;
 use std::{env, io};
@@ -22,6 +23,9 @@ const NO_CHALLENGE: u8 = 100;
 
 /// What the exit status is where nothing was done, since the folder is another program's or the system refused it.
 const NOT_STARTED: u8 = 101;
+
+/// How many bytes of standard input are read at once, at most. A session takes them in smaller pieces.
+const READ_AHEAD: usize = 65_536;
 
 /// The folder, and the words behind it.
 #[derive(Drop)]
@@ -51,7 +55,10 @@ fn call(
     words: &[Bytes],
     challenge: [u8; 16],
 ) -> Ended {
-    let mut line = StdLine::new(rt.reader(), io::writer(rt));
+    let Ok(input) = BufReader::with_capacity(rt.alloc(), READ_AHEAD, rt.reader()) else {
+        return refuse_for_memory(rt.alloc(), &mut StdSink::new(rt.stderr()));
+    };
+    let mut line = StdLine::new(input, io::writer(rt));
     let mut out = StdSink::new(rt.stderr());
     let moment = SystemClock::new(rt).seconds();
     let (ended, folder) = run_program(
