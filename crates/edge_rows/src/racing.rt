@@ -160,3 +160,19 @@ fn a_mark_that_comes_first_stays(rt: HostRuntime) -> Result<(), Fail> {
     assert_eq!(rt; fs::read(&rt, "s5/x")?.as_slice(), b"raced".as_slice());
     Ok(())
 }
+
+// Another program's mark that goes between two looks stood there all the same.
+#[test]
+fn a_mark_that_goes_meanwhile_stood(rt: HostRuntime) -> Result<(), Fail> {
+    let alloc = rt.alloc();
+    fs::create_dir(&rt, "r8")?;
+    fs::write(&rt, "m8", b"".as_slice())?;
+    let (x, text) = (bytes(alloc, b"m8")?, bytes(alloc, b"ab")?);
+    let seen = Seen::new();
+    let mut yard = RealFolder::new(Watched { rt, seen: &seen }, "r8")?;
+    seen.race_at(2, Race::Gone("m8"));
+    assert_eq!(rt; yard.mark(&x, &text), Ok(Marking::Exists));
+    assert_eq!(rt; seen.take().as_str(), "lstat m8,stat m8,lstat m8,");
+    assert_eq!(rt; yard.faults(), 0);
+    Ok(())
+}

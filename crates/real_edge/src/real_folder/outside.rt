@@ -139,11 +139,17 @@ impl<R: Files + Drop> Folder<R> {
         }
     }
 
-    // A mark stands there, where a file does. A folder, or a link that leads to no file, is none.
+    // A mark stands there, where a file does, and stood there just now, where nothing does any more. A folder, or a link that
+    // leads to no file, is none.
     fn standing_mark(&self, path: &str) -> Answer<Marking> {
-        match file_at(&self.files, path)? {
-            Some(_) => Ok(Marking::Exists),
-            None => Err(refused(SystemCall::Link, io::ErrorKind::AlreadyExists)),
+        if file_at(&self.files, path)?.is_some() {
+            return Ok(Marking::Exists);
+        }
+        match at_path(&self.files, path)? {
+            Some(entry) if !entry.is_file() => {
+                Err(refused(SystemCall::Link, io::ErrorKind::AlreadyExists))
+            }
+            _ => Ok(Marking::Exists),
         }
     }
 
