@@ -118,12 +118,14 @@ impl<D: Disk> NodeStore<D> {
         let _seat = self.seat;
     }
 
-    /// No number of a queued or a staged file is above the last that was drawn for staging. It does nothing.
+    /// No number of a queued or a staged file is above the last that was drawn for staging, and that is at most the greatest. It does
+    /// nothing.
     pub fn numbers_are_drawn(&self)
         ensures queued { Each (λ entry. entry.number ≤ (stand_of D.tells D.content D.fault_count D.moment D.images self.now).state.staged) (stand_of D.tells D.content D.fault_count D.moment D.images self.now).state.stock.state.queue }
         ensures staged { Each (λ file. file.number ≤ (stand_of D.tells D.content D.fault_count D.moment D.images self.now).state.staged) (stand_of D.tells D.content D.fault_count D.moment D.images self.now).state.stock.staged }
+        ensures few { (stand_of D.tells D.content D.fault_count D.moment D.images self.now).state.staged ≤ MAX_NUMBER }
     {
-        let _seat = self.seat;
+        fits_four(self.last_staged);
     }
 
     /// What a store that was just opened keeps is what a sound node without seats keeps; of a store that tells nothing, so is

@@ -45,10 +45,8 @@ fn add_line(
     ensures ok { OnOk result (lines.new.list ≡ lines.old.list ++ end_text (address dest.now, end.now)) }
     ensures err { OnErr result (lines.new.list ≡ lines.old.list) }
 {
-    match line_of(alloc, dest, end) {
-        Ok(line) => lines.push_slice(line.as_slice()),
-        Err(fault) => Err(fault),
-    }
+    let line = line_of(alloc, dest, end)?;
+    lines.push_slice(line.as_slice())
 }
 
 // An address that is marked is passed over.

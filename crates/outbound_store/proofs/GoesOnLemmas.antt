@@ -9,6 +9,8 @@ use Rattle.node_model.specs.StoreStates.{IfTold, Shelf, Stored, StoreState, Stor
 use Rattle.node_model.specs.Stores.{IsShelf, OpensShelf, TellsOn}
 use Rattle.outbound_take.specs.Ruled.{Ruled}
 use Rattle.outbound_take.proofs.RuledLemmas.{ruled_all}
+use Rattle.take_steps.specs.declared.wanting.Wanting.{Wanting}
+use Rattle.outbound_store.specs.Calls.{CallOf}
 use Rattle.outbound_store.specs.GoesOn.{BrokeSince, CountsGoOn, GoesOn, SameReceived}
 
 abbrev pub Same_in : Stored → Shelf → Type 0
@@ -92,7 +94,7 @@ goes_on_then s t u first second = record {
   ];
 }
 
--- What each call says of a store, all of them say.
-pub store_goes_on : {T : Type 0} (stand : T → StoreStand) (old new : T) → Ruled (λ s t. GoesOn (stand s) (stand t)) old new → GoesOn (stand old) (stand new)
-store_goes_on {T} stand old new calls =
-    ruled_all (λ (s : T) (t : T). GoesOn (stand s) (stand t)) (λ (s : T) (t : T). GoesOn (stand s) (stand t)) (λ s. goes_on_none (stand s)) (λ s t u first second. goes_on_then (stand s) (stand t) (stand u) first second) (λ s t call. call) old new calls
+-- What each call leaves of what a store received, all of them leave.
+pub store_goes_on : {T : Type 0} {wanting : T → Option Wanting} (stand : T → StoreStand) (old new : T) → Ruled (λ s t. CallOf (stand s) (wanting s) (stand t) (wanting t)) old new → GoesOn (stand old) (stand new)
+store_goes_on {T} {wanting} stand old new calls =
+    ruled_all (λ (s : T) (t : T). CallOf (stand s) (wanting s) (stand t) (wanting t)) (λ (s : T) (t : T). GoesOn (stand s) (stand t)) (λ s. goes_on_none (stand s)) (λ s t u first second. goes_on_then (stand s) (stand t) (stand u) first second) (λ s t call. call.goes_on) old new calls

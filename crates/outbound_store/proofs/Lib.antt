@@ -17,3 +17,5 @@ pub mod ActFacts
 pub mod Pieces
 pub mod GoesOnLemmas
 pub mod GoesOnCalls
+pub mod StepCalls
+pub mod Wanted

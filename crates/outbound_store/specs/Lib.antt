@@ -1,3 +1,4 @@
 pub mod Seen
 pub mod Held
 pub mod GoesOn
+pub mod Calls

@@ -6,6 +6,10 @@
 //! changes beside that stands in `specs/GoesOn.antt`: what was received, refused, marked and given. It holds along all calls, one
 //! behind another (`store_goes_on` in `proofs/GoesOnLemmas.antt`).
 //!
+//! What each call is to the store beneath stands in `specs/Calls.antt`: one step, as `take_steps` says. Where a call found no place
+//! or no memory, [`TakingStore::wanting`] tells that, and every later call is refused for the same and does nothing. Only marks
+//! are made and taken away all the same.
+//!
 //! ```text
 //! let found = addresses(alloc, &mut store, &home, &base, 2)?;
 //! let mut taking = TakingStore::new(store);
@@ -23,6 +27,7 @@
 mod left;
 mod own;
 mod reading;
+mod store_calls;
 mod taking_store;
 
 pub use taking_store::TakingStore;

@@ -7,7 +7,7 @@ use Rattle.outbound_store.proofs.TakeKept.{mark_steps, takes_kept}
 use Rattle.node_model.specs.StoreStates.{StoreStand}
 use Rattle.node_store.specs.Stored.{Holding, stand_of}
 use Rattle.outbound_store.proofs.RefusedKept.{takes_break, takes_fault}
-use Rattle.outbound_store.proofs.GoesOnCalls.{takes_go_on}
+use Rattle.outbound_store.proofs.StepCalls.{takes_call}
 use Rattle.outbound_store.proofs.taking_store.TakingStoreOutgoing.mark.Goals as goal
 
 pub mark-requires-clause-whole : goal.mark-requires-clause-whole
@@ -49,4 +49,4 @@ returns-clause-rule g c =
     let St : Holding g.row.D.Denot → StoreStand = λ s. stand_of g.D.Disk.tells g.D.Disk.content g.D.Disk.fault_count g.D.Disk.moment g.D.Disk.images s in
     let a = c.args.self.now.store in
     let b = c.mark.new.self in
-    takes_go_on (marked_so c.args.path.now.list c.args.text.now.list c.mark.ensures.marks.0) c.mark.result (St a) (St b) c.mark.ensures.marks.1
+    takes_call c.args.self.now.wanting (marked_so c.args.path.now.list c.args.text.now.list c.mark.ensures.marks.0) c.mark.result (St a) (St b) c.requires c.mark.ensures.marks.1
