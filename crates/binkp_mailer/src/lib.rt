@@ -3,9 +3,9 @@
 //!
 //! [`run_program`] is the whole program but for what only the system has: it is given the words behind the folder, a disk, a
 //! line, a sink, the moment and a challenge, and answers the exit status. It calls [`run_line`], which reads the settings of the
-//! disk ([`read_settings`]) and the words ([`read_words`]), opens its store, and holds one session over the line and that store
-//! ([`hold_session`]), gives what is received to the inbound folders ([`give_behind`]), and prints what came of it ([`print`]).
-//! Their contracts say what all of it does. [`run_over_store`] makes the call over a store that is there. That the node below
+//! disk ([`read_settings`]) and the words ([`read_words`]), opens its store, and holds one session over the line and that store,
+//! which begins with the take-in of its peer's outbound ([`hold_with_outbound`]), gives what is received to the inbound folders
+//! ([`give_behind`]), and prints what came of it ([`print`]). Their contracts say what all of it does. [`run_over_store`] makes the call over a store that is there. That the node below
 //! is one of the two that `world_pair` speaks of is the law [`one_node`].
 //!
 //! ```
@@ -24,6 +24,7 @@ mod over_store;
 mod program;
 mod report;
 mod settings;
+mod with_outbound;
 mod words;
 
 pub use holding::{hold_line, hold_session};
@@ -34,4 +35,5 @@ pub use over_store::{one_receipt_over_calls, receipts_stay_over_calls, run_over_
 pub use program::{Ended, explanation, refuse_for_memory, run_program};
 pub use report::{Outcome, print, push_session};
 pub use settings::{has_host, hub_conf, is_reached, lists};
+pub use with_outbound::hold_with_outbound;
 pub use words::{WordsFault, have_form, read_words};

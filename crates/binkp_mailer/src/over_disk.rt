@@ -19,7 +19,8 @@ ghost use Rattle.binkp_mailer.specs.Settings.{has_host};
 ghost use Rattle.binkp_mailer.specs.Words.{AreWords, HaveForm, IsAsked};
 
 use crate::{
-    Outcome, WordsFault, give_behind, has_host, have_form, hold_session, lists, print, read_words,
+    Outcome, WordsFault, give_behind, has_host, have_form, hold_with_outbound, lists, print,
+    read_words,
 };
 use binkp_link::{Line, Sink};
 use command_base::{Status, read_settings};
@@ -35,6 +36,7 @@ use std::alloc::Global;
 /// came of it, and gives the disk back: it answers the caller where they are `answer`, and is the caller where they are `call`
 /// and the called address. The line was not used yet; a session closes it at its end. A caller is offered the challenge.
 ///
+/// As the session begins the outbound of the settings is taken in for the peer's addresses, so that it sends what stands there.
 /// What is received stays received, at each stop since the call began too, and behind the session it is given to the inbound
 /// folders of the settings. What came of a file that isn't whole is marked on the disk, and the next call takes it from there.
 pub fn run_line<D: Yard, L: Line, O: Sink>(
@@ -220,7 +222,7 @@ fn serve_side<D: Yard, L: Line>(
     };
     store.opens_as_told();
     store.opens_soundly();
-    let (outcome, store) = hold_session(alloc, side, conf, listed, random, store, line, now);
+    let (outcome, store) = hold_with_outbound(alloc, side, conf, listed, random, store, line, now);
     let (outcome, store) = give_behind(alloc, conf, outcome, store);
     (outcome, store.into_disk())
 }

@@ -11,6 +11,7 @@ use std::alloc::Global;
 use std::test::Fail;
 
 mod failing;
+mod outbound;
 mod stops;
 mod whole;
 

@@ -18,9 +18,12 @@ use node_model::{Role, Store};
 use std::alloc::Global;
 
 /// The seats of a node over its store.
+///
+/// Calls of the store that are no session's can be made on it between those of its desks. Whoever makes them answers for it that
+/// the hub still fits its store.
 #[derive(Drop)]
 pub struct Hub<S: Store> {
-    pub(crate) store: S,
+    pub store: S,
     pub(crate) seats: Seats,
     /// The seat that has claimed an entry, by its number.
     pub(crate) claims: ClaimIndex,

@@ -17,7 +17,8 @@
 //! let store = desk.hub.into_store();
 //! ```
 //!
-//! Left out: taking files in, acting on their sources, giving received files, and lending the store.
+//! Left out: taking files in, acting on their sources, and giving received files. Whoever does that makes the calls of the hub's
+//! store itself.
 #![tactic(auto)]
 
 mod claim_index;

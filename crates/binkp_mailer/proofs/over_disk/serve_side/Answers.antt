@@ -17,15 +17,15 @@ returns-in-Err g c = λ words are.
 
 -- A session is held over the store that was opened.
 
-pub hold_session-outcome-requires-clause-fits : goal.hold_session-outcome-requires-clause-fits
-hold_session-outcome-requires-clause-fits g c = λ settings.
+pub hold_with_outbound-outcome-requires-clause-fits : goal.hold_with_outbound-outcome-requires-clause-fits
+hold_with_outbound-outcome-requires-clause-fits g c = λ settings.
     new_whole g.D.Disk.tells g.D.Disk.content g.D.Disk.fault_count g.D.Disk.moment g.D.Disk.images c.in-Ok.store settings (c.opens_soundly.ensures settings) c.in-Ok.ensures.memory c.opens_as_told.ensures.stopped
 
 pub returns : goal.returns
 returns g c = λ words are.
-    let e = c.hold_session-outcome.ensures in
+    let e = c.hold_with_outbound-outcome.ensures in
     retold g.D.Disk.tells g.D.Disk.content g.D.Disk.fault_count g.D.Disk.moment g.D.Disk.images _ _ _ _ c.args.disk _ _ _ _ _ c.give_behind-outcome.ensures.told
-    (Over_store (conf_text c.args.conf.now) c.requires.settings (side_of c.args.side) are c.args.listed c.requires.listed c.in-Ok.store c.hold_session-outcome.result.1 c.give_behind-outcome.result.1
+    (Over_store (conf_text c.args.conf.now) c.requires.settings (side_of c.args.side) are c.args.listed c.requires.listed c.in-Ok.store c.hold_with_outbound-outcome.result.1 c.give_behind-outcome.result.1
     (record { memory = c.in-Ok.ensures.memory; told = c.in-Ok.ensures.told; stop = c.in-Ok.ensures.stop; read = c.in-Ok.ensures.read; aside_stop = c.in-Ok.ensures.aside_stop; aside_read = c.in-Ok.ensures.aside_read; calm = c.in-Ok.ensures.calm }) _
     (record { call = e.call _ are; cause = e.cause; once = e.once; stays = e.stays; stop_once = e.stop_once; stop_stays = e.stop_stays })
     c.give_behind-outcome.ensures.gives c.into_disk.ensures)

@@ -1,0 +1,17 @@
+pub mod ActRows
+pub mod FullCalls
+pub mod Joining
+pub mod OneRow
+pub mod Opening
+pub mod Openings
+pub mod QueueRows
+pub mod QueuedFiles
+pub mod QuietRows
+pub mod Refusals
+pub mod Rows
+pub mod SeatTurns
+pub mod StageRows
+pub mod Steps
+pub mod StoreCalls
+pub mod Alone
+pub mod Taking

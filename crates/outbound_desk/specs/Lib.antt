@@ -1,0 +1,2 @@
+pub mod TakenIn
+pub mod Lines

@@ -1,0 +1,47 @@
+-- A desk that is alone at its hub, and the take-in before its session (own).
+use Rattle.std.specs.Prelude.{◌≡◌, ℕ, Option, Some, None, Result, Ok, Err, length}
+use Rattle.ftn_addr.specs.Address.{Address}
+use Rattle.ftn_addr.specs.Limits.{IsAddress}
+use Rattle.node_model.specs.Calls.{EndsRefused}
+use Rattle.node_model.specs.Desks.{fault_of}
+use Rattle.node_model.specs.declared.desk.DeskFault.{DeskFault}
+use Rattle.node_model.specs.declared.desk.DeskFault.TheVariants as D
+use Rattle.node_model.specs.Stores.{StoreStand}
+use Rattle.hub_core.specs.Hubs.{HubState, Fitted, IsReady, IsSettled}
+use Rattle.take_steps.specs.declared.wanting.Wanting.{Wanting}
+use Rattle.take_steps.specs.declared.wanting.Wanting.TheVariants.{Places, Memory}
+use Rattle.outbound_desk.specs.TakenIn.{AreDrawn, NoSittings, TakenIn}
+
+-- a ready seat, the one of its hub, and the home within its limits
+pub record IsReadyAlone (w : StoreStand) (h : HubState) (seat : ℕ) (home : Address) : Type 0 where
+  pub ready : IsReady w h seat
+  pub alone : length h.chairs ≡ 1
+  pub home_within : IsAddress home
+
+-- The calls of take-ins are rows of the seat whose turn it is, at every hub without sessions that fits the store.
+abbrev pub TakesIn : StoreStand → StoreStand → Option Wanting → Type 0
+TakesIn old new now =
+    (h : HubState) → NoSittings h → Fitted old.state h → AreDrawn old.state → IsSettled old → TakenIn h old.state.seat old new now
+
+-- what is wanted at the end of a take-in: what the calls of its store found no more of, or else memory, where it found none itself
+abbrev pub WantsSo : (by_calls at_end : Option Wanting) → Type 0
+WantsSo (Some want) at_end = at_end ≡ Some want
+WantsSo None None = Unit {0}
+WantsSo None (Some Memory) = Unit {0}
+WantsSo None (Some Places) = ⊥
+
+-- why a session isn't opened, where that was wanted before it
+abbrev pub fault_wanted : Wanting → DeskFault
+fault_wanted Places = D.Full
+fault_wanted Memory = D.NoMemory
+
+-- a take-in whose last row was refused so
+pub record Refuses (h : HubState) (seat : ℕ) (old : StoreStand) (fault : DeskFault) (new : StoreStand) : Type 0 where
+  pub now : Option Wanting
+  pub taken : TakenIn h seat old new now
+  pub refused : EndsRefused taken.events (fault_of fault)
+
+-- Take-ins before a session: all of their rows were made, and the store is whole; or the last row was refused.
+abbrev pub TakesPeers : HubState → ℕ → StoreStand → Result (Unit {0}) DeskFault → StoreStand → Type 0
+TakesPeers h seat old (Ok done) new = (new.state.counts.broken ≡ None) × TakenIn h seat old new None
+TakesPeers h seat old (Err fault) new = Refuses h seat old fault new

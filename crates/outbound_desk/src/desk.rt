@@ -1,0 +1,139 @@
+//! The desk of a seat that takes the outbound of its peer in.
+ghost use Rattle.std.specs.Prelude.{◌≡◌, false, true, length, map};
+ghost use Rattle.std.specs.List.{All};
+ghost use Rattle.ftn_addr.specs.Address.{address};
+ghost use Rattle.ftn_addr.specs.Limits.{IsAddress};
+ghost use Rattle.hub_core.specs.HubLaws.{seat_tied};
+ghost use Rattle.hub_core.specs.Hubs.{hub_stand, hub_state, seat_part};
+ghost use Rattle.node_store.specs.Stored.{stand_of};
+ghost use Rattle.outbound_desk.specs.Lines.{IsReadyAlone, TakesPeers, fault_wanted};
+
+use crate::peers::take_peers;
+use disk_model::Yard;
+use ftn_addr::{Addr, Bytes, FileKey};
+use hub_core::{DataIn, Desk, DeskFault, FileIn, HubDesk, Knock, Offer};
+use node_model::{Role, Store};
+use outbound_intake::OutboundAt;
+use outbound_store::TakingStore;
+use std::alloc::Global;
+use take_steps::Wanting;
+
+/// Where the outbound of a desk is: the node's first address, the base, and the zone of the base's own folder.
+#[derive(Debug, Drop)]
+pub struct DeskOutbound {
+    pub home: Addr,
+    pub base: Bytes,
+    pub zone: u16,
+}
+
+/// The desk of the one seat of a hub. As a session begins at it, it first takes in the outbound of each peer address.
+#[derive(Drop)]
+pub struct LineDesk<S: Store> {
+    pub desk: HubDesk<S>,
+    pub outbound: DeskOutbound,
+}
+
+// Why a session isn't opened, where that was wanted before it.
+fn fault_of(wanting: Wanting) -> DeskFault
+    ensures { result ≡ fault_wanted wanting }
+{
+    match wanting {
+        Wanting::Places => DeskFault::Full,
+        Wanting::Memory => DeskFault::NoMemory,
+    }
+}
+
+impl<D: Yard> LineDesk<TakingStore<D>> {
+    /// Takes in the outbound of each peer address for which something is to be taken in, but of the home. One that another program has
+    /// marked is passed over.
+    fn take_in_first(&mut self, alloc: Global, peers: &[Addr], now: u64) -> Result<(), DeskFault>
+        requires ready { IsReadyAlone (stand_of D.tells D.content D.fault_count D.moment D.images self.old.desk.hub.store.store) (hub_state self.old.desk.hub.seats) self.old.desk.seat (address self.old.outbound.home) }
+        requires none_yet { (seat_part (hub_state self.old.desk.hub.seats) self.old.desk.seat).open_now ≡ false }
+        requires whole { self.old.desk.hub.store.store.memory.broken ≡ None }
+        requires limits { All IsAddress (map address peers.now) }
+        ensures takes { TakesPeers (hub_state self.old.desk.hub.seats) self.old.desk.seat (stand_of D.tells D.content D.fault_count D.moment D.images self.old.desk.hub.store.store) result (stand_of D.tells D.content D.fault_count D.moment D.images self.new.desk.hub.store.store) }
+        ensures seats { hub_state self.new.desk.hub.seats ≡ hub_state self.old.desk.hub.seats }
+        ensures seat { self.new.desk.seat ≡ self.old.desk.seat }
+        ensures outbound { self.new.outbound ≡ self.old.outbound }
+    {
+        let outbound = OutboundAt {
+            home: &self.outbound.home,
+            base: &self.outbound.base,
+            zone: self.outbound.zone,
+        };
+        self.desk.hub.store.store.numbers_are_drawn();
+        self.desk.hub.store.store.by(self.desk.seat);
+        self.desk.hub.store.begin_anew();
+        let wanting = take_peers(alloc, &mut self.desk.hub.store, &outbound, peers, now);
+        match self.desk.hub.store.broken() {
+            Some(count) => Err(DeskFault::Disk(count)),
+            None => match wanting {
+                Some(wanting) => Err(fault_of(wanting)),
+                None => Ok(()),
+            },
+        }
+    }
+}
+
+impl<D: Yard> Desk for LineDesk<TakingStore<D>> {
+    ghost alone = { true };
+
+    ghost stand = { λ d. hub_stand (stand_of D.tells D.content D.fault_count D.moment D.images d.desk.hub.store.store) (hub_state d.desk.hub.seats) d.desk.seat };
+
+    ghost part = { λ d. seat_part (hub_state d.desk.hub.seats) d.desk.seat };
+
+    ghost ready = { λ d. IsReadyAlone (stand_of D.tells D.content D.fault_count D.moment D.images d.desk.hub.store.store) (hub_state d.desk.hub.seats) d.desk.seat (address d.outbound.home) };
+
+    ghost rule = { λ d e. (e.desk.seat ≡ d.desk.seat) × (e.outbound ≡ d.outbound) };
+
+    fn knock(&mut self, role: Role) -> Result<Knock, DeskFault> {
+        self.desk.knock(role)
+    }
+
+    fn begin(
+        &mut self,
+        alloc: Global,
+        role: Role,
+        peers: &[Addr],
+        secure: bool,
+        now: u64,
+    ) -> Result<u32, DeskFault> {
+        if self.desk.hub.store.broken().is_some() {
+            return self.desk.begin(alloc, role, peers, secure, now);
+        }
+        match self.take_in_first(alloc, peers, now) {
+            Ok(()) => self.desk.begin(alloc, role, peers, secure, now),
+            Err(fault) => Err(fault),
+        }
+    }
+
+    fn offer(&mut self, alloc: Global) -> Result<Offer, DeskFault> {
+        self.desk.offer(alloc)
+    }
+
+    fn read(&mut self, at: u64, out: &mut [u8]) -> Result<usize, DeskFault> {
+        self.desk.read(at, out)
+    }
+
+    fn got(&mut self) -> Result<(), DeskFault> {
+        self.desk.got()
+    }
+
+    fn skip(&mut self) {
+        self.desk.skip();
+    }
+
+    fn file_in(&mut self, alloc: Global, key: &FileKey, offset: u64) -> Result<FileIn, DeskFault> {
+        self.desk.file_in(alloc, key, offset)
+    }
+
+    fn data_in(&mut self, bytes: &[u8]) -> Result<DataIn, DeskFault> {
+        self.desk.data_in(bytes)
+    }
+
+    fn leave(&mut self) -> Result<(), DeskFault> {
+        self.desk.leave()
+    }
+
+    ghost tied = { λ d ready. seat_tied (stand_of D.tells D.content D.fault_count D.moment D.images d.desk.hub.store.store) (hub_state d.desk.hub.seats) d.desk.seat ready.ready };
+}
