@@ -44,7 +44,7 @@ fn a_copy_is_made_in_pieces_and_synced_later(rt: HostRuntime) -> Result<(), Fail
     assert_eq!(rt; seen.take().as_str(), "sync c1/a,open c1,sync c1,");
     // The handle stands behind the copy.
     yard.write_at(&a, 5, b"f")?;
-    assert_eq!(rt; seen.take().as_str(), "fstat c1/a,write c1/a,");
+    assert_eq!(rt; seen.take().as_str(), "write c1/a,");
     assert_eq!(rt; fs::read(&rt, "c1/a")?.as_slice(), b"abcdef".as_slice());
     Ok(())
 }

@@ -16,10 +16,7 @@ fn a_file_is_made_with_its_name_and_written_in_pieces(rt: HostRuntime) -> Result
     assert_eq!(rt; disk.create(&a), Ok(Made::New));
     assert_eq!(rt; seen.take().as_str(), "open w1/a,open w1,sync w1,");
     disk.write_at(&a, 0, b"abcde")?;
-    assert_eq!(rt;
-        seen.take().as_str(),
-        "fstat w1/a,write w1/a,write w1/a,write w1/a,"
-    );
+    assert_eq!(rt; seen.take().as_str(), "write w1/a,write w1/a,write w1/a,");
     disk.sync(&a)?;
     assert_eq!(rt; seen.take().as_str(), "sync w1/a,");
     let mut out = [0; 3];
@@ -54,7 +51,7 @@ fn a_renamed_and_a_removed_file_has_no_handle_left(rt: HostRuntime) -> Result<()
     disk.write_at(&b, 0, b"x")?;
     assert_eq!(rt;
         seen.take().as_str(),
-        "lstat w2/b,open w2/b,fstat w2/b,fstat w2/b,write w2/b,"
+        "lstat w2/b,open w2/b,fstat w2/b,write w2/b,"
     );
     assert_eq!(rt; disk.write_at(&a, 0, b"x"), Err(Failed));
     assert_eq!(rt; seen.take().as_str(), "lstat w2/a,");
@@ -167,10 +164,10 @@ fn a_run_of_writes_and_reads_goes_on_where_it_stands(rt: HostRuntime) -> Result<
     disk.write_at(&a, 0, b"ab")?;
     seen.take();
     disk.write_at(&a, 2, b"cd")?;
-    assert_eq!(rt; seen.take().as_str(), "fstat w6/a,write w6/a,");
+    assert_eq!(rt; seen.take().as_str(), "write w6/a,");
     disk.sync(&a)?;
     disk.write_at(&a, 4, b"ef")?;
-    assert_eq!(rt; seen.take().as_str(), "sync w6/a,fstat w6/a,write w6/a,");
+    assert_eq!(rt; seen.take().as_str(), "sync w6/a,write w6/a,");
     let mut out = [0; 2];
     disk.read_at(&a, 1, &mut out)?;
     assert_eq!(rt; out, *b"bc");
@@ -180,7 +177,7 @@ fn a_run_of_writes_and_reads_goes_on_where_it_stands(rt: HostRuntime) -> Result<
     assert_eq!(rt; seen.take().as_str(), "read w6/a,");
     // A write goes on behind a read, and one that begins elsewhere is sent there.
     disk.write_at(&a, 5, b"FG")?;
-    assert_eq!(rt; seen.take().as_str(), "fstat w6/a,write w6/a,");
+    assert_eq!(rt; seen.take().as_str(), "write w6/a,");
     disk.write_at(&a, 5, b"f")?;
     assert_eq!(rt; seen.take().as_str(), "fstat w6/a,seek w6/a 5,write w6/a,");
     assert_eq!(rt; fs::read(&rt, "w6/a")?.as_slice(), b"abcdefG".as_slice());
@@ -220,9 +217,9 @@ fn behind_a_call_that_failed_a_file_is_opened_anew(rt: HostRuntime) -> Result<()
     disk.write_at(&a, 0, b"abcd")?;
     seen.take();
     // The second of the two writes fails.
-    seen.fail_at(3);
+    seen.fail_at(2);
     assert_eq!(rt; disk.write_at(&a, 4, b"efgh"), Err(Failed));
-    assert_eq!(rt; seen.take().as_str(), "fstat w8/a,write w8/a,write w8/a,");
+    assert_eq!(rt; seen.take().as_str(), "write w8/a,write w8/a,");
     seen.fail_at(0);
     disk.write_at(&a, 4, b"EF")?;
     assert_eq!(rt;

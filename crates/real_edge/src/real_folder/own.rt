@@ -2,7 +2,7 @@
 use super::paths::Paths;
 use super::placed::Placed;
 use super::system::{
-    cut_to, make_new, open_plain, plain_len, remove, rename, status_of, sync_file, sync_folder,
+    make_new, open_plain, plain_len, remove, rename, status_of, sync_file, sync_folder,
 };
 use crate::error::{Answer, ListError, SystemCall, refused, told};
 use disk_model::{Made, Name};
@@ -78,8 +78,8 @@ impl<R: Files + Drop> Folder<R> {
     }
 
     pub fn cut(&mut self, name: &Name, len: u64) -> Answer<()> {
-        let opened = self.open_with(name, len)?;
-        cut_to(&opened.file, len)?;
+        let mut opened = self.open_with(name, len)?;
+        opened.cut(len)?;
         self.hold(name, opened);
         Ok(())
     }
@@ -143,10 +143,11 @@ impl<R: Files + Drop> Folder<R> {
         }
     }
 
-    // The same file where it has at least so many bytes.
+    // The same file where it has at least so many bytes. The system isn't asked for its length where the last read or write ended
+    // there.
     fn open_with(&mut self, name: &Name, len: u64) -> Answer<Placed<R::File>> {
         let opened = self.open(name)?;
-        if status_of(&opened.file)?.len() < len {
+        if !opened.ended_at(len) && status_of(&opened.file)?.len() < len {
             return Err(refused(SystemCall::Stat, io::ErrorKind::InvalidInput));
         }
         Ok(opened)

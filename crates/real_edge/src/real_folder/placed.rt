@@ -1,15 +1,16 @@
 //! An open file, and where its handle stands.
-ghost use Rattle.std.specs.Prelude.{◌≡◌, ◌+◌, length, Some, IfSome, OnOk};
+ghost use Rattle.std.specs.Prelude.{◌≡◌, ◌+◌, length, None, Some, IfSome, OnOk, true};
 ghost use Rattle.std.specs.Io.KnownBytes.{Appends, Consumes};
 
-use super::system::write_all;
+use super::system::{cut_to, write_all};
 use crate::error::{Answer, SystemCall, told};
+use std::fs::OpenFile;
 use std::io::{Read, Seek, SeekFrom, Write};
 
 /// An open file, and the place at which the system reads or writes next; None where that isn't known.
 ///
-/// So a read or a write that begins where the last one ended needs no other call of the system. Where a call fails the place means
-/// nothing, and the handle is to be dropped.
+/// So a read or a write that begins where the last one ended needs no other call of the system: the handle stands there, and the
+/// file has that many bytes. Where a call fails the place means nothing, and the handle is to be dropped.
 #[derive(Drop)]
 pub struct Placed<F> {
     pub(super) file: F,
@@ -26,6 +27,24 @@ impl<F> Placed<F> {
             file,
             place: Some(place),
         }
+    }
+
+    /// Whether the last read or write ended at that place, and nothing was cut since.
+    pub fn ended_at(&self, at: u64) -> bool
+        ensures { result ≡ true → self.now.place ≡ Some at }
+    {
+        self.place == Some(at)
+    }
+}
+
+impl<F: OpenFile> Placed<F> {
+    /// Cuts the file to that length. The handle may stand behind its end then.
+    pub fn cut(&mut self, len: u64) -> Answer<()>
+        ensures { OnOk result (self.new.place ≡ None) }
+    {
+        cut_to(&self.file, len)?;
+        self.place = None;
+        Ok(())
     }
 }
 
