@@ -27,7 +27,7 @@ fn a_copy_is_made_in_pieces_and_synced_later(rt: HostRuntime) -> Result<(), Fail
     assert_eq!(rt; yard.copy(&x, &a, 4), Ok(Copied::Over));
     assert_eq!(rt;
         seen.take().as_str(),
-        "stat d1/x,open d1/x,fstat d1/x,unlink c1/a,"
+        "stat d1/x,stat c1,stat d1,open d1/x,fstat d1/x,unlink c1/a,"
     );
     assert_eq!(rt; yard.write_at(&a, 0, b"x"), Err(Failed));
     assert_eq!(rt; yard.stat(&a), Ok(None));
@@ -36,7 +36,7 @@ fn a_copy_is_made_in_pieces_and_synced_later(rt: HostRuntime) -> Result<(), Fail
     assert!(rt; matches!(copied, Ok(Copied::Copied(OutStat { size: 5, .. }))));
     assert_eq!(rt;
         seen.take().as_str(),
-        "stat d1/x,open d1/x,fstat d1/x,unlink c1/a,open c1/a,read d1/x,write c1/a,\
+        "stat d1/x,stat c1,stat d1,open d1/x,fstat d1/x,unlink c1/a,open c1/a,read d1/x,write c1/a,\
          read d1/x,write c1/a,read d1/x,write c1/a,read d1/x,"
     );
     assert_eq!(rt; fs::read(&rt, "c1/a")?.as_slice(), b"abcde".as_slice());
@@ -157,12 +157,15 @@ fn a_file_is_cut_and_removed_only_as_it_was(rt: HostRuntime) -> Result<(), Fail>
         seen.take();
         assert_eq!(rt; yard.cut_if(&x, &other), Ok(Hit::Other));
         assert_eq!(rt; yard.remove_if(&x, &other), Ok(Hit::Other));
-        assert_eq!(rt; seen.take().as_str(), "stat d5/x,stat d5/x,");
+        assert_eq!(rt;
+            seen.take().as_str(),
+            "stat d5/x,stat c5,stat d5,stat d5/x,stat c5,stat d5,"
+        );
     }
     assert_eq!(rt; yard.cut_if(&x, &was), Ok(Hit::Done));
     assert_eq!(rt;
         seen.take().as_str(),
-        "stat d5/x,open d5/x,fstat d5/x,cut d5/x 0,sync d5/x,"
+        "stat d5/x,stat c5,stat d5,open d5/x,fstat d5/x,cut d5/x 0,sync d5/x,"
     );
     assert_eq!(rt; fs::read(&rt, "d5/x")?.as_slice(), b"".as_slice());
     let was = yard.look(&x)?.ok_or(Failed)?;
@@ -170,9 +173,40 @@ fn a_file_is_cut_and_removed_only_as_it_was(rt: HostRuntime) -> Result<(), Fail>
     assert_eq!(rt; yard.remove_if(&x, &was), Ok(Hit::Done));
     assert_eq!(rt;
         seen.take().as_str(),
-        "stat d5/x,unlink d5/x,open d5,sync d5,"
+        "stat d5/x,stat c5,stat d5,unlink d5/x,open d5,sync d5,"
     );
     assert_eq!(rt; yard.look(&x), Ok(None));
+    Ok(())
+}
+
+// However its path is spelled. A file of a folder in the own one is outside.
+#[test]
+fn an_own_file_is_neither_copied_nor_removed_nor_cut(rt: HostRuntime) -> Result<(), Fail> {
+    let alloc = rt.alloc();
+    fs::create_dir(&rt, "c11")?;
+    fs::create_dir(&rt, "c11/n")?;
+    fs::write(&rt, "c11/b", b"abc".as_slice())?;
+    fs::write(&rt, "c11/n/b", b"abc".as_slice())?;
+    let a = name(b"a")?;
+    let mut yard = RealFolder::new(rt, "c11")?;
+    for path in [
+        b"c11/b".as_slice(),
+        b"c11//b",
+        b"./c11/n/../b",
+        b"/proc/self/cwd/c11/b",
+    ] {
+        let path = bytes(alloc, path)?;
+        let was = yard.look(&path)?.ok_or(Failed)?;
+        assert_eq!(rt; yard.copy(&path, &a, 9), Ok(Copied::Absent));
+        assert_eq!(rt; yard.remove_if(&path, &was), Ok(Hit::Other));
+        assert_eq!(rt; yard.cut_if(&path, &was), Ok(Hit::Other));
+    }
+    assert_eq!(rt; fs::read(&rt, "c11/b")?.as_slice(), b"abc".as_slice());
+    assert_eq!(rt; yard.stat(&a), Ok(None));
+    let below = bytes(alloc, b"c11/n/b")?;
+    let was = yard.look(&below)?.ok_or(Failed)?;
+    assert_eq!(rt; yard.copy(&below, &a, 9), Ok(Copied::Copied(was)));
+    assert_eq!(rt; yard.remove_if(&below, &was), Ok(Hit::Done));
     Ok(())
 }
 

@@ -135,7 +135,10 @@ fn a_folder_that_comes_is_not_copied(rt: HostRuntime) -> Result<(), Fail> {
     let mut yard = RealFolder::new(Watched { rt, seen: &seen }, "r6")?;
     seen.race_at(2, Race::Folder("s6"));
     assert_eq!(rt; yard.copy(&x, &a, 3), Ok(Copied::Absent));
-    assert_eq!(rt; seen.take().as_str(), "stat s6,open s6,fstat s6,");
+    assert_eq!(rt;
+        seen.take().as_str(),
+        "stat s6,stat r6,stat .,open s6,fstat s6,"
+    );
     assert_eq!(rt; yard.stat(&a), Ok(Some(3)));
     assert_eq!(rt; yard.faults(), 0);
     Ok(())

@@ -6,6 +6,7 @@ ghost use Rattle.ftn_addr.specs.Files.{is_same};
 ghost use Rattle.ftn_addr.specs.Key.{key_of};
 ghost use Rattle.ledger_rec.specs.Acting.{acting_turn, is_acting};
 ghost use Rattle.ledger_rec.specs.Fold.{fold_step, is_among, is_received, is_refused, nothing_folded, without_hold, IsPrepared};
+ghost use Rattle.ledger_rec.specs.Indexed.{is_queued};
 ghost use Rattle.ledger_rec.specs.Items.{entry, receipt, refusal, part_mark, hold};
 ghost use Rattle.ledger_rec.specs.Record.{record_of};
 ghost use Rattle.ledger_rec.specs.Waiting.{is_waiting};
@@ -15,7 +16,7 @@ use crate::changes::make_room;
 use crate::index::Index;
 use crate::items::{Held, InboxItem, MarkItem, QueueItem, RefusedItem};
 use crate::lists::Lists;
-use crate::rules::{is_received, is_refused, is_same};
+use crate::rules::{is_queued, is_received, is_refused, is_same};
 use crate::steps::add;
 use crate::waiting::Need;
 use crate::{FoldFault, Record};
@@ -225,6 +226,13 @@ impl Folded {
         ensures { result ≡ is_refused (address from.now) (key_of key.now) self.now.state.refused }
     {
         is_refused(from, key, &self.lists)
+    }
+
+    /// Whether a file of that key was queued for that address. It takes no memory.
+    pub fn is_queued(&self, dest: &Addr, key: &FileKey) -> bool
+        ensures { result ≡ is_queued (address dest.now) (key_of key.now) self.now.state.queue }
+    {
+        is_queued(dest, key, &self.lists)
     }
 
     /// The files received, in the order of their records.

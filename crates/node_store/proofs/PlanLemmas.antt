@@ -1,12 +1,17 @@
 -- Files that are planned one behind another.
 use Rattle.std.proofs.Common.{◌≡◌, ℕ, zero, suc, ◌+◌, ◌<◌, ◌≤◌, List, [], ◌∷◌, ◌++◌, length, get_or, map, replicate, Option, Some, None, Bool, true, false, refl, sym, ◌∙◌, ap, subst, arith}
-use Rattle.std.specs.Prelude.{find, option_map, if◌then◌else◌}
-use Rattle.std.specs.List.{AllByRecursion}
+use Rattle.std.specs.Prelude.{find, option_map, if◌then◌else◌, ◌||◌}
+use Rattle.std.specs.List.{AllByRecursion, list_any}
 use Rattle.std.proofs.lemmas.List.{append-nil, append_assoc}
+use Rattle.std.proofs.lemmas.List.Folds.{list_any-append}
+use Rattle.file_index.specs.Filed.{Files}
+use Rattle.file_index.specs.declared.files.FileIndex.{FileIndex}
+use Rattle.ftn_addr.specs.Files.{is_same}
 use Rattle.ftn_addr.specs.declared.source_file.Action.{Action}
 use Rattle.ftn_addr.specs.declared.source_file.Action.TheVariants.{Leave, Delete, Cut}
 use Rattle.ledger_rec.specs.Batch.{queue_records}
 use Rattle.ledger_rec.specs.Fold.{new_entry}
+use Rattle.ledger_rec.specs.Indexed.{is_queued}
 use Rattle.ledger_rec.specs.Items.{Entry}
 use Rattle.ledger_file.specs.Text.{ArePayloads}
 use Rattle.ledger_rec.specs.Limits.{Fits, HasNumbers, IsNewFile}
@@ -18,7 +23,7 @@ use Rattle.node_model.proofs.Lists.{Each-append}
 use Rattle.node_model.specs.Stocks.{NewEntry}
 use Rattle.node_model.specs.StoreWords.{FitsQueue}
 use Rattle.node_store.specs.Logs.{action_number, flavour_number}
-use Rattle.node_store.specs.Planned.{new_text, queue_with, fresh_with}
+use Rattle.node_store.specs.Planned.{HasFiles, new_text, queue_with, fresh_with}
 use Rattle.node_store.proofs.Mirrors.{map-append}
 
 -- what is found of a view is the view of what passes there
@@ -36,14 +41,6 @@ mapped_twice g f None = refl
 mapped_twice g f (Some x) = refl
 
 -- in the front, else behind
-pub found_before : {A : Type 0} (p : A → Bool) (xs ys : List A) (x : A) → find p xs ≡ Some x → find p (xs ++ ys) ≡ Some x
-found_before p [] ys x is = absurd (let e : None ≡ Some x = is in cc)
-found_before p (z ∷ zs) ys x is = go (p z) is (found_before p zs ys x)
-  where
-    go : (b : Bool) → (if b then Some z else find p zs) ≡ Some x → (find p zs ≡ Some x → find p (zs ++ ys) ≡ Some x) → (if b then Some z else find p (zs ++ ys)) ≡ Some x
-    go true is rest = is
-    go false is rest = rest is
-
 pub found_behind : {A : Type 0} (p : A → Bool) (xs ys : List A) → find p xs ≡ None → find p (xs ++ ys) ≡ find p ys
 found_behind p [] ys is = refl
 found_behind p (z ∷ zs) ys is = go (p z) is (found_behind p zs ys)
@@ -52,19 +49,38 @@ found_behind p (z ∷ zs) ys is = go (p z) is (found_behind p zs ys)
     go true is rest = absurd (let e : Some z ≡ None = is in cc)
     go false is rest = rest is
 
-pub number_of_both : {A : Type 0} (p : A → Bool) (number : A → ℕ) (xs ys : List A) (n : ℕ) → Some n ≡ option_map number (find p xs) → Some n ≡ option_map number (find p (xs ++ ys))
-number_of_both p number xs ys n is = go (find p xs) refl is
-  where
-    go : (o : Option _) → find p xs ≡ o → Some n ≡ option_map number o → Some n ≡ option_map number (find p (xs ++ ys))
-    go None was is = absurd (let e : Some n ≡ None = is in cc)
-    go (Some x) was is = is ∙ ap (option_map number) (sym (found_before p xs ys x was))
+-- whether a list has one that passes tells where it is found
 
-pub number_of_last : {A : Type 0} (p : A → Bool) (number : A → ℕ) (xs ys : List A) → None ≡ option_map number (find p xs) → option_map number (find p ys) ≡ option_map number (find p (xs ++ ys))
-number_of_last p number xs ys is = go (find p xs) refl is
+pub found_in_front : {A : Type 0} (p : A → Bool) (xs ys : List A) → list_any p xs ≡ true → find p xs ≡ find p (xs ++ ys)
+found_in_front p [] ys any = absurd (let e : false ≡ true = any in cc)
+found_in_front p (z ∷ zs) ys any = go (p z) any (found_in_front p zs ys)
   where
-    go : (o : Option _) → find p xs ≡ o → None ≡ option_map number o → option_map number (find p ys) ≡ option_map number (find p (xs ++ ys))
-    go None was is = ap (option_map number) (sym (found_behind p xs ys was))
-    go (Some x) was is = absurd (let e : None ≡ Some (number x) = is in cc)
+    go : (b : Bool) → (b || list_any p zs) ≡ true → (list_any p zs ≡ true → find p zs ≡ find p (zs ++ ys)) → (if b then Some z else find p zs) ≡ (if b then Some z else find p (zs ++ ys))
+    go true any rest = refl
+    go false any rest = rest any
+
+pub not_found : {A : Type 0} (p : A → Bool) (xs : List A) → list_any p xs ≡ false → None ≡ find p xs
+not_found p [] any = refl
+not_found p (z ∷ zs) any = go (p z) any (not_found p zs)
+  where
+    go : (b : Bool) → (b || list_any p zs) ≡ false → (list_any p zs ≡ false → None ≡ find p zs) → None ≡ (if b then Some z else find p zs)
+    go true any rest = absurd (let e : true ≡ false = any in cc)
+    go false any rest = rest any
+
+-- one file more in the index
+
+or_false : (b : Bool) → b ≡ (b || false)
+or_false true = refl
+or_false false = refl
+
+pub one_more : (index : FileIndex) (files : List NewFileText) (f : NewEntry) → Files index (λ dest key. is_queued dest key (map new_entry files) || is_same dest key f.dest f.key) → HasFiles index (files ++ new_text f ∷ [])
+one_more index files f noted whole dest key =
+    let e = new_entry (new_text f) in
+    let p = λ (x : Entry). is_same dest key x.dest x.key in
+    noted whole dest key
+    ∙ ap (λ (b : Bool). list_any p (map new_entry files) || b) (or_false (p e))
+    ∙ sym (list_any-append p (map new_entry files) (e ∷ []))
+    ∙ ap (list_any p) (sym (map-append new_entry files (new_text f ∷ [])))
 
 -- what holds of each holds of that at a place
 pub all_at : {A : Type 0} (P : A → Type 0) (xs : List A) (i : ℕ) (x : A) → AllByRecursion P xs → i < length xs → x ≡ get_or xs i x → P x

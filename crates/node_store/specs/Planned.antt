@@ -1,13 +1,16 @@
 -- Files that are queued together: what their records say, and where each stands (own).
-use Rattle.std.specs.Prelude.{◌≡◌, ◌⊎◌, ℕ, List, [], ◌∷◌, ◌++◌, Option, Some, None, find, length, replicate}
+use Rattle.std.specs.Prelude.{◌≡◌, ◌⊎◌, ℕ, List, [], ◌∷◌, ◌++◌, Option, Some, None, find, length, map, replicate}
 use Rattle.std.specs.List.{AllByRecursion}
 use Rattle.disk_model.specs.World.{World}
 use Rattle.disk_model.specs.Changes.{Only, Stands}
+use Rattle.file_index.specs.Filed.{Files}
+use Rattle.file_index.specs.declared.files.FileIndex.{FileIndex}
 use Rattle.ftn_addr.specs.Address.{Address}
 use Rattle.ftn_addr.specs.Files.{is_same}
 use Rattle.ftn_addr.specs.Key.{Key}
 use Rattle.ledger_file.specs.Ledger.{ledger_name, LedgerIs}
 use Rattle.ledger_rec.specs.Fold.{new_entry, fold_all}
+use Rattle.ledger_rec.specs.Indexed.{is_queued}
 use Rattle.ledger_rec.specs.Items.{Entry}
 use Rattle.ledger_rec.specs.Record.{NewFileText, RecordText}
 use Rattle.node_model.specs.SendRows.{Slot, New, Again}
@@ -50,6 +53,10 @@ abbrev pub fresh_in : List NewEntry → List Entry → List NewFileText
 fresh_in [] queue = []
 fresh_in (f ∷ files) queue =
     fresh_with f (queued_in f.dest f.key queue) ++ fresh_in files (queue_with f (queued_in f.dest f.key queue) queue)
+
+-- an index has exactly the files that are new
+abbrev pub HasFiles : FileIndex → List NewFileText → Type 0
+HasFiles index files = Files index (λ dest key. is_queued dest key (map new_entry files))
 
 -- Files that are made durable before their records.
 

@@ -13,10 +13,11 @@ ghost use Rattle.ledger_rec.specs.Spelling.{AreRecords, spelling};
 ghost use Rattle.node_model.specs.Lists.{Each};
 ghost use Rattle.node_model.specs.StoreWords.{FitsQueue, entry_of, slot_of};
 ghost use Rattle.node_store.specs.Logs.{action_number, flavour_number};
-ghost use Rattle.node_store.specs.Planned.{fresh_in, fresh_with, new_text, queue_with, queued_in, slot_with, slots_in};
+ghost use Rattle.node_store.specs.Planned.{HasFiles, fresh_in, fresh_with, new_text, queue_with, queued_in, slot_with, slots_in};
 
+use file_index::FileIndex;
 use ftn_addr::{Addr, Bytes, FileKey, NoMemory, is_same_address, is_same_key};
-use ledger_rec::{NewFileRec, QueueItem, Record, write_record};
+use ledger_rec::{Folded, NewFileRec, QueueItem, Record, write_record};
 use node_model::{Action, Flavour, NewFile, Slot};
 use std::alloc::Global;
 
@@ -106,26 +107,44 @@ fn number_fresh(file: &NewFile, fresh: &[NewFileRec]) -> Option<u32>
     None
 }
 
-// The number under which an address has that key already.
-fn number_in(file: &NewFile, queue: &[QueueItem], fresh: &[NewFileRec]) -> Option<u32>
-    ensures { result ≡ option_map (λ (e : Entry). e.number) (queued_in (address file.now.dest) (key_of file.now.key) (map entry queue.now ++ map new_entry (map new_file fresh.now))) }
+// The number under which an address has that key already. A list is walked where it has, or where the index of the files that are
+// new so far had no memory.
+fn number_in(
+    file: &NewFile,
+    folded: &Folded,
+    fresh: &[NewFileRec],
+    index: &FileIndex,
+) -> Option<u32>
+    requires { HasFiles index.now (map new_file fresh.now) }
+    ensures { result ≡ option_map (λ (e : Entry). e.number) (queued_in (address file.now.dest) (key_of file.now.key) (folded.now.state.queue ++ map new_entry (map new_file fresh.now))) }
 {
-    match number_queued(file, queue) {
-        Some(number) => Some(number),
-        None => number_fresh(file, fresh),
+    if folded.is_queued(&file.dest, &file.key) {
+        return number_queued(file, folded.queue());
+    }
+    match index.find(&file.dest, &file.key) {
+        Some(false) => None,
+        Some(true) | None => number_fresh(file, fresh),
     }
 }
 
 impl Plan {
-    // Plans one file more. Where memory is wanted, the plan is of no use.
-    fn add(&mut self, alloc: Global, file: &NewFile, queue: &[QueueItem]) -> Result<(), NoMemory>
-        requires { FitsQueue (entry_of file.now) }
-        ensures slots { OnOk result (map slot_of self.new.slots.items ≡ map slot_of self.old.slots.items ++ slot_with (entry_of file.now) (queued_in (address file.now.dest) (key_of file.now.key) (map entry queue.now ++ map new_entry (map new_file self.old.fresh.items))) ∷ []) }
-        ensures fresh { OnOk result (map new_file self.new.fresh.items ≡ map new_file self.old.fresh.items ++ fresh_with (entry_of file.now) (queued_in (address file.now.dest) (key_of file.now.key) (map entry queue.now ++ map new_entry (map new_file self.old.fresh.items)))) }
-        ensures payloads { OnOk result (lists self.new.payloads.items ≡ lists self.old.payloads.items ++ map spelling (queue_records (fresh_with (entry_of file.now) (queued_in (address file.now.dest) (key_of file.now.key) (map entry queue.now ++ map new_entry (map new_file self.old.fresh.items)))))) }
-        ensures numbers { OnOk result (AreRecords (queue_records (fresh_with (entry_of file.now) (queued_in (address file.now.dest) (key_of file.now.key) (map entry queue.now ++ map new_entry (map new_file self.old.fresh.items)))))) }
+    // Plans one file more, and notes it in the index of the files that are new. Where memory is wanted, the plan is of no use.
+    fn add(
+        &mut self,
+        alloc: Global,
+        file: &NewFile,
+        folded: &Folded,
+        index: &mut FileIndex,
+    ) -> Result<(), NoMemory>
+        requires fits { FitsQueue (entry_of file.now) }
+        requires index { HasFiles index.old (map new_file self.old.fresh.items) }
+        ensures index { OnOk result (HasFiles index.new (map new_file self.new.fresh.items)) }
+        ensures slots { OnOk result (map slot_of self.new.slots.items ≡ map slot_of self.old.slots.items ++ slot_with (entry_of file.now) (queued_in (address file.now.dest) (key_of file.now.key) (folded.now.state.queue ++ map new_entry (map new_file self.old.fresh.items))) ∷ []) }
+        ensures fresh { OnOk result (map new_file self.new.fresh.items ≡ map new_file self.old.fresh.items ++ fresh_with (entry_of file.now) (queued_in (address file.now.dest) (key_of file.now.key) (folded.now.state.queue ++ map new_entry (map new_file self.old.fresh.items)))) }
+        ensures payloads { OnOk result (lists self.new.payloads.items ≡ lists self.old.payloads.items ++ map spelling (queue_records (fresh_with (entry_of file.now) (queued_in (address file.now.dest) (key_of file.now.key) (folded.now.state.queue ++ map new_entry (map new_file self.old.fresh.items)))))) }
+        ensures numbers { OnOk result (AreRecords (queue_records (fresh_with (entry_of file.now) (queued_in (address file.now.dest) (key_of file.now.key) (folded.now.state.queue ++ map new_entry (map new_file self.old.fresh.items)))))) }
     {
-        if let Some(number) = number_in(file, queue, self.fresh.as_slice()) {
+        if let Some(number) = number_in(file, folded, self.fresh.as_slice(), index) {
             self.slots.push(Slot::Again(number))?;
             return Ok(());
         }
@@ -133,16 +152,17 @@ impl Plan {
         let rec = Record::Queue(record_for(alloc, file)?);
         write_payload(alloc, &rec, &mut self.payloads)?;
         self.fresh.push(record_for(alloc, file)?)?;
+        index.note(&file.dest, &file.key);
         self.slots.push(Slot::New(file.number))?;
         Ok(())
     }
 }
 
 // How these files are queued, one behind another.
-fn plan_files(alloc: Global, files: &[NewFile], queue: &[QueueItem]) -> Result<Plan, NoMemory>
+fn plan_files(alloc: Global, files: &[NewFile], folded: &Folded) -> Result<Plan, NoMemory>
     requires { Each FitsQueue (map entry_of files.now) }
-    ensures slots { IfOk result (λ plan. map slot_of plan.slots.items ≡ slots_in (map entry_of files.now) (map entry queue.now)) }
-    ensures fresh { IfOk result (λ plan. map new_file plan.fresh.items ≡ fresh_in (map entry_of files.now) (map entry queue.now)) }
+    ensures slots { IfOk result (λ plan. map slot_of plan.slots.items ≡ slots_in (map entry_of files.now) (folded.now.state.queue)) }
+    ensures fresh { IfOk result (λ plan. map new_file plan.fresh.items ≡ fresh_in (map entry_of files.now) (folded.now.state.queue)) }
     ensures payloads { IfOk result (λ plan. lists plan.payloads.items ≡ map spelling (queue_records (map new_file plan.fresh.items))) }
     ensures numbers { IfOk result (λ plan. AreRecords (queue_records (map new_file plan.fresh.items))) }
 {
@@ -151,8 +171,9 @@ fn plan_files(alloc: Global, files: &[NewFile], queue: &[QueueItem]) -> Result<P
         fresh: Vec::new(alloc),
         payloads: Vec::new(alloc),
     };
+    let mut index = FileIndex::new(alloc);
     for file in files {
-        plan.add(alloc, file, queue)?;
+        plan.add(alloc, file, folded, &mut index)?;
     }
     Ok(plan)
 }
@@ -187,15 +208,15 @@ pub(crate) fn plan_batch(
     take: Option<u32>,
     answered: Option<u32>,
     files: &[NewFile],
-    queue: &[QueueItem],
+    folded: &Folded,
 ) -> Result<Plan, NoMemory>
     requires { Each FitsQueue (map entry_of files.now) }
-    ensures slots { IfOk result (λ plan. map slot_of plan.slots.items ≡ slots_in (map entry_of files.now) (map entry queue.now)) }
-    ensures fresh { IfOk result (λ plan. map new_file plan.fresh.items ≡ fresh_in (map entry_of files.now) (map entry queue.now)) }
+    ensures slots { IfOk result (λ plan. map slot_of plan.slots.items ≡ slots_in (map entry_of files.now) (folded.now.state.queue)) }
+    ensures fresh { IfOk result (λ plan. map new_file plan.fresh.items ≡ fresh_in (map entry_of files.now) (folded.now.state.queue)) }
     ensures payloads { IfOk result (λ plan. lists plan.payloads.items ≡ map spelling (queue_records (map new_file plan.fresh.items) ++ taken_records take ++ answered_records answered)) }
     ensures numbers { IfOk result (λ plan. AreRecords (queue_records (map new_file plan.fresh.items) ++ taken_records take ++ answered_records answered)) }
 {
-    let mut plan = plan_files(alloc, files, queue)?;
+    let mut plan = plan_files(alloc, files, folded)?;
     write_take(alloc, take, &mut plan.payloads)?;
     write_answer(alloc, answered, &mut plan.payloads)?;
     Ok(plan)

@@ -59,8 +59,7 @@ impl<D: Disk> NodeStore<D> {
     {
         // With the records of a batch the fold goes on, one step after another.
         more_records_fold_on();
-        let queue = self.books.folded().queue();
-        let Ok(plan) = plan_batch(alloc, take, answered, files, queue) else {
+        let Ok(plan) = plan_batch(alloc, take, answered, files, self.books.folded()) else {
             return Err(StoreFault::NoMemory);
         };
         let Plan {

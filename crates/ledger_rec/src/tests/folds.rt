@@ -24,6 +24,9 @@ fn a_queued_file_is_acted_on_and_done_once(rt: HostRuntime) -> Result<(), Fail> 
     assert_eq!(rt; first_other(alloc, &mut folded, &rows)?, None);
     assert_eq!(rt; folded.queue().len(), 1);
     assert!(rt; folded.queue().iter().all(|item| item.acted && !item.live));
+    // What is done was queued all the same.
+    assert!(rt; folded.is_queued(&peer(alloc)?, &key(alloc, b"a.txt")?));
+    assert!(rt; !folded.is_queued(&peer(alloc)?, &key(alloc, b"b.txt")?));
     Ok(())
 }
 

@@ -1,17 +1,19 @@
 //! Outside folders. A path under which no file can stand, as one below a file, one that isn't UTF-8 or one
 //! with a name of over 255 bytes, has no file; only `mark` and `give` fail there.
+//!
+//! A file of the own folder, however its path is spelled, is no outside file that could be copied, removed or cut.
 use super::copying::copy_most;
 use super::own::Folder;
 use super::paths::{folder_of, is_entry_name, text, whole_text};
 use super::placed::Placed;
 use super::system::{
-    at_path, cut_to, file_at, found, link, make_folders, make_new, open_file, open_plain,
-    plain_len, remove, remove_any, rename, stat_of, sync_file, sync_folder, write_all,
+    at_path, cut_to, file_at, folder_at, found, is_same, link, make_folders, make_new, open_file,
+    open_plain, plain_len, remove, remove_any, rename, stat_of, sync_file, sync_folder, write_all,
 };
 use crate::error::{Answer, ListError, SystemCall, SystemError, refused};
 use disk_model::{Copied, Giving, Hit, Marking, Moved, Name, OutStat};
 use ftn_addr::Bytes;
-use std::fs::{OpenOptions, ReadDir};
+use std::fs::{Metadata, OpenOptions, ReadDir};
 use std::rt::Files;
 use std::{fs, io};
 
@@ -51,7 +53,7 @@ impl<R: Files + Drop> Folder<R> {
         let Some(path) = text(path.as_slice()) else {
             return Ok(Copied::Absent);
         };
-        if file_at(&self.files, path)?.is_none() {
+        if self.source_at(path)?.is_none() {
             return Ok(Copied::Absent);
         }
         let mut how = OpenOptions::new();
@@ -86,7 +88,7 @@ impl<R: Files + Drop> Folder<R> {
         let Some(path) = text(path.as_slice()) else {
             return Ok(Hit::Other);
         };
-        match file_at(&self.files, path)? {
+        match self.source_at(path)? {
             Some(metadata) if stat_of(&metadata) == *was => self.remove_out(path),
             _ => Ok(Hit::Other),
         }
@@ -96,7 +98,7 @@ impl<R: Files + Drop> Folder<R> {
         let Some(path) = text(path.as_slice()) else {
             return Ok(Hit::Other);
         };
-        match file_at(&self.files, path)? {
+        match self.source_at(path)? {
             Some(metadata) if stat_of(&metadata) == *was => {}
             _ => return Ok(Hit::Other),
         }
@@ -174,6 +176,24 @@ impl<R: Files + Drop> Folder<R> {
         sync_folder(&self.files, folder)?;
         self.sync_names()?;
         Ok(Giving::Given)
+    }
+
+    // The regular file to which a path leads that doesn't stand in the own folder.
+    fn source_at(&self, path: &str) -> Answer<Option<Metadata>> {
+        match file_at(&self.files, path)? {
+            Some(metadata) if !self.is_own(path)? => Ok(Some(metadata)),
+            _ => Ok(None),
+        }
+    }
+
+    // Whether a path stands in the own folder.
+    fn is_own(&self, path: &str) -> Answer<bool> {
+        let own = folder_at(&self.files, self.paths.folder())?;
+        let above = folder_at(&self.files, folder_of(path))?;
+        match (own, above) {
+            (Some(own), Some(above)) => Ok(is_same(&own, &above)),
+            _ => Ok(false),
+        }
     }
 
     // Removes a file that was there just now, and makes that durable.

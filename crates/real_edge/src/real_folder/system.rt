@@ -70,10 +70,15 @@ pub fn open_plain<R: Files>(files: &R, path: &str) -> Answer<Option<R::File>> {
         return Ok(None);
     };
     let opened = status_of(&file)?;
-    if named.dev() != opened.dev() || named.ino() != opened.ino() {
+    if !is_same(&named, &opened) {
         return Ok(None);
     }
     Ok(Some(file))
+}
+
+/// Whether both are of one file or folder.
+pub fn is_same(one: &Metadata, other: &Metadata) -> bool {
+    one.dev() == other.dev() && one.ino() == other.ino()
 }
 
 /// Opens the regular file to which a path leads, and says what it is.
@@ -177,9 +182,15 @@ fn make_folder<R: Files>(files: &R, path: &str) -> Answer<()> {
 }
 
 fn is_folder<R: Files>(files: &R, path: &str) -> Answer<bool> {
+    Ok(folder_at(files, path)?.is_some())
+}
+
+/// The folder to which a path leads. The empty path is the folder that the program runs in.
+pub fn folder_at<R: Files>(files: &R, path: &str) -> Answer<Option<Metadata>> {
+    let path = if path.is_empty() { "." } else { path };
     match found(SystemCall::Stat, fs::metadata(files, path))? {
-        Some(metadata) => Ok(metadata.is_dir()),
-        None => Ok(false),
+        Some(metadata) if metadata.is_dir() => Ok(Some(metadata)),
+        _ => Ok(None),
     }
 }
 

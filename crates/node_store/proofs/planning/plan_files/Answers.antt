@@ -2,7 +2,7 @@ use Rattle.std.proofs.Common.{◌≡◌, ◌+◌, List, ℕ, [], ◌∷◌, ◌+
 use Rattle.std.proofs.lemmas.List.{append-nil, append_assoc, drop_all, drop_more}
 use Rattle.ledger_rec.specs.Batch.{queue_records}
 use Rattle.ledger_rec.specs.Fold.{new_entry}
-use Rattle.ledger_rec.specs.Items.{Entry, entry}
+use Rattle.ledger_rec.specs.Items.{Entry}
 use Rattle.ledger_rec.specs.Record.{NewFileText, new_file}
 use Rattle.ledger_rec.specs.Spelling.{AreRecords, spelling}
 use Rattle.node_model.specs.declared.store.NewFile.{NewFile}
@@ -13,15 +13,15 @@ use Rattle.node_store.proofs.PlanLemmas.{all_at, next_queue, spelled_both, recor
 use Rattle.node_store.proofs.Syncing.{all_mapped}
 use Rattle.node_store.proofs.planning.plan_files.Goals as goal
 
-pub add-requires : goal.add-requires
-add-requires c =
+pub add-requires-clause-fits : goal.add-requires-clause-fits
+add-requires-clause-fits c =
     all_at (λ (f : NewFile). FitsQueue (entry_of f)) c.args.files.now c.loop-file.file-index c.file-item.result (all_mapped FitsQueue entry_of c.args.files.now c.requires) c.loop-file-test.true c.file-item.is
 
 pub loop-file-init : goal.loop-file-init
 loop-file-init c =
     let files = map entry_of c.args.files.now in
-    let q = map entry c.args.queue.now in
-    rw (c.new.ensures.items, c.new-2.ensures.items, c.new-3.ensures.items) (ap (slots_in files) (append-nil q), ap (fresh_in files) (append-nil q), refl, tt)
+    let q = c.args.folded.now.state.queue in
+    rw (c.new.ensures.items, c.new-2.ensures.items, c.new-3.ensures.items) (ap (slots_in files) (append-nil q), ap (fresh_in files) (append-nil q), refl, tt, c.new-index.ensures)
 
 pub loop-file-preserved : goal.loop-file-preserved
 loop-file-preserved c =
@@ -30,7 +30,7 @@ loop-file-preserved c =
     let x = c.file-item.result in
     let f = entry_of x in
     let inv = c.loop-file.invariant in
-    let q = map entry c.args.queue.now in
+    let q = c.args.folded.now.state.queue in
     let fresh = map new_file c.loop-file.plan.fresh.items in
     let now = q ++ map new_entry fresh in
     let o = queued_in f.dest f.key now in
@@ -50,16 +50,17 @@ loop-file-preserved c =
           ∙ ap (λ l. fresh ++ fresh_in l now) (sym left) ∙ inv.1,
       c.in_ok-add.ensures.payloads ∙ ap (λ (l : List (List ℕ)). l ++ map spelling (queue_records (fresh_with f o))) inv.2 ∙ sym (spelled_both fresh (fresh_with f o)) ∙ ap (λ (l : List NewFileText). map spelling (queue_records l)) (sym more),
       subst (λ (l : List NewFileText). AreRecords (queue_records l)) (sym more) (records_both fresh (fresh_with f o) inv.3 c.in_ok-add.ensures.numbers),
+      c.in_ok-add.ensures.index,
     )
 
 pub returns-clause-slots : goal.returns-clause-slots
 returns-clause-slots c =
-    let now = map entry c.args.queue.now ++ map new_entry (map new_file c.loop-file.plan.fresh.items) in
+    let now = c.args.folded.now.state.queue ++ map new_entry (map new_file c.loop-file.plan.fresh.items) in
     let slots = map slot_of c.loop-file.plan.slots.items in
     sym (append-nil slots) ∙ ap (λ (l : List NewFile). slots ++ slots_in (map entry_of l) now) (sym (drop_all c.loop-file.file-index c.args.files.now (omega arith))) ∙ c.loop-file.invariant.0
 
 pub returns-clause-fresh : goal.returns-clause-fresh
 returns-clause-fresh c =
     let fresh = map new_file c.loop-file.plan.fresh.items in
-    let now = map entry c.args.queue.now ++ map new_entry fresh in
+    let now = c.args.folded.now.state.queue ++ map new_entry fresh in
     sym (append-nil fresh) ∙ ap (λ (l : List NewFile). fresh ++ fresh_in (map entry_of l) now) (sym (drop_all c.loop-file.file-index c.args.files.now (omega arith))) ∙ c.loop-file.invariant.1

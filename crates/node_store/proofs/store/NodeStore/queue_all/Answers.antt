@@ -9,7 +9,6 @@ use Rattle.ledger_file.specs.Text.{lists}
 use Rattle.ledger_file.specs.declared.fault.AppendFault.TheVariants.{Disk as DiskFault, Full as FullFault, NoMemory as MemoryFault}
 use Rattle.ledger_rec.specs.Batch.{queue_records, taken_records, answered_records}
 use Rattle.ledger_rec.specs.Fold.{fold_all}
-use Rattle.ledger_rec.specs.Items.{entry}
 use Rattle.ledger_rec.specs.Record.{NewFileText, RecordText, new_file}
 use Rattle.ledger_rec.specs.Spelling.{AreRecords, spelling}
 use Rattle.node_model.specs.declared.store.StoreFault.TheVariants.{Disk, Full, NoMemory}
@@ -62,7 +61,7 @@ append_batch-requires-clause-follows g c =
     let is_new : IsNewBatch take request fs (state_of g.D.Disk.tells (g.D.Disk.content s.disk) (g.D.Disk.fault_count s.disk) m) = subst (λ (x : Holding g.row.D.Denot). IsNewBatch take request fs (stand_of g.D.Disk.tells g.D.Disk.content g.D.Disk.fault_count g.D.Disk.moment g.D.Disk.images x).state) (sym c.self.view_is) c.requires.batch in
     let ask = asked g.D.Disk.tells (g.D.Disk.content s.disk) (g.D.Disk.fault_count s.disk) m take request fs c.self.invariant.0.memory is_new in
     let q = s.books.folding.state.queue in
-    let queue : map entry c.queue-queue.result.now ≡ q = c.queue-queue.ensures ∙ ap (λ f. f.state.queue) c.folded.ensures in
+    let queue : c.folded.result.now.state.queue ≡ q = ap (λ f. f.state.queue) c.folded.ensures in
     let files = map new_file c.in-Ok.plan.fresh.items in
     let fresh : files ≡ fresh_in fs q = c.in-Ok.ensures.fresh ∙ ap (fresh_in fs) queue in
     let rs = batch_of take request fs q in
@@ -80,7 +79,7 @@ append_batch-requires-clause-stand g c = λ w read.
     let is_new : IsNewBatch take request fs (state_of g.D.Disk.tells (g.D.Disk.content s.disk) (g.D.Disk.fault_count s.disk) m) = subst (λ (x : Holding g.row.D.Denot). IsNewBatch take request fs (stand_of g.D.Disk.tells g.D.Disk.content g.D.Disk.fault_count g.D.Disk.moment g.D.Disk.images x).state) (sym c.self.view_is) c.requires.batch in
     let ask = asked g.D.Disk.tells (g.D.Disk.content s.disk) (g.D.Disk.fault_count s.disk) m take request fs c.self.invariant.0.memory is_new in
     let q = s.books.folding.state.queue in
-    let queue : map entry c.queue-queue.result.now ≡ q = c.queue-queue.ensures ∙ ap (λ f. f.state.queue) c.folded.ensures in
+    let queue : c.folded.result.now.state.queue ≡ q = ap (λ f. f.state.queue) c.folded.ensures in
     let files = map new_file c.in-Ok.plan.fresh.items in
     let fresh : files ≡ fresh_in fs q = c.in-Ok.ensures.fresh ∙ ap (fresh_in fs) queue in
     let rs = batch_of take request fs q in
@@ -100,7 +99,7 @@ invariant_of-self g c =
     let is_new : IsNewBatch take request fs (state_of g.D.Disk.tells (g.D.Disk.content s.disk) (g.D.Disk.fault_count s.disk) m) = subst (λ (x : Holding g.row.D.Denot). IsNewBatch take request fs (stand_of g.D.Disk.tells g.D.Disk.content g.D.Disk.fault_count g.D.Disk.moment g.D.Disk.images x).state) (sym c.self.view_is) c.requires.batch in
     let ask = asked g.D.Disk.tells (g.D.Disk.content s.disk) (g.D.Disk.fault_count s.disk) m take request fs c.self.invariant.0.memory is_new in
     let q = s.books.folding.state.queue in
-    let queue : map entry c.queue-queue.result.now ≡ q = c.queue-queue.ensures ∙ ap (λ f. f.state.queue) c.folded.ensures in
+    let queue : c.folded.result.now.state.queue ≡ q = ap (λ f. f.state.queue) c.folded.ensures in
     let files = map new_file c.in-Ok.plan.fresh.items in
     let fresh : files ≡ fresh_in fs q = c.in-Ok.ensures.fresh ∙ ap (fresh_in fs) queue in
     let rs = batch_of take request fs q in
@@ -137,7 +136,7 @@ returns-in-Ok-append_batch-clause-kept g c =
     let is_new : IsNewBatch take request fs (state_of g.D.Disk.tells (g.D.Disk.content s.disk) (g.D.Disk.fault_count s.disk) m) = subst (λ (x : Holding g.row.D.Denot). IsNewBatch take request fs (stand_of g.D.Disk.tells g.D.Disk.content g.D.Disk.fault_count g.D.Disk.moment g.D.Disk.images x).state) (sym c.self.view_is) c.requires.batch in
     let ask = asked g.D.Disk.tells (g.D.Disk.content s.disk) (g.D.Disk.fault_count s.disk) m take request fs c.self.invariant.0.memory is_new in
     let q = s.books.folding.state.queue in
-    let queue : map entry c.queue-queue.result.now ≡ q = c.queue-queue.ensures ∙ ap (λ f. f.state.queue) c.folded.ensures in
+    let queue : c.folded.result.now.state.queue ≡ q = ap (λ f. f.state.queue) c.folded.ensures in
     let files = map new_file c.in-Ok.plan.fresh.items in
     let fresh : files ≡ fresh_in fs q = c.in-Ok.ensures.fresh ∙ ap (fresh_in fs) queue in
     let rs = batch_of take request fs q in
@@ -226,7 +225,7 @@ returns-in-Err-Full-clause-kept g c =
     let is_new : IsNewBatch take request fs (state_of g.D.Disk.tells (g.D.Disk.content s.disk) (g.D.Disk.fault_count s.disk) m) = subst (λ (x : Holding g.row.D.Denot). IsNewBatch take request fs (stand_of g.D.Disk.tells g.D.Disk.content g.D.Disk.fault_count g.D.Disk.moment g.D.Disk.images x).state) (sym c.self.view_is) c.requires.batch in
     let ask = asked g.D.Disk.tells (g.D.Disk.content s.disk) (g.D.Disk.fault_count s.disk) m take request fs c.self.invariant.0.memory is_new in
     let q = s.books.folding.state.queue in
-    let queue : map entry c.queue-queue.result.now ≡ q = c.queue-queue.ensures ∙ ap (λ f. f.state.queue) c.folded.ensures in
+    let queue : c.folded.result.now.state.queue ≡ q = ap (λ f. f.state.queue) c.folded.ensures in
     let files = map new_file c.in-Ok.plan.fresh.items in
     let fresh : files ≡ fresh_in fs q = c.in-Ok.ensures.fresh ∙ ap (fresh_in fs) queue in
     let rs = batch_of take request fs q in
@@ -276,7 +275,7 @@ returns-clause-kept g c =
     let is_new : IsNewBatch take request fs (state_of g.D.Disk.tells (g.D.Disk.content s.disk) (g.D.Disk.fault_count s.disk) m) = subst (λ (x : Holding g.row.D.Denot). IsNewBatch take request fs (stand_of g.D.Disk.tells g.D.Disk.content g.D.Disk.fault_count g.D.Disk.moment g.D.Disk.images x).state) (sym c.self.view_is) c.requires.batch in
     let ask = asked g.D.Disk.tells (g.D.Disk.content s.disk) (g.D.Disk.fault_count s.disk) m take request fs c.self.invariant.0.memory is_new in
     let q = s.books.folding.state.queue in
-    let queue : map entry c.queue-queue.result.now ≡ q = c.queue-queue.ensures ∙ ap (λ f. f.state.queue) c.folded.ensures in
+    let queue : c.folded.result.now.state.queue ≡ q = ap (λ f. f.state.queue) c.folded.ensures in
     let files = map new_file c.in-Ok.plan.fresh.items in
     let fresh : files ≡ fresh_in fs q = c.in-Ok.ensures.fresh ∙ ap (fresh_in fs) queue in
     let rs = batch_of take request fs q in
