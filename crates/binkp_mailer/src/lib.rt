@@ -5,8 +5,8 @@
 //! line, a sink, the moment and a challenge, and answers the exit status. It calls [`run_line`], which reads the settings of the
 //! disk ([`read_settings`]) and the words ([`read_words`]), opens its store, and holds one session over the line and that store,
 //! which begins with the take-in of its peer's outbound ([`hold_with_outbound`]), gives what is received to the inbound folders
-//! ([`give_behind`]), and prints what came of it ([`print`]). Their contracts say what all of it does. [`run_over_store`] makes the call over a store that is there. That the node below
-//! is one of the two that `world_pair` speaks of is the law [`one_node`].
+//! ([`give_behind`]), and prints what came of it ([`print`]). Their contracts say what all of it does. [`run_over_store`] makes the
+//! call over a store that is there. That the node below is one of the two that `world_pair` speaks of is the law [`one_node`].
 //!
 //! ```
 //! let (status, disk) = run_line(alloc, words, disk, &mut line, now, challenge, &mut out);

@@ -1,9 +1,10 @@
 pub mod ActRows
+pub mod Alone
+pub mod DeskOpening
 pub mod FullCalls
 pub mod Joining
 pub mod OneRow
-pub mod Opening
-pub mod Openings
+pub mod OpeningRows
 pub mod QueueRows
 pub mod QueuedFiles
 pub mod QuietRows
@@ -13,5 +14,4 @@ pub mod SeatTurns
 pub mod StageRows
 pub mod Steps
 pub mod StoreCalls
-pub mod Alone
 pub mod Taking

@@ -19,7 +19,7 @@
 //! ```
 //!
 //! Its files, from the bottom: `own` says what the own name of a take spells, `left` finds the next take of an address,
-//! `reading` reads a take whole, and `taking_store` has the store.
+//! `reading` reads a take whole, `taking_store` has the store as a take-in asks for it, and `store_calls` as a node does.
 //!
 //! Left out: taking in itself.
 #![tactic(auto)]

@@ -1,6 +1,6 @@
 use Rattle.std.proofs.Common.{map}
 use Rattle.ftn_addr.specs.Address.{address}
-use Rattle.outbound_desk.proofs.Openings.{opens_behind, refuses_behind}
+use Rattle.outbound_desk.proofs.DeskOpening.{opens_behind, refuses_behind}
 use Rattle.outbound_desk.proofs.desk.LineDeskTakingStoreDesk.begin.Goals as goal
 
 pub returns-in-Ok-clause-made : goal.returns-in-Ok-clause-made

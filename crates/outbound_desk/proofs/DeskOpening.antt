@@ -10,7 +10,7 @@ use Rattle.node_model.specs.Stores.{StoreStand}
 use Rattle.hub_core.specs.Hubs.{HubState, hub_stand}
 use Rattle.outbound_desk.specs.Lines.{Refuses}
 use Rattle.outbound_desk.specs.TakenIn.{TakenIn}
-use Rattle.outbound_desk.proofs.Opening.{begins_behind, refused_behind}
+use Rattle.outbound_desk.proofs.OpeningRows.{begins_behind, refused_behind}
 
 module _ (role : Role) (peers : List Address) (secure : Bool) (moment : ℕ) where
   -- behind rows that were all made, where the take-in left hub and seat as they were
