@@ -165,11 +165,11 @@ fn each_call_of_the_system_that_fails_is_told(rt: HostRuntime) -> Result<(), Fai
         (9, 1),
         (10, 3),
         (11, 10),
-        (12, 12),
+        (12, 14),
         (13, 9),
         (14, 19),
-        (15, 5),
-        (16, 6),
+        (15, 7),
+        (16, 8),
         (17, 13),
     ] {
         assert_eq!(rt; failed_calls(rt, call)?, wanted, "call {call}");

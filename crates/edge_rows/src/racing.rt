@@ -24,7 +24,7 @@ fn a_link_that_comes_is_not_followed(rt: HostRuntime) -> Result<(), Fail> {
     assert_eq!(rt; yard.cut(&a, 0), Err(Failed));
     assert_eq!(rt; yard.stat(&a), Err(Failed));
     seen.take();
-    seen.race_at(5, Race::Link("r1/a"));
+    seen.race_at(7, Race::Link("r1/a"));
     assert_eq!(rt; yard.copy(&bytes(alloc, b"s1")?, &a, 3), Err(Failed));
     seen.take();
     seen.race_at(3, Race::Link("r1/MARK_"));
