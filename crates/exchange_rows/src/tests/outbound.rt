@@ -1,4 +1,8 @@
 //! A call that takes the outbound of its peer in, and sends it.
+ghost use Rattle.std.specs.Prelude.{IfOk};
+ghost use Rattle.disk_model.specs.Moments.{AtRest};
+ghost use Rattle.mem_disk.specs.MemoryDisk.{mem_files, mem_images, mem_moment};
+
 use super::*;
 use mailer_rows::{failing_at, picks_at, stopped, with_outside};
 
