@@ -1,4 +1,4 @@
-use Rattle.std.proofs.Common.{◌++◌, List, map, sym, ◌∙◌, ap}
+use Rattle.std.proofs.Common.{List, map, sym, ◌∙◌, ap}
 use Rattle.std.specs.Prelude.{find, option_map}
 use Rattle.ftn_addr.specs.Address.{address}
 use Rattle.ftn_addr.specs.Files.{is_same}
