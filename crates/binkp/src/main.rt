@@ -48,7 +48,8 @@ fn read_given<R: Env + AllocGlobal>(rt: &R) -> Result<Given, NoMemory> {
     Ok(Given { folder, words })
 }
 
-/// Makes the call over the folder of that path, and says why the system refused a call, where one was refused.
+/// Makes the call over the folder of that path, and says why the system refused a call, where one was refused, also where that
+/// stopped nothing.
 fn call(
     rt: &HostRuntime,
     folder: RealFolder<HostRuntime>,
@@ -60,7 +61,8 @@ fn call(
     };
     let mut line = StdLine::new(input, io::writer(rt));
     let mut out = StdSink::new(rt.stderr());
-    let moment = SystemClock::new(rt).seconds();
+    let mut clock = SystemClock::new(rt);
+    let moment = clock.seconds();
     let (ended, folder) = run_program(
         rt.alloc(),
         words,
@@ -88,9 +90,9 @@ fn call_in(rt: &HostRuntime, path: &str, words: &[Bytes], challenge: [u8; 16]) -
     }
 }
 
-/// The exit status of a call over the folder, which is locked as long as that lasts.
+/// The exit status of a call over the folder, which is locked as long as that lasts. Where no folder is given there are no words
+/// either: they are refused before any folder is touched, and none is locked.
 fn program(rt: &HostRuntime, given: &Given) -> u8 {
-    let path = given.folder.as_deref().unwrap_or(".");
     let challenge = match SystemDice::new(rt) {
         Ok(mut dice) => dice.sixteen(),
         Err(error) => {
@@ -98,13 +100,18 @@ fn program(rt: &HostRuntime, given: &Given) -> u8 {
             return NO_CHALLENGE;
         }
     };
-    let _held = match lock(rt, path) {
+    let locked = match &given.folder {
+        Some(path) => lock(rt, path.as_str()),
+        None => Ok(None),
+    };
+    let _held = match locked {
         Ok(held) => held,
         Err(fault) => {
             let _ = eprintln!(rt; "binkp: {fault}");
             return NOT_STARTED;
         }
     };
+    let path = given.folder.as_deref().unwrap_or(".");
     let ended = call_in(rt, path, given.words.as_slice(), challenge);
     if let Some(told) = ended.told {
         let _ = eprintln!(rt; "{told}");

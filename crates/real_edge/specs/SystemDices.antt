@@ -1,8 +1,8 @@
--- What the system's dice draw (own).
-use Rattle.rand_core.specs.Steps.{stream_of, steps_u32}
-use Rattle.rand_core.specs.Stream.{Stream}
-use Rattle.rand_chacha.specs.ChaCha.{ChaCha, next_word}
+-- The challenges of the system's dice (own).
+use Rattle.std.specs.Prelude.{ℕ, List}
+use Rattle.std.specs.Int.{w64, to_be_bytes}
+use Rattle.cram_md5.specs.Hmac.{hmac}
 
--- the bytes that a generator of 20 rounds gives from a place on
-abbrev pub dice_stream : ChaCha → Stream
-dice_stream generator = stream_of (steps_u32 (next_word 10)) generator
+-- the challenge of that number: its digest, as eight bytes, under the key
+abbrev pub challenge_at : List ℕ → ℕ → List ℕ
+challenge_at key number = hmac key (to_be_bytes w64 number)

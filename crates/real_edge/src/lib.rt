@@ -50,8 +50,6 @@ mod std_line;
 mod std_sink;
 mod system_clock;
 mod system_dice;
-#[cfg(test)]
-mod tests;
 
 pub use error::{SystemCall, SystemError};
 pub use real_folder::RealFolder;

@@ -5,6 +5,7 @@ mod outside;
 mod own;
 mod paths;
 mod placed;
+mod refusals;
 mod system;
 
 pub use calls::RealFolder;

@@ -1,74 +1,53 @@
-//! Random bytes of the system.
-ghost use Rattle.std.specs.Prelude.{◌≡◌, ℕ, List, length, IfOk};
-ghost use Rattle.rand_core.specs.Stream.{fill_bytes};
-ghost use Rattle.rand_chacha.specs.ChaCha.{of_seed};
-ghost use Rattle.real_edge.specs.SystemDices.{dice_stream};
+//! Challenges of random bytes.
+ghost use Rattle.std.specs.Prelude.{◌≡◌, IfOk};
+ghost use Rattle.ftn_addr.specs.Counts.{next_count};
+ghost use Rattle.real_edge.specs.SystemDices.{challenge_at};
 
 use crate::error::{Answer, SystemCall, told};
 use binkp_link::Dice;
-use rand::rngs::ChaCha20Rng;
-use rand::{Rng, make_rng};
+use cram_md5::hmac;
+use rand::TryRng;
+use rand::rngs::SysRng;
 use std::random::RandomSource;
 
-/// A source of random bytes that nobody can foretell: ChaCha with 20 rounds, over 32 bytes that the system gave.
+/// A source of challenges that nobody can foretell: the digests of 1, 2 and so on under sixteen bytes that the system gave
+/// (HMAC-MD5, RFC 2104).
 ///
 /// The system is asked once, so no draw can fail. That its bytes are random is the system's word, and no contract's.
 #[derive(Drop)]
 pub struct SystemDice {
-    generator: ChaCha20Rng,
+    key: [u8; 16],
+    drawn: u64,
 }
 
 impl SystemDice {
-    /// A source with a seed of its own. It is refused where the system gives none.
+    /// A source with a key of its own. It is refused where the system gives none.
     pub fn new<R: RandomSource>(runtime: &R) -> Answer<SystemDice>
-        ensures { IfOk result (λ dice. (seed : List ℕ) × (length seed ≡ 32) × (dice.generator ≡ of_seed seed)) }
+        ensures { IfOk result (λ dice. dice.drawn ≡ 0) }
     {
-        let generator: ChaCha20Rng = told(SystemCall::Random, make_rng(runtime))?;
-        Ok(SystemDice { generator })
+        let mut key = [0; 16];
+        let mut source = SysRng::new(runtime);
+        told(SystemCall::Random, source.try_fill_bytes(&mut key))?;
+        Ok(SystemDice::with_key(key))
+    }
+
+    /// A source whose key is known.
+    pub fn with_key(key: [u8; 16]) -> SystemDice
+        ensures key { result.key ≡ key }
+        ensures none { result.drawn ≡ 0 }
+    {
+        SystemDice { key, drawn: 0 }
     }
 }
 
 impl Dice for SystemDice {
-    /// The next sixteen bytes. They are not drawn again.
+    /// The next challenge. None comes again within 2^64 draws.
     fn sixteen(&mut self) -> [u8; 16]
-        ensures { (result, dice_stream self.new.generator) ≡ fill_bytes 16 (dice_stream self.old.generator) }
+        ensures challenge { result ≡ challenge_at self.old.key self.new.drawn }
+        ensures counted { self.new.drawn ≡ next_count self.old.drawn }
+        ensures key { self.new.key ≡ self.old.key }
     {
-        let mut bytes = [0; 16];
-        self.generator.fill_bytes(&mut bytes);
-        bytes
-    }
-}
-
-#[cfg(test)]
-mod tests {
-    use super::*;
-    use std::io;
-    use std::test::Fail;
-
-    // A runtime without a source.
-    struct Sourceless;
-
-    impl RandomSource for Sourceless {
-        fn fill_bytes(&self, _buf: &mut [u8]) -> io::Result<()> {
-            Err(io::Error::from(io::ErrorKind::Unsupported))
-        }
-    }
-
-    #[test]
-    fn no_two_draws_are_alike(rt: HostRuntime) -> Result<(), Fail> {
-        let mut dice = SystemDice::new(&rt).ok().expect(&rt, "a source");
-        let mut other = SystemDice::new(&rt).ok().expect(&rt, "a source");
-        let draws = [dice.sixteen(), dice.sixteen(), other.sixteen()];
-        assert!(rt; draws[0] != draws[1]);
-        assert!(rt; draws[0] != draws[2]);
-        assert!(rt; draws[1] != draws[2]);
-        Ok(())
-    }
-
-    #[test]
-    fn without_a_source_it_is_refused(rt: HostRuntime) -> Result<(), Fail> {
-        let refused = SystemDice::new(&Sourceless).err().expect(&rt, "an error");
-        assert_eq!(rt; refused.error.kind(), io::ErrorKind::Unsupported);
-        Ok(())
+        self.drawn = self.drawn.saturating_add(1);
+        hmac(&self.key, &self.drawn.to_be_bytes())
     }
 }

@@ -11,7 +11,8 @@ use std::rt::Files;
 
 /// The mailer's own folder in the file system, and the folders beside it.
 ///
-/// It counts a fault at each call of the system that fails, and tells no content.
+/// It counts a fault at each call of the system that fails, and tells no content. What the system doesn't let it see, open or change
+/// of other programs' files is no fault.
 #[derive(Drop)]
 pub struct RealFolder<R: Files> {
     folder: Folder<R>,
@@ -33,7 +34,7 @@ impl<R: Files + AllocGlobal + Clone + Drop> RealFolder<R> {
         })
     }
 
-    /// The last call of the system that failed, and why. Where a fault is counted there is one.
+    /// The last call of the system that failed or was passed over, and why. Where a fault is counted there is one.
     pub fn last_error(&self) -> Option<SystemError>
         ensures last { result ≡ self.now.last_error }
         ensures counted { 1 ≤ self.now.faults → IsSome result }
@@ -63,6 +64,23 @@ impl<R: Files + AllocGlobal + Clone + Drop> RealFolder<R> {
                 Err(Failed)
             }
         }
+    }
+
+    // Keeps the reason of a refusal that failed nothing.
+    fn note_refusal(&mut self)
+        ensures { self.new.faults ≡ self.old.faults }
+    {
+        if let Some(error) = self.folder.refusals.take() {
+            self.last_error = Some(error);
+        }
+    }
+
+    // Counts the answer of a call on a file of another program.
+    fn count_outside<T>(&mut self, answer: Answer<T>) -> Result<T, Failed>
+        ensures cause { HasCause self.old.faults self.new.faults result }
+    {
+        self.note_refusal();
+        self.count(answer)
     }
 
     // The same of a list.
@@ -169,12 +187,13 @@ impl<R: Files + AllocGlobal + Clone + Drop> Disk for RealFolder<R> {
 impl<R: Files + AllocGlobal + Clone + Drop> Yard for RealFolder<R> {
     fn look(&mut self, path: &Bytes) -> Result<Option<OutStat>, Failed> {
         let answer = self.folder.look(path);
-        let stat = self.count(answer)?;
+        let stat = self.count_outside(answer)?;
         Ok(stat)
     }
 
     fn names(&mut self, folder: &Bytes) -> Result<Vec<Bytes>, ListFault> {
         let answer = self.folder.names(folder);
+        self.note_refusal();
         match self.count_list(answer) {
             Ok(names) => Ok(names),
             Err(e) => Err(e),
@@ -183,43 +202,43 @@ impl<R: Files + AllocGlobal + Clone + Drop> Yard for RealFolder<R> {
 
     fn take(&mut self, path: &Bytes, own: &Name) -> Result<Moved, Failed> {
         let answer = self.folder.take(path, own);
-        let moved = self.count(answer)?;
+        let moved = self.count_outside(answer)?;
         Ok(moved)
     }
 
     fn copy(&mut self, path: &Bytes, own: &Name, most: u64) -> Result<Copied, Failed> {
         let answer = self.folder.copy(path, own, most);
-        let copied = self.count(answer)?;
+        let copied = self.count_outside(answer)?;
         Ok(copied)
     }
 
     fn remove_if(&mut self, path: &Bytes, was: &OutStat) -> Result<Hit, Failed> {
         let answer = self.folder.remove_if(path, was);
-        let hit = self.count(answer)?;
+        let hit = self.count_outside(answer)?;
         Ok(hit)
     }
 
     fn cut_if(&mut self, path: &Bytes, was: &OutStat) -> Result<Hit, Failed> {
         let answer = self.folder.cut_if(path, was);
-        let hit = self.count(answer)?;
+        let hit = self.count_outside(answer)?;
         Ok(hit)
     }
 
     fn mark(&mut self, path: &Bytes, text: &Bytes) -> Result<Marking, Failed> {
         let answer = self.folder.mark(path, text);
-        let marking = self.count(answer)?;
+        let marking = self.count_outside(answer)?;
         Ok(marking)
     }
 
     fn unmark(&mut self, path: &Bytes, text: &Bytes) -> Result<Hit, Failed> {
         let answer = self.folder.unmark(path, text);
-        let hit = self.count(answer)?;
+        let hit = self.count_outside(answer)?;
         Ok(hit)
     }
 
     fn give(&mut self, own: &Name, folder: &Bytes, name: &Bytes) -> Result<Giving, Failed> {
         let answer = self.folder.give(own, folder, name);
-        let giving = self.count(answer)?;
+        let giving = self.count_outside(answer)?;
         Ok(giving)
     }
 }

@@ -1,28 +1,32 @@
 //! Outside folders. A path under which no file can stand, as one below a file, one that isn't UTF-8 or one
 //! with a name of over 255 bytes, has no file; only `mark` and `give` fail there.
 //!
-//! A file of the own folder, however its path is spelled, is no outside file that could be copied, removed or cut.
+//! What may not be seen or opened has no file either, and what may not be removed or cut is another's: both are noted, and fail
+//! nothing, so that no file of another program stops the others. `mark` and `give` fail there.
+//!
+//! A file of the own folder, however its path is spelled, is no outside file that could be copied, removed or cut, and nothing is
+//! given into it.
 use super::copying::copy_most;
 use super::own::Folder;
 use super::paths::{folder_of, is_entry_name, text, whole_text};
 use super::placed::Placed;
 use super::system::{
-    at_path, cut_to, file_at, folder_at, found, is_same, link, make_folders, make_new, open_file,
-    open_plain, plain_len, remove, remove_any, rename, stat_of, sync_file, sync_folder, write_all,
+    at_path, file_at, folder_at, is_same, link, make_folders, make_new, open_plain, plain_len,
+    regular, remove, remove_any, rename, stat_of, sync_file, sync_folder, write_all,
 };
 use crate::error::{Answer, ListError, SystemCall, SystemError, refused};
 use disk_model::{Copied, Giving, Hit, Marking, Moved, Name, OutStat};
 use ftn_addr::Bytes;
-use std::fs::{Metadata, OpenOptions, ReadDir};
+use std::fs::{Metadata, OpenFile, OpenOptions, ReadDir};
 use std::rt::Files;
 use std::{fs, io};
 
 impl<R: Files + Drop> Folder<R> {
-    pub fn look(&self, path: &Bytes) -> Answer<Option<OutStat>> {
+    pub fn look(&mut self, path: &Bytes) -> Answer<Option<OutStat>> {
         let Some(path) = text(path.as_slice()) else {
             return Ok(None);
         };
-        match file_at(&self.files, path)? {
+        match file_at(&self.files, &mut self.refusals, path)? {
             Some(metadata) => Ok(Some(stat_of(&metadata))),
             None => Ok(None),
         }
@@ -33,7 +37,7 @@ impl<R: Files + Drop> Folder<R> {
         let Some(path) = text(path.as_slice()) else {
             return Ok(Moved::Absent);
         };
-        let Some(file) = open_plain(&self.files, path)? else {
+        let Some(file) = open_plain(&self.files, &mut self.refusals, path)? else {
             return Ok(Moved::Absent);
         };
         self.forget(own);
@@ -56,9 +60,9 @@ impl<R: Files + Drop> Folder<R> {
         if self.source_at(path)?.is_none() {
             return Ok(Copied::Absent);
         }
-        let mut how = OpenOptions::new();
-        how.read(true);
-        let Some((mut source, metadata)) = open_file(&self.files, path, &how)? else {
+        let answer = OpenOptions::new().read(true).open(&self.files, path);
+        let opened = self.refusals.found(SystemCall::Open, answer)?;
+        let Some((mut source, metadata)) = regular(opened)? else {
             return Ok(Copied::Absent);
         };
         self.forget(own);
@@ -84,17 +88,7 @@ impl<R: Files + Drop> Folder<R> {
         }
     }
 
-    pub fn remove_if(&self, path: &Bytes, was: &OutStat) -> Answer<Hit> {
-        let Some(path) = text(path.as_slice()) else {
-            return Ok(Hit::Other);
-        };
-        match self.source_at(path)? {
-            Some(metadata) if stat_of(&metadata) == *was => self.remove_out(path),
-            _ => Ok(Hit::Other),
-        }
-    }
-
-    pub fn cut_if(&self, path: &Bytes, was: &OutStat) -> Answer<Hit> {
+    pub fn remove_if(&mut self, path: &Bytes, was: &OutStat) -> Answer<Hit> {
         let Some(path) = text(path.as_slice()) else {
             return Ok(Hit::Other);
         };
@@ -102,25 +96,37 @@ impl<R: Files + Drop> Folder<R> {
             Some(metadata) if stat_of(&metadata) == *was => {}
             _ => return Ok(Hit::Other),
         }
-        let mut how = OpenOptions::new();
-        how.write(true);
-        match open_file(&self.files, path, &how)? {
-            Some((file, metadata)) if stat_of(&metadata) == *was => {
-                cut_to(&file, 0)?;
-                sync_file(&file)?;
-                Ok(Hit::Done)
-            }
+        let answer = fs::remove_file(&self.files, path);
+        match self.refusals.changed(SystemCall::Remove, answer)? {
+            Some(()) => self.removed(path),
+            None => Ok(Hit::Other),
+        }
+    }
+
+    pub fn cut_if(&mut self, path: &Bytes, was: &OutStat) -> Answer<Hit> {
+        let Some(path) = text(path.as_slice()) else {
+            return Ok(Hit::Other);
+        };
+        match self.source_at(path)? {
+            Some(metadata) if stat_of(&metadata) == *was => {}
+            _ => return Ok(Hit::Other),
+        }
+        let answer = OpenOptions::new().write(true).open(&self.files, path);
+        let opened = self.refusals.changed(SystemCall::Open, answer)?;
+        match regular(opened)? {
+            Some((file, metadata)) if stat_of(&metadata) == *was => self.cut_out(&file),
             _ => Ok(Hit::Other),
         }
     }
 
     /// Writes and syncs the text in the own folder, and gives it its path by a link: that fails where the
     /// path is in use, and else the whole text is there at once. What an earlier mark left there is removed
-    /// first and never written over, since it may be that mark itself.
+    /// first and never written over, since it may be that mark itself. Whatever stands under the path is a mark,
+    /// be it a folder or a link that leads nowhere, since some programs make such locks.
     pub fn mark(&mut self, path: &Bytes, text: &Bytes) -> Answer<Marking> {
         let path = whole_text(path.as_slice())?;
         if at_path(&self.files, path)?.is_some() {
-            return self.standing_mark(path);
+            return Ok(Marking::Exists);
         }
         make_folders(&self.files, folder_of(path))?;
         let written = self.paths.mark()?;
@@ -137,30 +143,19 @@ impl<R: Files + Drop> Folder<R> {
         if is_made {
             Ok(Marking::Made)
         } else {
-            self.standing_mark(path)
+            Ok(Marking::Exists)
         }
     }
 
-    // A mark stands there, where a file does, and stood there just now, where nothing does any more. A folder, or a link that
-    // leads to no file, is none.
-    fn standing_mark(&self, path: &str) -> Answer<Marking> {
-        if file_at(&self.files, path)?.is_some() {
-            return Ok(Marking::Exists);
-        }
-        match at_path(&self.files, path)? {
-            Some(entry) if !entry.is_file() => {
-                Err(refused(SystemCall::Link, io::ErrorKind::AlreadyExists))
-            }
-            _ => Ok(Marking::Exists),
-        }
-    }
-
-    /// A name that no folder can have is refused.
+    /// A name that no folder can have is refused. In the own folder every name is in use, so that no peer writes an own file.
     pub fn give(&mut self, own: &Name, folder: &Bytes, name: &Bytes) -> Answer<Giving> {
         let folder = whole_text(folder.as_slice())?;
         let name = whole_text(name.as_slice())?;
         if !is_entry_name(name) {
             return Err(refused(SystemCall::Path, io::ErrorKind::InvalidFilename));
+        }
+        if self.is_own(folder)? {
+            return Ok(Giving::Taken);
         }
         self.forget(own);
         let (old, new) = self.paths.out(own, folder, name)?;
@@ -179,50 +174,67 @@ impl<R: Files + Drop> Folder<R> {
     }
 
     // The regular file to which a path leads that doesn't stand in the own folder.
-    fn source_at(&self, path: &str) -> Answer<Option<Metadata>> {
-        match file_at(&self.files, path)? {
-            Some(metadata) if !self.is_own(path)? => Ok(Some(metadata)),
+    fn source_at(&mut self, path: &str) -> Answer<Option<Metadata>> {
+        match file_at(&self.files, &mut self.refusals, path)? {
+            Some(metadata) if !self.is_own(folder_of(path))? => Ok(Some(metadata)),
             _ => Ok(None),
         }
     }
 
-    // Whether a path stands in the own folder.
-    fn is_own(&self, path: &str) -> Answer<bool> {
+    // Whether a path leads to the own folder.
+    fn is_own(&self, folder: &str) -> Answer<bool> {
         let own = folder_at(&self.files, self.paths.folder())?;
-        let above = folder_at(&self.files, folder_of(path))?;
-        match (own, above) {
-            (Some(own), Some(above)) => Ok(is_same(&own, &above)),
+        let other = folder_at(&self.files, folder)?;
+        match (own, other) {
+            (Some(own), Some(other)) => Ok(is_same(&own, &other)),
             _ => Ok(false),
         }
     }
 
-    // Removes a file that was there just now, and makes that durable.
-    fn remove_out(&self, path: &str) -> Answer<Hit> {
-        if !remove_any(&self.files, path)? {
-            return Ok(Hit::Other);
+    // Cuts an opened file to nothing, and makes that durable.
+    fn cut_out(&mut self, file: &R::File) -> Answer<Hit> {
+        let answer = file.set_len(0);
+        match self.refusals.changed(SystemCall::Truncate, answer)? {
+            Some(()) => {
+                sync_file(file)?;
+                Ok(Hit::Done)
+            }
+            None => Ok(Hit::Other),
         }
+    }
+
+    // Makes it durable that a file was removed.
+    fn removed(&self, path: &str) -> Answer<Hit> {
         sync_folder(&self.files, folder_of(path))?;
         Ok(Hit::Done)
     }
 }
 
 impl<R: Files + AllocGlobal + Clone + Drop> Folder<R> {
-    pub fn unmark(&self, path: &Bytes, mark: &Bytes) -> Answer<Hit> {
+    /// A mark that may not be read is another's; where an own one may not be removed, that fails.
+    pub fn unmark(&mut self, path: &Bytes, mark: &Bytes) -> Answer<Hit> {
         let Some(path) = text(path.as_slice()) else {
             return Ok(Hit::Other);
         };
-        match file_at(&self.files, path)? {
+        match file_at(&self.files, &mut self.refusals, path)? {
             Some(metadata) if metadata.len() == mark.len() as u64 => {}
             _ => return Ok(Hit::Other),
         }
-        match found(SystemCall::Read, fs::read(&self.files, path))? {
-            Some(bytes) if bytes.as_slice() == mark.as_slice() => self.remove_out(path),
+        let answer = fs::read(&self.files, path);
+        match self.refusals.found(SystemCall::Read, answer)? {
+            Some(bytes) if bytes.as_slice() == mark.as_slice() => {
+                if remove_any(&self.files, path)? {
+                    self.removed(path)
+                } else {
+                    Ok(Hit::Other)
+                }
+            }
             _ => Ok(Hit::Other),
         }
     }
 
     /// The names that are UTF-8, in the order of their bytes.
-    pub fn names(&self, folder: &Bytes) -> Result<Vec<Bytes>, ListError> {
+    pub fn names(&mut self, folder: &Bytes) -> Result<Vec<Bytes>, ListError> {
         let alloc = self.files.alloc();
         let mut names = Vec::new(alloc);
         let Some(entries) = self.entries(folder)? else {
@@ -244,11 +256,12 @@ impl<R: Files + AllocGlobal + Clone + Drop> Folder<R> {
         Ok(names)
     }
 
-    fn entries(&self, folder: &Bytes) -> Answer<Option<ReadDir<R>>> {
+    fn entries(&mut self, folder: &Bytes) -> Answer<Option<ReadDir<R>>> {
         let Some(folder) = text(folder.as_slice()) else {
             return Ok(None);
         };
         let folder = if folder.is_empty() { "." } else { folder };
-        found(SystemCall::List, fs::read_dir(&self.files, folder))
+        let answer = fs::read_dir(&self.files, folder);
+        self.refusals.found(SystemCall::List, answer)
     }
 }

@@ -1,8 +1,9 @@
 //! The own folder.
 use super::paths::Paths;
 use super::placed::Placed;
+use super::refusals::Refusals;
 use super::system::{
-    make_new, open_plain, plain_len, remove, rename, status_of, sync_file, sync_folder,
+    make_new, open_own, plain_len, remove, rename, status_of, sync_file, sync_folder,
 };
 use crate::error::{Answer, ListError, SystemCall, refused, told};
 use disk_model::{Made, Name};
@@ -28,6 +29,7 @@ pub struct Folder<R: Files> {
     // A name was made or taken away, perhaps by a program that was stopped, and the folder wasn't synced
     // since.
     pub(super) has_new_names: bool,
+    pub(super) refusals: Refusals,
 }
 
 impl<R: Files + Drop> Folder<R> {
@@ -37,6 +39,7 @@ impl<R: Files + Drop> Folder<R> {
             paths: Paths::new(alloc, path)?,
             held: None,
             has_new_names: true,
+            refusals: Refusals::new(),
         })
     }
 
@@ -136,7 +139,7 @@ impl<R: Files + Drop> Folder<R> {
     fn open(&mut self, name: &Name) -> Answer<Placed<R::File>> {
         match self.held.take() {
             Some(held) if held.name == *name => Ok(held.opened),
-            _ => match open_plain(&self.files, self.paths.own(name)?)? {
+            _ => match open_own(&self.files, self.paths.own(name)?)? {
                 Some(file) => Ok(Placed::new(file, 0)),
                 None => Err(refused(SystemCall::Open, io::ErrorKind::NotFound)),
             },

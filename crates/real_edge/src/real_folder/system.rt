@@ -3,6 +3,7 @@ ghost use Rattle.std.specs.Prelude.{OnOk};
 ghost use Rattle.std.specs.Io.KnownBytes.{Appends};
 
 use super::paths::folder_of;
+use super::refusals::{Refusals, found};
 use crate::error::{Answer, SystemCall, refused, told};
 use disk_model::OutStat;
 use std::fs::{Metadata, OpenFile, OpenOptions};
@@ -11,36 +12,18 @@ use std::os::unix::fs::MetadataExt;
 use std::rt::Files;
 use std::{fs, io};
 
-// Whether the error says that no file stands under a path: nothing does, what stands above is no folder,
-// links lead in a circle, or no file can have a name in it.
-fn is_no_file(kind: io::ErrorKind) -> bool {
-    matches!(
-        kind,
-        io::ErrorKind::NotFound
-            | io::ErrorKind::NotADirectory
-            | io::ErrorKind::FilesystemLoop
-            | io::ErrorKind::InvalidFilename
-            | io::ErrorKind::InvalidInput
-    )
-}
-
-/// What was found, or None where no file stands there.
-pub fn found<T>(call: SystemCall, answer: io::Result<T>) -> Answer<Option<T>> {
-    match answer {
-        Ok(it) => Ok(Some(it)),
-        Err(e) if is_no_file(e.kind()) => Ok(None),
-        Err(e) => told(call, Err(e)),
-    }
-}
-
 /// What stands under a path itself, be it a link.
 pub fn at_path<R: Files>(files: &R, path: &str) -> Answer<Option<Metadata>> {
     found(SystemCall::Stat, fs::symlink_metadata(files, path))
 }
 
-/// The regular file to which a path leads, also through links.
-pub fn file_at<R: Files>(files: &R, path: &str) -> Answer<Option<Metadata>> {
-    match found(SystemCall::Stat, fs::metadata(files, path))? {
+/// The regular file of another program to which a path leads, also through links.
+pub fn file_at<R: Files>(
+    files: &R,
+    refusals: &mut Refusals,
+    path: &str,
+) -> Answer<Option<Metadata>> {
+    match refusals.found(SystemCall::Stat, fs::metadata(files, path))? {
         Some(metadata) if metadata.is_file() => Ok(Some(metadata)),
         _ => Ok(None),
     }
@@ -56,24 +39,57 @@ pub fn plain_len<R: Files>(files: &R, path: &str) -> Answer<Option<u64>> {
     }
 }
 
-/// Opens the regular file that stands under a path itself. A link is none, also one that comes there in the
-/// meantime.
-pub fn open_plain<R: Files>(files: &R, path: &str) -> Answer<Option<R::File>> {
+/// Opens the own file that stands under a path itself: to read and write, or to read alone where that is all that the system
+/// allows. A link is none, also one that comes there in the meantime.
+pub fn open_own<R: Files>(files: &R, path: &str) -> Answer<Option<R::File>> {
     let Some(named) = at_path(files, path)? else {
         return Ok(None);
     };
     if !named.is_file() {
         return Ok(None);
     }
-    let answer = OpenOptions::new().read(true).write(true).open(files, path);
-    let Some(file) = found(SystemCall::Open, answer)? else {
+    let answer = match OpenOptions::new().read(true).write(true).open(files, path) {
+        Err(e) if is_unwritable(e.kind()) => OpenOptions::new().read(true).open(files, path),
+        answer => answer,
+    };
+    unless_other(named, found(SystemCall::Open, answer)?)
+}
+
+/// Opens the regular file of another program that stands under a path itself, to read it. A link is none, also one that comes
+/// there in the meantime.
+pub fn open_plain<R: Files>(
+    files: &R,
+    refusals: &mut Refusals,
+    path: &str,
+) -> Answer<Option<R::File>> {
+    let answer = fs::symlink_metadata(files, path);
+    let Some(named) = refusals.found(SystemCall::Stat, answer)? else {
         return Ok(None);
     };
-    let opened = status_of(&file)?;
-    if !is_same(&named, &opened) {
+    if !named.is_file() {
+        return Ok(None);
+    }
+    let answer = OpenOptions::new().read(true).open(files, path);
+    unless_other(named, refusals.found(SystemCall::Open, answer)?)
+}
+
+// The opened file, where it is the one that stood there before.
+fn unless_other<F: OpenFile + Drop>(named: Metadata, file: Option<F>) -> Answer<Option<F>> {
+    let Some(file) = file else {
+        return Ok(None);
+    };
+    if !is_same(&named, &status_of(&file)?) {
         return Ok(None);
     }
     Ok(Some(file))
+}
+
+// Whether the error says that a file may be read at most.
+fn is_unwritable(kind: io::ErrorKind) -> bool {
+    matches!(
+        kind,
+        io::ErrorKind::PermissionDenied | io::ErrorKind::ReadOnlyFilesystem
+    )
 }
 
 /// Whether both are of one file or folder.
@@ -81,13 +97,9 @@ pub fn is_same(one: &Metadata, other: &Metadata) -> bool {
     one.dev() == other.dev() && one.ino() == other.ino()
 }
 
-/// Opens the regular file to which a path leads, and says what it is.
-pub fn open_file<R: Files>(
-    files: &R,
-    path: &str,
-    how: &OpenOptions,
-) -> Answer<Option<(R::File, Metadata)>> {
-    let Some(file) = found(SystemCall::Open, how.open(files, path))? else {
+/// The opened file, and what it is, where it is a regular one.
+pub fn regular<F: OpenFile + Drop>(file: Option<F>) -> Answer<Option<(F, Metadata)>> {
+    let Some(file) = file else {
         return Ok(None);
     };
     let metadata = status_of(&file)?;
@@ -173,11 +185,15 @@ pub fn make_folders<R: Files>(files: &R, path: &str) -> Answer<()> {
     make_folder(files, path)
 }
 
+// Where another program makes the folder meanwhile, its name is made durable all the same.
 fn make_folder<R: Files>(files: &R, path: &str) -> Answer<()> {
     if is_folder(files, path)? {
         return Ok(());
     }
-    told(SystemCall::MakeFolder, fs::create_dir(files, path))?;
+    match fs::create_dir(files, path) {
+        Err(e) if e.kind() == io::ErrorKind::AlreadyExists && is_folder(files, path)? => {}
+        answer => told(SystemCall::MakeFolder, answer)?,
+    }
     sync_folder(files, folder_of(path))
 }
 

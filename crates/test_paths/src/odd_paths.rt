@@ -1,12 +1,12 @@
 //! Paths under which no file can stand.
-use crate::values::{bytes, name};
-use disk_model::{Copied, Disk, Hit, Moved, Name, OutStat, Yard};
+use disk_model::{Copied, Disk, Hit, Marking, Moved, Name, OutStat, Yard};
 use ftn_addr::{Bytes, Failed};
 use real_edge::RealFolder;
 use std::fs;
 use std::os::unix::fs::symlink;
 use std::rt::Files;
 use std::test::Fail;
+use test_files::{bytes, name};
 
 // Whether the yard has no file there, and says so at each call.
 fn is_absent<R: Files + AllocGlobal + Clone + Drop>(
@@ -33,7 +33,6 @@ fn no_file_stands_under_an_odd_path(rt: HostRuntime) -> Result<(), Fail> {
     fs::create_dir(&rt, "o1")?;
     fs::write(&rt, "p1", b"x".as_slice())?;
     symlink(&rt, "l1", "l1")?;
-    symlink(&rt, "nowhere1", "k1")?;
     let a = name(b"a")?;
     let mut yard = RealFolder::new(rt, "o1")?;
     yard.create(&a)?;
@@ -42,7 +41,6 @@ fn no_file_stands_under_an_odd_path(rt: HostRuntime) -> Result<(), Fail> {
         // Below a file, through a loop of links, with a byte 0, with a name of 256 bytes, and not UTF-8.
         b"p1/x".as_slice(),
         b"l1/x".as_slice(),
-        b"l1".as_slice(),
         b"n1\0x".as_slice(),
         long.as_slice(),
         b"n1\xff".as_slice(),
@@ -56,16 +54,30 @@ fn no_file_stands_under_an_odd_path(rt: HostRuntime) -> Result<(), Fail> {
         assert_eq!(rt; yard.give(&a, &path, &bytes(alloc, b"x")?), Err(Failed));
         assert_eq!(rt; yard.faults(), faults.wrapping_add(2));
     }
-    // A link that leads nowhere is no file, and no mark is made over it.
-    let nowhere = bytes(alloc, b"k1")?;
-    assert!(rt; is_absent(&mut yard, &nowhere, &a)?);
-    assert_eq!(rt; yard.mark(&nowhere, &nowhere), Err(Failed));
     assert_eq!(rt; yard.stat(&a), Ok(Some(0)));
     assert_eq!(rt; fs::read(&rt, "p1")?.as_slice(), b"x".as_slice());
     Ok(())
 }
 
-// A folder is no file; a mark isn't made over it, and its name is in use for a gift.
+// A link that leads nowhere, or to itself, is no file; under a mark's path it is a mark, since some programs lock so.
+#[test]
+fn a_link_to_nothing_is_no_file_but_a_mark(rt: HostRuntime) -> Result<(), Fail> {
+    let alloc = rt.alloc();
+    fs::create_dir(&rt, "o4")?;
+    symlink(&rt, "l4", "l4")?;
+    symlink(&rt, "nowhere4", "k4")?;
+    let a = name(b"a")?;
+    let mut yard = RealFolder::new(rt, "o4")?;
+    for path in [b"l4".as_slice(), b"k4".as_slice()] {
+        let path = bytes(alloc, path)?;
+        assert!(rt; is_absent(&mut yard, &path, &a)?);
+        assert_eq!(rt; yard.mark(&path, &path), Ok(Marking::Exists));
+    }
+    assert_eq!(rt; (yard.faults(), yard.list()), (0, Ok(Vec::new(alloc))));
+    Ok(())
+}
+
+// A folder is no file; under a mark's path it is a mark, and its name is in use for a gift.
 #[test]
 fn a_folder_is_no_file(rt: HostRuntime) -> Result<(), Fail> {
     let alloc = rt.alloc();
@@ -77,7 +89,7 @@ fn a_folder_is_no_file(rt: HostRuntime) -> Result<(), Fail> {
     let (a, folder) = (name(b"a")?, bytes(alloc, b"p2")?);
     let mut yard = RealFolder::new(rt, "o2")?;
     assert!(rt; is_absent(&mut yard, &folder, &a)?);
-    assert_eq!(rt; yard.mark(&folder, &folder), Err(Failed));
+    assert_eq!(rt; yard.mark(&folder, &folder), Ok(Marking::Exists));
     // In the own folder what is no regular file isn't listed and isn't given.
     let names = yard.list().ok().expect(&rt, "the names");
     assert_eq!(rt; names.as_slice(), [name(b"f")?].as_slice());

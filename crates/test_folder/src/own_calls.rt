@@ -1,11 +1,10 @@
 //! What each call of the own folder asks of the system, in its order.
-use crate::values::name;
 use disk_model::{Disk, Made};
 use ftn_addr::Failed;
 use real_edge::RealFolder;
 use std::fs;
 use std::test::Fail;
-use watched_files::{Seen, Watched};
+use test_files::{Seen, Watched, name};
 
 #[test]
 fn a_file_is_made_with_its_name_and_written_in_pieces(rt: HostRuntime) -> Result<(), Fail> {

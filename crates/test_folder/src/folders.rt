@@ -1,19 +1,12 @@
-use crate::RealFolder;
+//! The ordinary calls of a real folder.
 use disk_model::{Copied, Disk, Giving, Hit, Made, Marking, Moved, Name, OutStat, Yard};
 use ftn_addr::{Bytes, Failed};
-use std::alloc::Global;
+use real_edge::RealFolder;
 use std::fs;
 use std::os::unix::fs::symlink;
 use std::rt::Files;
 use std::test::Fail;
-
-fn name(text: &[u8]) -> Result<Name, Failed> {
-    Name::new(text).ok_or(Failed)
-}
-
-fn bytes(alloc: Global, text: &[u8]) -> Result<Bytes, Fail> {
-    Ok(Bytes::from_slice(alloc, text)?)
-}
+use test_files::{bytes, name};
 
 // A file of 7 bytes under the second name, made under the first.
 fn write_and_rename<R: Files + AllocGlobal + Clone + Drop>(

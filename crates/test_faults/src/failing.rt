@@ -1,5 +1,4 @@
 //! Each call of the system fails in its turn, and each time that is told.
-use crate::values::{bytes, name};
 use disk_model::{Disk, Name, Yard};
 use ftn_addr::{Bytes, Failed};
 use real_edge::RealFolder;
@@ -7,7 +6,7 @@ use std::alloc::Global;
 use std::fs;
 use std::rt::Files;
 use std::test::Fail;
-use watched_files::{Seen, Watched};
+use test_files::{Seen, Watched, bytes, name};
 
 /// What the calls are made with.
 #[derive(Drop)]
@@ -170,27 +169,27 @@ fn each_call_of_the_system_that_fails_is_told(rt: HostRuntime) -> Result<(), Fai
         (14, 19),
         (15, 7),
         (16, 8),
-        (17, 13),
+        (17, 15),
     ] {
         assert_eq!(rt; failed_calls(rt, call)?, wanted, "call {call}");
     }
     // It is kept under its name.
     for (call, failing, wanted) in [
-        (0, 1, "stat: permission denied"),
-        (1, 1, "readdir: permission denied"),
-        (1, 2, "readdir: permission denied"),
-        (2, 5, "read: permission denied"),
-        (4, 2, "open: permission denied"),
-        (4, 3, "stat: permission denied"),
-        (4, 5, "lseek: permission denied"),
-        (4, 6, "write: permission denied"),
-        (5, 5, "ftruncate: permission denied"),
-        (6, 4, "fsync: permission denied"),
-        (7, 1, "rename: permission denied"),
-        (8, 1, "unlink: permission denied"),
-        (10, 2, "readdir: permission denied"),
-        (14, 5, "mkdir: permission denied"),
-        (14, 14, "link: permission denied"),
+        (0, 1, "stat: no storage space"),
+        (1, 1, "readdir: no storage space"),
+        (1, 2, "readdir: no storage space"),
+        (2, 5, "read: no storage space"),
+        (4, 2, "open: no storage space"),
+        (4, 3, "stat: no storage space"),
+        (4, 5, "lseek: no storage space"),
+        (4, 6, "write: no storage space"),
+        (5, 5, "ftruncate: no storage space"),
+        (6, 4, "fsync: no storage space"),
+        (7, 1, "rename: no storage space"),
+        (8, 1, "unlink: no storage space"),
+        (10, 2, "readdir: no storage space"),
+        (14, 5, "mkdir: no storage space"),
+        (14, 14, "link: no storage space"),
     ] {
         let kept = kept_error(rt, call, failing)?;
         assert_eq!(rt; kept.as_str(), wanted, "call {call}, {failing}");

@@ -1,14 +1,13 @@
 //! What each call of the outside folders asks of the system, in its order.
-use crate::values::{bytes, name};
 use disk_model::{Copied, Disk, Giving, Hit, Marking, Moved, OutStat, Yard};
 use ftn_addr::Failed;
 use real_edge::RealFolder;
 use std::fs;
 use std::fs::{FileTimes, OpenFile, OpenOptions};
-use std::os::unix::fs::MetadataExt;
+use std::os::unix::fs::{MetadataExt, symlink};
 use std::test::Fail;
 use std::time::{Duration, UNIX_EPOCH};
-use watched_files::{Seen, Watched};
+use test_files::{Seen, Watched, bytes, name};
 
 #[test]
 fn a_copy_is_made_in_pieces_and_synced_later(rt: HostRuntime) -> Result<(), Fail> {
@@ -69,7 +68,8 @@ fn a_taken_and_a_given_file_is_synced_in_both_folders(rt: HostRuntime) -> Result
     assert_eq!(rt; yard.give(&a, &folder, &y), Ok(Giving::Given));
     assert_eq!(rt;
         seen.take().as_str(),
-        "lstat d2/y,lstat c2/a,stat d2,rename c2/a d2/y,open d2,sync d2,open c2,sync c2,"
+        "stat c2,stat d2,lstat d2/y,lstat c2/a,stat d2,rename c2/a d2/y,open d2,sync d2,open c2,\
+         sync c2,"
     );
     assert_eq!(rt; yard.names(&folder).map(|names| names.len()), Ok(1));
     assert_eq!(rt; seen.take().as_str(), "list d2/,readdir d2/,readdir d2/,");
@@ -79,8 +79,9 @@ fn a_taken_and_a_given_file_is_synced_in_both_folders(rt: HostRuntime) -> Result
     assert_eq!(rt; yard.give(&a, &z, &y), Ok(Giving::Given));
     assert_eq!(rt;
         seen.take().as_str(),
-        "lstat n2/m/y,lstat c2/a,stat n2/m,stat n2,mkdir n2,open .,sync .,stat n2/m,mkdir n2/m,\
-         open n2,sync n2,rename c2/a n2/m/y,open n2/m,sync n2/m,open c2,sync c2,"
+        "stat c2,stat n2/m,lstat n2/m/y,lstat c2/a,stat n2/m,stat n2,mkdir n2,open .,sync .,\
+         stat n2/m,mkdir n2/m,open n2,sync n2,rename c2/a n2/m/y,open n2/m,sync n2/m,open c2,\
+         sync c2,"
     );
     assert_eq!(rt; yard.write_at(&a, 0, b"x"), Err(Failed));
     assert_eq!(rt; fs::read(&rt, "n2/m/y")?.as_slice(), b"Abc".as_slice());
@@ -103,7 +104,7 @@ fn a_mark_is_linked_whole(rt: HostRuntime) -> Result<(), Fail> {
     );
     assert_eq!(rt; fs::read(&rt, "d3/x.bsy")?.as_slice(), b"one".as_slice());
     assert_eq!(rt; yard.mark(&x, &x), Ok(Marking::Exists));
-    assert_eq!(rt; seen.take().as_str(), "lstat d3/x.bsy,stat d3/x.bsy,");
+    assert_eq!(rt; seen.take().as_str(), "lstat d3/x.bsy,");
     // A file of another length isn't read.
     assert_eq!(rt; yard.unmark(&x, &bytes(alloc, b"longer")?), Ok(Hit::Other));
     assert_eq!(rt; seen.take().as_str(), "stat d3/x.bsy,");
@@ -210,6 +211,43 @@ fn an_own_file_is_neither_copied_nor_removed_nor_cut(rt: HostRuntime) -> Result<
     Ok(())
 }
 
+// However its path is spelled, the own folder takes no gift: every name in it is in use. A folder below it is outside.
+#[test]
+fn nothing_is_given_into_the_own_folder(rt: HostRuntime) -> Result<(), Fail> {
+    let alloc = rt.alloc();
+    fs::create_dir(&rt, "c12")?;
+    fs::create_dir(&rt, "c12/n")?;
+    symlink(&rt, "c12", "l12")?;
+    let a = name(b"a")?;
+    let take = bytes(alloc, b"t00000009-0002270f00010000.flo")?;
+    let seen = Seen::new();
+    let mut yard = RealFolder::new(Watched { rt, seen: &seen }, "c12")?;
+    yard.create(&a)?;
+    seen.take();
+    for folder in [
+        b"c12".as_slice(),
+        b"c12/",
+        b"./c12/n/..",
+        b"l12",
+        b"/proc/self/cwd/c12",
+    ] {
+        let folder = bytes(alloc, folder)?;
+        assert_eq!(rt; yard.give(&a, &folder, &take), Ok(Giving::Taken));
+    }
+    assert!(rt;
+        seen.take()
+            .as_str()
+            .starts_with("stat c12,stat c12,stat c12,stat c12/,")
+    );
+    assert_eq!(rt; yard.list(), Ok(vec![in alloc; a]?));
+    assert_eq!(rt;
+        yard.give(&a, &bytes(alloc, b"c12/n")?, &take),
+        Ok(Giving::Given)
+    );
+    assert_eq!(rt; yard.faults(), 0);
+    Ok(())
+}
+
 // A look and a copy tell the system's size and time.
 #[test]
 fn a_file_has_the_time_that_the_system_gives_it(rt: HostRuntime) -> Result<(), Fail> {
@@ -263,11 +301,11 @@ fn names_after_a_gift_that_failed_are_synced_next(rt: HostRuntime) -> Result<(),
     yard.create(&a)?;
     yard.create(&b)?;
     seen.take();
-    seen.fail_at(6);
+    seen.fail_at(8);
     assert_eq!(rt; yard.give(&a, &folder, &y), Err(Failed));
     assert_eq!(rt;
         seen.take().as_str(),
-        "lstat d8/y,lstat c8/a,stat d8,rename c8/a d8/y,open d8,sync d8,"
+        "stat c8,stat d8,lstat d8/y,lstat c8/a,stat d8,rename c8/a d8/y,open d8,sync d8,"
     );
     seen.fail_at(0);
     yard.sync(&b)?;

@@ -1,12 +1,11 @@
 //! Another program comes between two calls of the system.
-use crate::values::{bytes, name};
 use disk_model::{Copied, Disk, Hit, Marking, Moved, OutStat, Yard};
 use ftn_addr::Failed;
 use real_edge::RealFolder;
 use std::fs;
 use std::os::unix::fs::symlink;
 use std::test::Fail;
-use watched_files::{Race, Seen, Watched};
+use test_files::{Race, Seen, Watched, bytes, name};
 
 // A link that comes just before an own file is opened, or just before one is made, isn't followed.
 #[test]
@@ -158,24 +157,33 @@ fn a_mark_that_comes_first_stays(rt: HostRuntime) -> Result<(), Fail> {
     assert_eq!(rt;
         seen.take().as_str(),
         "lstat s5/x,stat s5,unlink r5/MARK_,open r5/MARK_,write r5/MARK_,sync r5/MARK_,\
-         link r5/MARK_ s5/x,unlink r5/MARK_,open r5,sync r5,stat s5/x,"
+         link r5/MARK_ s5/x,unlink r5/MARK_,open r5,sync r5,"
     );
     assert_eq!(rt; fs::read(&rt, "s5/x")?.as_slice(), b"raced".as_slice());
     Ok(())
 }
 
-// Another program's mark that goes between two looks stood there all the same.
+// A folder that another program makes meanwhile is there, and its name is made durable all the same.
 #[test]
-fn a_mark_that_goes_meanwhile_stood(rt: HostRuntime) -> Result<(), Fail> {
+fn a_folder_that_comes_is_used(rt: HostRuntime) -> Result<(), Fail> {
     let alloc = rt.alloc();
     fs::create_dir(&rt, "r8")?;
-    fs::write(&rt, "m8", b"".as_slice())?;
-    let (x, text) = (bytes(alloc, b"m8")?, bytes(alloc, b"ab")?);
+    let (x, text) = (bytes(alloc, b"m8/x")?, bytes(alloc, b"ab")?);
     let seen = Seen::new();
     let mut yard = RealFolder::new(Watched { rt, seen: &seen }, "r8")?;
-    seen.race_at(2, Race::Gone("m8"));
-    assert_eq!(rt; yard.mark(&x, &text), Ok(Marking::Exists));
-    assert_eq!(rt; seen.take().as_str(), "lstat m8,stat m8,lstat m8,");
-    assert_eq!(rt; yard.faults(), 0);
+    seen.race_at(4, Race::Folder("m8"));
+    assert_eq!(rt; yard.mark(&x, &text), Ok(Marking::Made));
+    assert_eq!(rt;
+        seen.take().as_str(),
+        "lstat m8/x,stat m8,stat m8,mkdir m8,stat m8,open .,sync .,unlink r8/MARK_,open r8/MARK_,\
+         write r8/MARK_,sync r8/MARK_,link r8/MARK_ m8/x,open m8,sync m8,unlink r8/MARK_,open r8,\
+         sync r8,"
+    );
+    // What is no folder stops it.
+    let (y, z) = (bytes(alloc, b"n8/x")?, bytes(alloc, b"n8")?);
+    seen.race_at(4, Race::File("n8"));
+    assert_eq!(rt; yard.mark(&y, &text), Err(Failed));
+    assert_eq!(rt; yard.mark(&z, &text), Ok(Marking::Exists));
+    assert_eq!(rt; yard.faults(), 1);
     Ok(())
 }

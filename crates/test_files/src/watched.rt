@@ -32,6 +32,7 @@ pub struct Seen {
     journal: Cell<Journal>,
     calls: Cell<u32>,
     failing: Cell<u32>,
+    fault: Cell<io::ErrorKind>,
     racing: Cell<u32>,
     race: Cell<Race>,
 }
@@ -53,6 +54,7 @@ impl Seen {
             journal: Cell::new(Journal::new()),
             calls: Cell::new(0),
             failing: Cell::new(0),
+            fault: Cell::new(io::ErrorKind::StorageFull),
             racing: Cell::new(0),
             race: Cell::new(Race::Nothing),
         }
@@ -69,9 +71,15 @@ impl Seen {
         self.calls.get()
     }
 
-    /// The call of that number, counted from 1, is to fail.
+    /// The call of that number, counted from 1, is to fail: for want of room, which says nothing of a file or of rights.
     pub fn fail_at(&self, call: u32) {
+        self.fail_with(call, io::ErrorKind::StorageFull);
+    }
+
+    /// The call of that number, counted from 1, is to fail with that error.
+    pub fn fail_with(&self, call: u32, fault: io::ErrorKind) {
         self.failing.set(call);
+        self.fault.set(fault);
     }
 
     /// Before the call of that number another program comes.
@@ -130,9 +138,8 @@ impl Seen {
     fn count(&self) -> io::Result<()> {
         let calls = self.calls.get().saturating_add(1);
         self.calls.set(calls);
-        // A permission that is denied is no path without a file.
         if self.failing.get() == calls {
-            return Err(io::ErrorKind::PermissionDenied.into());
+            return Err(self.fault.get().into());
         }
         Ok(())
     }

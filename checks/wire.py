@@ -1,0 +1,176 @@
+"""Frames of binkp (FTS-1026), folders and runs of the built program, for the checks here."""
+import email.utils
+import os
+import re
+import subprocess
+import time
+
+ROOT = os.path.dirname(os.path.dirname(os.path.abspath(__file__)))
+CRATE = os.path.join(ROOT, "crates", "binkp")
+BUILT = os.path.join(CRATE, "out", "binkp")
+
+NUL, ADR, PWD, FILE, OK, EOB, GOT, ERR, BSY, GET, SKIP = range(11)
+
+# How a session ends: the exit status, the end's name in the session's line, and the status's line.
+DONE = (0, b"Finished", b"")
+DROPPED = (7, b"Dropped", b"status 7 Dropped\n")
+LINE_FAULT = (6, b"LineFault", b"status 6 LineFault\n")
+PEER_BUSY = (10, b"PeerBusy", b"status 10 PeerBusy\n")
+WRONG_PASSWORD = (11, b"BadPassword", b"status 11 BadPassword\n")
+
+
+def peer_error(text):
+    """The peer said M_ERR; its text is told with its escapes."""
+    return 9, b"PeerError", b"status 9 PeerError %s\n" % text
+
+
+def broke(cause, frame):
+    """The peer's frame with that number was refused. Frames that aren't empty are counted from 1."""
+    return 12, b"Broke", b"status 12 Broke %s %d\n" % (cause, frame)
+
+
+HOME = b"2:5020/1042@fidonet"
+PEER = b"2:5047/13@fidonet"
+
+WORDS = ["answer"]
+CALL = ["call", PEER.decode()]
+
+# The settings of most sessions: the own address, and a node with a host and no password.
+SETTINGS = b"address %s\nnode %s peer.example\n" % (HOME, PEER)
+PASSWORD = b"tanstaaftanstaaf"
+GUARDED = b"address %s\nnode %s peer.example %s\n" % (HOME, PEER, PASSWORD)
+
+
+def command(number, argument=b""):
+    """A command frame: the top bit of its header is set, the low 15 bits are the length of number and argument."""
+    data = bytes([number]) + argument
+    return (0x8000 | len(data)).to_bytes(2, "big") + data
+
+
+def data(content):
+    """A data frame."""
+    return len(content).to_bytes(2, "big") + content
+
+
+MOMENT = command(NUL, b"TIME Sun, 09 Sep 2001 01:46:40 +0000")
+VERSION = command(NUL, b"VER binkp_mailer/1.0 binkp/1.0")
+CHALLENGE = command(NUL, b"OPT CRAM-MD5-" + b"0" * 32)
+GREETING = CHALLENGE + MOMENT + VERSION + command(ADR, HOME)
+CALLER_GREETING = MOMENT + VERSION + command(ADR, HOME)
+LOGIN = command(ADR, PEER) + command(PWD, b"-")
+LET_IN = GREETING + command(OK, b"non-secure")
+END = command(EOB)
+BROKEN_FRAME = command(ERR, b"broken frame")
+OFFSET_AGAIN = command(ERR, b"offset again")
+BAD_PASSWORD = command(ERR, b"bad password")
+NOT_CALLED = command(ERR, b"not the called address")
+USAGE = b"status 1 Usage\nbinkp: the words are `DIR answer`, `DIR call ADDR`, `DIR lookup ADDR`, `DIR compile FILE`, `DIR list` or `DIR take`, as in `. call 2:5047/13`; DIR has the settings, `binkp.conf`\n"
+
+
+def told(end, peer, received):
+    """What stands on standard error behind a session."""
+    session = b"session %d peer %s sent 0 received %d skipped 0 end %s\n" % (1 if peer else 0, peer or b"-", received, end[1])
+    return session + end[2]
+
+
+def offer(name, size, time, offset=b"0"):
+    return command(FILE, b"%s %d %d %s" % (name, size, time, offset))
+
+
+def got(name, size, time):
+    return command(GOT, b"%s %d %d" % (name, size, time))
+
+
+def ask(name, size, time, offset):
+    return command(GET, b"%s %d %d %d" % (name, size, time, offset))
+
+
+HELLO = offer(b"a.txt", 5, 1000000000)
+FROM_THREE = offer(b"a.txt", 5, 1000000000, b"3")
+GOT_HELLO = got(b"a.txt", 5, 1000000000)
+CALL_HELLO = LOGIN + HELLO + data(b"hello") + END
+HEARD_HELLO = LET_IN + GOT_HELLO + END
+
+
+def settle(folder, settings):
+    """Writes the settings of a folder, where there are any."""
+    if settings is not None:
+        with open(os.path.join(folder, "binkp.conf"), "wb") as out:
+            out.write(settings)
+
+
+TIME = re.compile(rb"TIME (\w\w\w, \d\d \w\w\w \d\d\d\d \d\d:\d\d:\d\d \+0000)")
+
+
+def settled(given):
+    """What was written, with the greeting's challenge and moment as these count here; the moment is the present one."""
+    given = re.sub(rb"^(\x80\x2e\0OPT CRAM-MD5-)[0-9a-f]{32}", rb"\g<1>" + b"0" * 32, given)
+    found = TIME.search(given)
+    if found and abs(email.utils.parsedate_to_datetime(found[1].decode()).timestamp() - time.time()) < 120:
+        given = given[: found.start(1)] + b"Sun, 09 Sep 2001 01:46:40 +0000" + given[found.end(1) :]
+    return given
+
+
+def run_in(program, folder, words, taken, pieces=False, before=None, user=None):
+    """What the program writes on output and error over that folder, and its exit status. Its inbound stands in the folder. With a
+    user it has that one's rights alone."""
+    at = folder if os.path.isdir(folder) else os.path.dirname(folder)
+    rights = {} if user is None else {"user": user, "group": user, "extra_groups": []}
+    child = subprocess.Popen([program, folder] + words, cwd=at, stdin=subprocess.PIPE, stdout=subprocess.PIPE, stderr=subprocess.PIPE, preexec_fn=before, **rights)
+    if pieces:
+        try:
+            for byte in taken:
+                os.write(child.stdin.fileno(), bytes([byte]))
+        except BrokenPipeError:
+            pass
+        taken = b""
+    given, told = child.communicate(taken, timeout=60)
+    return settled(given), told, child.returncode
+
+
+def difference(result, given, told, status):
+    """What is otherwise than it should be, or an empty text."""
+    faults = []
+    if result[2] != status:
+        faults.append("status %d, not %d" % (result[2], status))
+    if given is not None and result[0] != given:
+        faults.append("wrote %r, not %r" % (result[0][:200], given[:200]))
+    if result[1] != told:
+        faults.append("told %r, not %r" % (result[1], told))
+    return "; ".join(faults)
+
+
+def ended(status, line, reason=b""):
+    """What stands on standard error where no session was held."""
+    return b"status %d %s\n%s" % (status, line, reason)
+
+
+def whole(folder):
+    """The files of a folder and of those in it, in order, each with its path and bytes."""
+    found = []
+    for top, _, names in os.walk(folder):
+        for name in names:
+            path = os.path.join(top, name)
+            with open(path, "rb") as file:
+                found.append((os.path.relpath(path, folder), file.read()))
+    return sorted(found)
+
+
+def otherwise(folder, **wanted):
+    """What a folder has otherwise than these files, beside its ledger and settings."""
+    found = {path: bytes_ for path, bytes_ in whole(folder) if path not in ("binkp.conf", "ledger")}
+    return "" if found == wanted else "the folder has %r" % found
+
+
+def leave(folder, **files):
+    """Puts files into a folder, each by its path there, with one time."""
+    for path, bytes_ in files.items():
+        whole_path = os.path.join(folder, path)
+        os.makedirs(os.path.dirname(whole_path), exist_ok=True)
+        with open(whole_path, "wb") as out:
+            out.write(bytes_)
+        os.utime(whole_path, (1000000000, 1000000000))
+
+
+def took(peer, queued):
+    return b"took %s queued %d again 0 missing 0 over 0 passed 0\n" % (peer, queued)
