@@ -24,8 +24,6 @@ mod fault;
 mod file;
 mod names;
 mod reading;
-#[cfg(test)]
-mod tests;
 mod words;
 mod writing;
 

@@ -22,8 +22,6 @@
 
 mod decoder;
 mod frame;
-#[cfg(test)]
-mod tests;
 mod writing;
 
 pub use decoder::{Decoder, pieces_add_up, reads_one_way};

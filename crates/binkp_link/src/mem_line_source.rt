@@ -224,6 +224,3 @@ impl Lines for MemLines {
         given.handed = Some(line);
     }
 }
-
-#[cfg(test)]
-mod tests;

@@ -96,27 +96,3 @@ impl Dice for MemDice {
         self.items.next()
     }
 }
-
-#[cfg(test)]
-mod tests {
-    use super::*;
-    use std::test::Fail;
-
-    #[test]
-    fn the_last_moment_repeats(rt: HostRuntime) -> Result<(), Fail> {
-        let mut clock = MemClock::new(vec![in rt.alloc(); 5, 3]?);
-        assert_eq!(rt; clock.now(), 5);
-        assert_eq!(rt; clock.now(), 3);
-        assert_eq!(rt; clock.now(), 3);
-        Ok(())
-    }
-
-    #[test]
-    fn the_last_sixteen_repeat(rt: HostRuntime) -> Result<(), Fail> {
-        let mut dice = MemDice::new(vec![in rt.alloc(); [7; 16], [9; 16]]?);
-        assert_eq!(rt; dice.sixteen(), [7; 16]);
-        assert_eq!(rt; dice.sixteen(), [9; 16]);
-        assert_eq!(rt; dice.sixteen(), [9; 16]);
-        Ok(())
-    }
-}

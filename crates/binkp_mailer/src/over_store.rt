@@ -61,6 +61,3 @@ pub fn one_receipt_over_calls()
 pub fn receipts_stay_over_calls()
     ensures { (store new : StoreState) → Calls_in_turn store new → StaysTold store.content new.content }
 {}
-
-#[cfg(test)]
-mod tests;

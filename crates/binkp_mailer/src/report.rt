@@ -136,38 +136,3 @@ pub fn print<O: Sink>(alloc: Global, outcome: Outcome, out: &mut O) -> Status
     let started = session_lines(alloc, &outcome);
     print_lines(alloc, started, had(outcome), out)
 }
-
-#[cfg(test)]
-mod tests {
-    use super::*;
-    use session_core::Cause;
-    use std::test::Fail;
-
-    #[test]
-    fn a_report_is_one_line(rt: HostRuntime) -> Result<(), Fail> {
-        let alloc = rt.alloc();
-        let peer = Addr {
-            zone: 2,
-            net: 5020,
-            node: 7,
-            point: 3,
-            domain: Bytes::from_slice(alloc, b"fidonet")?,
-        };
-        let report = Report {
-            session: 4,
-            peer: Some(peer),
-            sent: 1,
-            received: 20,
-            skipped: 300,
-            taken: 5,
-            wrote: 6,
-            end: End::Broke(Cause::Late, 9),
-        };
-        let mut line = Bytes::new(alloc);
-        push_session(alloc, &report, &mut line)?;
-        let wanted: &[u8] =
-            b"session 4 peer 2:5020/7.3@fidonet sent 1 received 20 skipped 300 end Broke\n";
-        assert_eq!(rt; line.as_slice(), wanted);
-        Ok(())
-    }
-}

@@ -30,8 +30,6 @@ mod naming;
 mod reading;
 mod slash;
 mod spot;
-#[cfg(test)]
-mod tests;
 mod zone;
 
 pub use base::{folder_above, last_part};

@@ -337,6 +337,3 @@ pub fn push_status(alloc: Global, status: &Status, out: &mut Bytes) -> Result<()
     push_rest(alloc, status, out)?;
     out.push_slice(b"\n")
 }
-
-#[cfg(test)]
-mod tests;

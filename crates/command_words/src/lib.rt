@@ -23,7 +23,5 @@
 mod form;
 mod line;
 mod plain;
-#[cfg(test)]
-mod tests;
 
 pub use form::{Form, one_form, read_form};

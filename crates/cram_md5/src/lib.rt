@@ -21,8 +21,6 @@
 mod answer;
 mod digest;
 mod offer;
-#[cfg(test)]
-mod tests;
 
 pub use answer::{answer_text, check};
 pub use digest::hmac;

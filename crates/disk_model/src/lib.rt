@@ -22,8 +22,6 @@ mod answers;
 mod disk;
 mod example;
 mod name;
-#[cfg(test)]
-mod tests;
 mod yard;
 
 pub use answers::{Copied, Giving, Hit, ListFault, Made, Marking, Moved, OutStat};

@@ -24,8 +24,6 @@
 mod files;
 mod numbers;
 mod sets;
-#[cfg(test)]
-mod tests;
 mod turns;
 
 pub use files::FileIndex;

@@ -15,8 +15,6 @@
 mod answer;
 mod files;
 mod share;
-#[cfg(test)]
-mod tests;
 
 pub use answer::{Answer, answer_request};
 pub use share::Share;

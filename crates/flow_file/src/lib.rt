@@ -13,8 +13,6 @@
 
 mod item;
 mod reading;
-#[cfg(test)]
-mod tests;
 
 pub use item::FlowLine;
 pub use reading::read_flow;

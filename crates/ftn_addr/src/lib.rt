@@ -39,8 +39,6 @@ mod reading;
 mod refusals;
 mod same;
 mod source_file;
-#[cfg(test)]
-mod tests;
 mod word;
 mod writing;
 

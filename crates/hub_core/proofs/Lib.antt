@@ -28,7 +28,6 @@ pub mod LastDoes
 pub mod LeaveSteps
 pub mod Marking
 pub mod MoreDoes
-pub mod NewStores
 pub mod Nodes
 pub mod Numbers
 pub mod OfferSteps
@@ -36,7 +35,6 @@ pub mod OpenParts
 pub mod Opening
 pub mod Owning
 pub mod Putting
-pub mod QueuedStores
 pub mod ReadSteps
 pub mod Ready
 pub mod Receiving

@@ -30,12 +30,11 @@ mod offering;
 mod outgoing;
 mod parts;
 mod places;
+mod questions;
 mod seats;
 mod sending;
 mod skips;
 mod taking;
-#[cfg(test)]
-mod tests;
 
 pub use hub::{Hub, HubDesk};
 pub use node_model::{DataIn, Desk, DeskFault, FileIn, Knock, Offer};

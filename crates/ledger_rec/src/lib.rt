@@ -37,8 +37,6 @@ mod reading;
 mod record;
 mod rules;
 mod steps;
-#[cfg(test)]
-mod tests;
 mod waiting;
 mod writing;
 

@@ -25,8 +25,6 @@ mod laws;
 mod lines;
 mod nodes;
 mod reading;
-#[cfg(test)]
-mod tests;
 mod values;
 mod words;
 

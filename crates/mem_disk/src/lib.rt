@@ -29,8 +29,6 @@ mod outside_files;
 mod own_calls;
 mod own_files;
 mod stop;
-#[cfg(test)]
-mod tests;
 mod yard_calls;
 
 pub use disk::MemDisk;

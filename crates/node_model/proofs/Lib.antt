@@ -13,6 +13,7 @@ pub mod Marks
 pub mod Moves
 pub mod Offering
 pub mod OneReceipt
+pub mod QueuedSizes
 pub mod Queueing
 pub mod Rans
 pub mod ReceiptsAlong

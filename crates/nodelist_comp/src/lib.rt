@@ -20,8 +20,6 @@ mod flags;
 mod index;
 mod listing;
 mod node;
-#[cfg(test)]
-mod tests;
 
 pub use fault::{ListCause, ListTextFault};
 pub use index::index_bytes;

@@ -21,8 +21,6 @@ mod index;
 mod laws;
 mod nodes;
 mod search;
-#[cfg(test)]
-mod tests;
 
 pub use fault::IndexFault;
 pub use index::{Index, Route};

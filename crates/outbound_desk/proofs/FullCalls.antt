@@ -12,7 +12,7 @@ use Rattle.node_model.specs.Calls as C
 use Rattle.node_model.specs.SendRows.{NewFile, NextActed, Slot, answered_records, taken_records}
 use Rattle.node_model.specs.Stocks.{NewEntry, Sizes, entry_records, file_staged, slots_of}
 use Rattle.node_model.specs.Stores.{Shelf, Stored, StoreState, StoreStand, StoreAnswer, StoreCall, StoreDoes, StoreKept, StorePasses, Stage, Stage_copy, Queue_all, Act_next, Staged_as, Copied_as, Refuses, Before_it, Source_first, After_it, IsFull, IsShelf, queueing_records, stored_after, with_staged}
-use Rattle.list_store.proofs.Queueing.{slots-map}
+use Rattle.node_model.proofs.QueuedSizes.{slots-map}
 use Rattle.hub_core.specs.Hubs.{HubState, HubFits, node_with}
 use Rattle.hub_core.proofs.Keeping.{leaves_as}
 use Rattle.take_steps.specs.Steps.{KeepsState, Quiet, TakesIn}

@@ -13,7 +13,7 @@ use Rattle.node_model.specs.Stores.{Stored, StoreState, StoreDoes, Queue_all, Sl
 use Rattle.node_model.specs.StoreWords.{IsNewBatch, WasStaged}
 use Rattle.node_model.proofs.Distinct.{each_map}
 use Rattle.node_model.proofs.Lists.{Each-weaker, Each-without}
-use Rattle.list_store.proofs.Queueing.{all_queued-map, slots-map}
+use Rattle.node_model.proofs.QueuedSizes.{all_queued-map, slots-map}
 use Rattle.hub_core.specs.Hubs.{HubState, HubFits, node_with}
 use Rattle.outbound_desk.specs.TakenIn.{AreDrawn}
 use Rattle.outbound_desk.proofs.OneRow.{RowMade, option_twice, same_row}

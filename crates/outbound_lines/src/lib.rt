@@ -16,8 +16,6 @@
 mod counts;
 mod listing;
 mod taking;
-#[cfg(test)]
-mod tests;
 
 pub use listing::list_lines;
 pub use taking::{TookCounts, marked_line, took_line};

@@ -23,8 +23,6 @@
 mod files;
 mod place;
 mod set;
-#[cfg(test)]
-mod tests;
 
 pub use files::{OutboundFile, file_in, path_in};
 pub use place::{Place, place_in, place_of};

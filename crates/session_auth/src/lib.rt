@@ -31,8 +31,6 @@ mod saying;
 mod side;
 mod stage;
 mod steps;
-#[cfg(test)]
-mod tests;
 
 pub use auth::Auth;
 pub use laws::{

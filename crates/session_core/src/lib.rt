@@ -30,8 +30,6 @@ mod session;
 mod stage;
 mod tally;
 mod terms;
-#[cfg(test)]
-mod tests;
 
 pub use ending::{Cause, End, Gave, Took};
 pub use login::{Login, home_of, role_of};

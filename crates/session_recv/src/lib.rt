@@ -16,8 +16,6 @@
 mod holding;
 mod receiver;
 mod replying;
-#[cfg(test)]
-mod tests;
 
 pub use holding::{Held, Holding, Receiver};
 pub use receiver::RecvStep;

@@ -28,7 +28,5 @@ mod saying;
 mod sections;
 mod sender;
 mod sending;
-#[cfg(test)]
-mod tests;
 
 pub use sending::{SendStep, Sender, Sending};

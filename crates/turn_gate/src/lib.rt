@@ -28,8 +28,6 @@ mod pass;
 mod rule;
 mod seats;
 mod steps;
-#[cfg(test)]
-mod tests;
 mod view;
 
 pub use gate::Gate;

@@ -1,9 +1,0 @@
-use Rattle.std.proofs.Common.{subst}
-use Rattle.node_model.specs.Stores.{IsLive}
-use Rattle.list_store.specs.ListStates.{ListState, state_of}
-use Rattle.list_store.specs.contracts.list_store.ListStore.{the_view}
-use Rattle.list_store.proofs.Standing.{live_here}
-use Rattle.list_store.proofs.tests.is_live.Goals as goal
-
-pub returns-in-Some : goal.returns-in-Some
-returns-in-Some c = λ t. subst (λ (z : ListState). IsLive c.args.number (state_of z)) c.store.view_is (live_here (the_view c.store.inside) c.args.number c.in-Some.place c.index.result.now c.as_slice.result.now _ c.as_slice.ensures.value c.position_of_entry.ensures c.in-Some.is c.index.ensures (c.is_whole.ensures t))

@@ -1,0 +1,17 @@
+//! The program's calls and commands over a node's own folder in memory, for tests: a session with a peer whose bytes are given, a
+//! command without a session, and how the program ends. [`Ran`] is what came of one, and has the disk.
+//!
+//! ```
+//! let ran = answer(alloc, settled(alloc, text)?, said)?;
+//! let again = answer(alloc, reopened(disk_of(ran))?, said)?;
+//! ```
+//!
+//! Left out: what is put on the disk before and read from it then (`mem_node`).
+#![tactic(auto)]
+
+mod lines;
+mod ran;
+mod running;
+
+pub use ran::{Ran, disk_of};
+pub use running::{answer, answer_slowly, call_by, call_slowly, end_of, run};

@@ -1,0 +1,5 @@
+//! Tests of the disk in memory.
+#![tactic(auto)]
+
+#[cfg(test)]
+mod calls;

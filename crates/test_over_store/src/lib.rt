@@ -1,0 +1,5 @@
+//! Tests of a session over a store in memory.
+#![tactic(auto)]
+
+#[cfg(test)]
+mod over_store;

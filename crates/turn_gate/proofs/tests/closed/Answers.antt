@@ -1,5 +1,0 @@
-use Rattle.turn_gate.proofs.Orders.{in_order}
-use Rattle.turn_gate.proofs.tests.closed.Goals as goal
-
-pub close-requires : goal.close-requires
-close-requires g = record { all = in_order _ _ g.requires }
