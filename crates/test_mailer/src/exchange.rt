@@ -1,7 +1,7 @@
 //! Calls that send two files and take one, and calls that take the outbound of their peer in and send it.
 use crate::pieces::{are, joined};
 use command_base::Status;
-use ftn_addr::{Bytes, NoMemory};
+use ftn_addr::{Bytes, Failed, NoMemory};
 use mem_disk::MemDisk;
 use mem_mailer::{Ran, call_slowly, disk_of};
 use mem_node::{

@@ -1,4 +1,4 @@
-//! Tests of a real folder and the files of other programs, seen from the system as in `test_folder`: which of its calls each call
+//! Tests of a real folder and the files of other programs, seen from the system as in `test_own_calls`: which of its calls each call
 //! makes, and in which order.
 #![tactic(auto)]
 
