@@ -16,13 +16,13 @@ use std::rt::Files;
 pub enum Race {
     Nothing,
     /// A link to `../secret` stands under the path now.
-    Link(&'static str),
+    Link(Journal),
     /// A file of the text `raced` stands under the path now.
-    File(&'static str),
+    File(Journal),
     /// A folder stands under the path now.
-    Folder(&'static str),
+    Folder(Journal),
     /// Nothing stands under the path now.
-    Gone(&'static str),
+    Gone(Journal),
 }
 
 /// What was called.
@@ -162,21 +162,21 @@ impl<'a, R: Files> Watched<'a, R> {
     fn race(&self) -> io::Result<()> {
         match self.seen.race.get() {
             Race::Nothing => Ok(()),
-            Race::Gone(path) => self.rt.remove_file(path),
+            Race::Gone(path) => self.rt.remove_file(path.as_str()),
             Race::Link(path) => {
-                let _ = self.rt.remove_file(path);
-                self.rt.symlink("../secret", path)
+                let _ = self.rt.remove_file(path.as_str());
+                self.rt.symlink("../secret", path.as_str())
             }
             Race::Folder(path) => {
-                let _ = self.rt.remove_file(path);
-                self.rt.create_dir(path)
+                let _ = self.rt.remove_file(path.as_str());
+                self.rt.create_dir(path.as_str())
             }
             Race::File(path) => {
-                let _ = self.rt.remove_file(path);
+                let _ = self.rt.remove_file(path.as_str());
                 let mut file = OpenOptions::new()
                     .write(true)
                     .create(true)
-                    .open(&self.rt, path)?;
+                    .open(&self.rt, path.as_str())?;
                 file.write_all(b"raced")
             }
         }

@@ -5,7 +5,7 @@
 //! `test_files`, a runtime in front of the real one.
 //!
 //! Nothing names this crate. Its tests stand here, above all that they run through, and apart from those of the folder alone
-//! (`test_own_calls`), which are proved for longer and don't change with the store.
+//! (`test_folder`), which don't change with the store.
 #![tactic(auto)]
 
 #[cfg(test)]
