@@ -54,10 +54,7 @@ fn a_failing_read_leaves_the_ledger_byte_for_byte(rt: HostRuntime) -> Result<(),
     let ran = unanswered(alloc, two_files(alloc)?)?;
     assert!(rt; ran.told().ends_with(DATA));
     for call in 1..=ran.disk().calls() {
-        assert!(rt;
-            is_left(alloc, call, ledger.as_slice())?,
-            "at call {call}"
-        );
+        assert!(rt; is_left(alloc, call, ledger.as_slice())?, "at call {call}");
     }
     Ok(())
 }
