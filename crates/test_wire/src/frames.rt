@@ -1,103 +1,101 @@
-use binkp_frame::{Decoder, Frame, Head, head_of, put_frame};
-use ftn_addr::Bytes;
+//! Frames, read from a stream and written.
+ghost use Rattle.ftn_addr.specs.Frames.{CanSend};
+ghost use Rattle.binkp_frame.specs.Views.{frame_text};
+
+use crate::words::{bytes, shown};
+use anyhow::{Result, bail};
+use binkp_frame::{Decoder, Frame, head_of, put_frame};
+use ftn_addr::{Bytes, MAX_FRAME_DATA};
 use std::alloc::Global;
-use std::test::Fail;
+
+/// How many of the bytes that were written are printed.
+const FRONT: usize = 20;
+
+/// What a header of two bytes tells.
+pub fn head(alloc: Global, word: &str) -> Result<String> {
+    let header = bytes(alloc, word)?;
+    let [high, low] = header.as_slice() else {
+        bail!("no header");
+    };
+    let head = head_of([*high, *low]);
+    let kind = if head.command { "command" } else { "data" };
+    Ok(format!(in alloc; "{kind} of {} bytes", head.len)?)
+}
+
+fn push_frame(alloc: Global, frame: &Frame, text: &mut String) -> Result<()> {
+    let (kind, bytes) = match frame {
+        Frame::Command { number, args } => (format!(in alloc; "command {number}")?, args),
+        Frame::Data { bytes } => (String::from_str(alloc, "data")?, bytes),
+    };
+    let bytes = shown(alloc, bytes.as_slice())?;
+    let told = format!(in alloc; "{kind} \"{bytes}\", ")?;
+    text.push_str(told.as_str())?;
+    Ok(())
+}
+
+fn told(alloc: Global, frames: &[Frame], left: usize) -> Result<String> {
+    let mut text = String::new(alloc);
+    for frame in frames {
+        push_frame(alloc, frame, &mut text)?;
+    }
+    let left = format!(in alloc; "{left} left")?;
+    text.push_str(left.as_str())?;
+    Ok(text)
+}
 
 /// The frames of a stream that comes in these pieces, and the number of bytes left over.
-fn fed(alloc: Global, pieces: &[&[u8]]) -> Result<(Vec<Frame>, usize), Fail> {
+pub fn feed(alloc: Global, pieces: &[&str]) -> Result<String> {
     let mut decoder = Decoder::new(alloc);
-    let mut out = Vec::new(alloc);
+    let mut frames = Vec::new(alloc);
     for piece in pieces {
-        decoder.feed(alloc, piece, &mut out)?;
+        let piece = bytes(alloc, piece)?;
+        decoder.feed(alloc, piece.as_slice(), &mut frames)?;
     }
-    Ok((out, decoder.rest_len()))
+    told(alloc, frames.as_slice(), decoder.rest_len())
 }
 
-fn end_of_batch(alloc: Global) -> Frame {
-    Frame::Command {
-        number: 5,
-        args: Bytes::new(alloc),
+// Whether a stream that comes byte by byte is this frame, and the number of bytes left over.
+fn read_again(alloc: Global, stream: &[u8], frame: &Frame) -> Result<String> {
+    let mut decoder = Decoder::new(alloc);
+    let mut frames = Vec::new(alloc);
+    for byte in stream {
+        decoder.feed(alloc, &[*byte], &mut frames)?;
     }
+    let is_same = matches!(frames.as_slice(), [read] if *read == *frame);
+    let kind = if is_same { "the same" } else { "another" };
+    let left = decoder.rest_len();
+    Ok(format!(in alloc; "read as {kind}, {left} left")?)
 }
 
-#[test]
-fn header_cut_in_two_is_one_frame(rt: HostRuntime) -> Result<(), Fail> {
-    let (frames, rest) = fed(rt.alloc(), &[&[0x80]])?;
-    assert!(rt; frames.is_empty());
-    assert_eq!(rt; rest, 1);
-    let (frames, rest) = fed(rt.alloc(), &[&[0x80], &[1, 5]])?;
-    assert_eq!(rt; frames.as_slice(), [end_of_batch(rt.alloc())].as_slice());
-    assert_eq!(rt; rest, 0);
-    Ok(())
+// The front of what is written of a frame, its length, and what is read of it byte by byte.
+fn put(alloc: Global, frame: &Frame) -> Result<String>
+    requires { CanSend (frame_text frame.now) }
+{
+    let mut spelled = Bytes::new(alloc);
+    put_frame(frame, &mut spelled)?;
+    let stream = spelled.as_slice();
+    let front = shown(alloc, stream.get(..FRONT).unwrap_or(stream))?;
+    let again = read_again(alloc, stream, frame)?;
+    Ok(format!(in alloc; "\"{front}\" of {} bytes, {again}", stream.len())?)
 }
 
-#[test]
-fn empty_frames_stand_for_nothing(rt: HostRuntime) -> Result<(), Fail> {
-    let (frames, rest) = fed(rt.alloc(), &[&[0, 0, 0x80, 1, 5], &[0x80, 0, 0x80]])?;
-    assert_eq!(rt; frames.as_slice(), [end_of_batch(rt.alloc())].as_slice());
-    assert_eq!(rt; rest, 1);
-    let (frames, rest) = fed(rt.alloc(), &[&[0x80, 0, 0x80, 1, 5]])?;
-    assert_eq!(rt; frames.as_slice(), [end_of_batch(rt.alloc())].as_slice());
-    assert_eq!(rt; rest, 0);
-    Ok(())
-}
-
-#[test]
-fn head_tells_command_and_length(rt: HostRuntime) {
-    assert_eq!(rt;
-        head_of([0x80, 0x01]),
-        Head {
-            command: true,
-            len: 1
-        }
-    );
-    assert_eq!(rt;
-        head_of([0x7f, 0xff]),
-        Head {
-            command: false,
-            len: 32_767
-        }
-    );
-}
-
-#[test]
-fn address_frame_byte_by_byte_is_one_frame(rt: HostRuntime) -> Result<(), Fail> {
-    let frame = Frame::Command {
-        number: 1,
-        args: Bytes::from_slice(rt.alloc(), b"2:5047/13@fidonet")?,
-    };
-    let mut spelled = Bytes::new(rt.alloc());
-    put_frame(&frame, &mut spelled)?;
-    assert_eq!(rt;
-        spelled.as_slice(),
-        b"\x80\x12\x012:5047/13@fidonet".as_slice()
-    );
-    let mut decoder = Decoder::new(rt.alloc());
-    let mut out = Vec::new(rt.alloc());
-    for byte in spelled.as_slice() {
-        decoder.feed(rt.alloc(), &[*byte], &mut out)?;
+/// Writes a command's frame, and reads it again.
+pub fn put_command(alloc: Global, number: u8, args: &Bytes) -> Result<String> {
+    if args.len() >= MAX_FRAME_DATA {
+        bail!("too long an argument");
     }
-    assert_eq!(rt; out.as_slice(), [frame].as_slice());
-    assert_eq!(rt; decoder.rest_len(), 0);
-    Ok(())
+    let args = args.copy(alloc)?;
+    put(alloc, &Frame::Command { number, args })
 }
 
-#[test]
-fn longest_data_frame_byte_by_byte(rt: HostRuntime) -> Result<(), Fail> {
-    let mut bytes = Bytes::new(rt.alloc());
-    for _ in 0..7 {
-        bytes.push_slice(&[b'x'; 4_681])?;
+/// Writes a frame of so many bytes, and reads it again.
+pub fn put_data(alloc: Global, len: usize, byte: &str) -> Result<String> {
+    let mut bytes = Bytes::new(alloc);
+    for _ in 0..len {
+        bytes.push_slice(byte.as_bytes())?;
     }
-    assert_eq!(rt; bytes.len(), 32_767);
-    let frame = Frame::Data { bytes };
-    let mut spelled = Bytes::new(rt.alloc());
-    put_frame(&frame, &mut spelled)?;
-    assert_eq!(rt; spelled.as_slice().get(..3), Some(b"\x7f\xffx".as_slice()));
-    let mut decoder = Decoder::new(rt.alloc());
-    let mut out = Vec::new(rt.alloc());
-    for byte in spelled.as_slice() {
-        decoder.feed(rt.alloc(), &[*byte], &mut out)?;
+    if bytes.is_empty() || bytes.len() > MAX_FRAME_DATA {
+        bail!("no length of a frame");
     }
-    assert_eq!(rt; out.as_slice(), [frame].as_slice());
-    Ok(())
+    put(alloc, &Frame::Data { bytes })
 }
