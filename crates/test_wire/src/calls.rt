@@ -1,6 +1,8 @@
 //! The calls of the script, by their words.
 use crate::commands::{read, write};
 use crate::frames::{feed, head, put_command, put_data};
+use crate::lines::{play_failing, play_line, play_slow};
+use crate::stand_ins::{clock, dice, play_pipe, sink};
 use crate::words::{bytes, len, number, shown, word};
 use anyhow::{Result, bail};
 use binkp_args::escape;
@@ -28,9 +30,29 @@ fn written(alloc: Global, number: u8, args: &Bytes, out: &mut Bytes) -> Result<S
     shown(alloc, out.as_slice())
 }
 
+// A call of what stands in memory for a line and for what else a session has.
+fn stand_in(alloc: Global, words: &[&str]) -> Result<String> {
+    let steps = words.get(1..).unwrap_or(words);
+    let more = words.get(2..).unwrap_or(words);
+    match word(words, 0).as_bytes() {
+        b"line" => play_line(alloc, word(words, 1), more),
+        b"slow" => play_slow(alloc, word(words, 1), more),
+        b"failing" => play_failing(alloc, steps),
+        b"pipe" => play_pipe(alloc, steps),
+        b"sink" => sink(alloc, u64::from(number(words, 1)), more),
+        b"clock" => clock(
+            alloc,
+            u64::from(number(words, 1)),
+            u64::from(number(words, 2)),
+        ),
+        b"dice" => dice(alloc, number(words, 1), number(words, 2)),
+        _ => bail!("no such call"),
+    }
+}
+
 /// Makes the call of these words, of which a command's argument is what stands behind its number: what it answers.
 pub fn call(alloc: Global, words: &[&str], args: &Bytes, out: &mut Bytes) -> Result<String> {
-    let (more, number) = (words.get(1..).unwrap_or(words), number(words));
+    let (more, number) = (words.get(1..).unwrap_or(words), number(words, 1));
     match word(words, 0).as_bytes() {
         b"head" => head(alloc, word(words, 1)),
         b"feed" => feed(alloc, more),
@@ -40,6 +62,6 @@ pub fn call(alloc: Global, words: &[&str], args: &Bytes, out: &mut Bytes) -> Res
         b"unescape" => unescaped(alloc, word(words, 1)),
         b"read" => read(alloc, number, args),
         b"write" => written(alloc, number, args, out),
-        _ => bail!("no such call"),
+        _ => stand_in(alloc, words),
     }
 }

@@ -1,4 +1,4 @@
-//! Frames and the arguments of commands by script: each line of standard input is a call, and is printed with what came back.
+//! Frames, the arguments of commands, and what stands in memory for a line, by script: each line of standard input is a call, and is printed with what came back.
 //!
 //! ```text
 //! # An empty frame stands for nothing.   printed as it stands; what was written is forgotten
@@ -10,6 +10,12 @@
 //! unescape my\20file.txt                 the bytes that this word stands for
 //! read 3 a.txt 5 1000000000              the command of that number and argument, or its fault, at the node 2:5020/1042@fidonet
 //! write 6 a.txt 5 1000000000             writes that command behind what was written, and prints all of it
+//! line hello wait1 counts lo             steps on a line in memory: a waiting read of one byte, its counts, and `lo` is written
+//! slow hello lo                          the same on one whose writes are quiet, fail, and take three bytes
+//! failing wait                           the same on one whose read fails
+//! pipe hello carry far:read              steps on a line of two ends
+//! sink 2 a b                             a sink whose second call fails
+//! clock 5 3                              a clock of two moments, asked three times; `dice` the same
 //! ```
 //!
 //! A `\x` and two digits are a byte, in the words of a call but `unescape`, and in what is printed. There a `\` is `\x5c`.
@@ -18,6 +24,8 @@
 mod calls;
 mod commands;
 mod frames;
+mod lines;
+mod stand_ins;
 mod words;
 
 use anyhow::Result;

@@ -26,9 +26,9 @@ pub fn behind(text: &str) -> &str {
     }
 }
 
-/// The number of a command, which is the second word.
-pub fn number(words: &[&str]) -> u8 {
-    word(words, 1).parse::<u8>().unwrap_or(0)
+/// The number at a place.
+pub fn number(words: &[&str], place: usize) -> u8 {
+    word(words, place).parse::<u8>().unwrap_or(0)
 }
 
 /// The length of a frame, which is the second word.

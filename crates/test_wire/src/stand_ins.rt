@@ -1,0 +1,78 @@
+//! The two ends of a line in memory, a sink, a clock and dice.
+ghost use Rattle.std.specs.Prelude.{◌≡◌, false};
+
+use crate::lines::{push, step};
+use crate::words::{bytes, shown};
+use anyhow::Result;
+use binkp_link::{Clock, Dice, MemClock, MemDice, MemPipe, MemSink, Sink};
+use std::alloc::Global;
+
+fn carry(alloc: Global, near: &mut MemPipe, far: &mut MemPipe, most: u64) -> Result<String>
+    requires near { near.old.line.closed ≡ false }
+    requires far { far.old.line.closed ≡ false }
+    ensures near { near.new.line.closed ≡ false }
+    ensures far { far.new.line.closed ≡ false }
+{
+    let answer = near.carry(far, most);
+    Ok(format!(in alloc; "{answer:?}")?)
+}
+
+fn pipe_step(alloc: Global, near: &mut MemPipe, far: &mut MemPipe, word: &str) -> Result<String>
+    requires near { near.old.line.closed ≡ false }
+    requires far { far.old.line.closed ≡ false }
+    ensures near { near.new.line.closed ≡ false }
+    ensures far { far.new.line.closed ≡ false }
+{
+    if let Some(word) = word.strip_prefix("far:") {
+        return step(alloc, far, word);
+    }
+    match word.as_bytes() {
+        b"carry" => carry(alloc, near, far, u64::MAX),
+        b"carry4" => carry(alloc, near, far, 4),
+        b"cut" => {
+            near.cut();
+            far.cut();
+            Ok(String::from_str(alloc, "cut")?)
+        }
+        _ => step(alloc, near, word),
+    }
+}
+
+/// Steps on a line of two ends: at the near one, at the far one, and what carries bytes to it or cuts both.
+pub fn play_pipe(alloc: Global, steps: &[&str]) -> Result<String> {
+    let (mut near, mut far) = (MemPipe::new(alloc), MemPipe::new(alloc));
+    let mut text = String::new(alloc);
+    for word in steps {
+        let answer = pipe_step(alloc, &mut near, &mut far, word)?;
+        push(&mut text, &answer)?;
+    }
+    Ok(text)
+}
+
+/// Puts these words into a sink, of whose calls that one fails.
+pub fn sink(alloc: Global, fails: u64, words: &[&str]) -> Result<String> {
+    let mut sink = MemSink::new(alloc, vec![in alloc; fails]?);
+    let mut text = String::new(alloc);
+    for word in words {
+        let piece = bytes(alloc, word)?;
+        let answer = sink.put(piece.as_slice());
+        let answer = format!(in alloc; "{answer:?}")?;
+        push(&mut text, &answer)?;
+    }
+    let written = shown(alloc, sink.written())?;
+    Ok(format!(in alloc; "{text}, written \"{written}\", {} faults", sink.faults())?)
+}
+
+/// What a clock of two moments tells three times.
+pub fn clock(alloc: Global, first: u64, second: u64) -> Result<String> {
+    let mut clock = MemClock::new(vec![in alloc; first, second]?);
+    let (one, two, three) = (clock.now(), clock.now(), clock.now());
+    Ok(format!(in alloc; "{one} {two} {three}")?)
+}
+
+/// What dice of two items give three times: sixteen bytes that are one, and sixteen that are another.
+pub fn dice(alloc: Global, first: u8, second: u8) -> Result<String> {
+    let mut dice = MemDice::new(vec![in alloc; [first; 16], [second; 16]]?);
+    let (one, two, three) = (dice.sixteen(), dice.sixteen(), dice.sixteen());
+    Ok(format!(in alloc; "{one:?} {two:?} {three:?}")?)
+}
