@@ -12,7 +12,7 @@
 //! let mut pair = Pair::new(Node::new(alloc, 1)?, Node::new(alloc, 2)?);
 //! pair.queue_near(alloc, 2, &[Offered(1, 4097)])?;
 //! pair.call(alloc, u64::MAX)?;
-//! let came = pair.came();                      // one file sent, and one received
+//! let report = pair.called();                  // one file sent, at the near node
 //! ```
 //!
 //! Their fields are closed, so that a test that holds one pays nothing for these.
@@ -44,4 +44,4 @@ pub use offered::{Offered, address, side_of};
 pub use pair::{Cut, Pair};
 pub use peer::Peer;
 pub use talking::talk;
-pub use word::Word;
+pub use word::{Word, bytes_of};

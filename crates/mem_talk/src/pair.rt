@@ -12,7 +12,7 @@ use crate::talking::talk;
 use ftn_addr::NoMemory;
 use mem_store::ListStore;
 use node_model::StoreFault;
-use session_core::{End, Side};
+use session_core::Side;
 use session_run::Report;
 use std::alloc::Global;
 use std::marker::Model;
@@ -89,27 +89,19 @@ impl Pair {
         Ok(self.ends.is_some())
     }
 
-    /// What came of the last call, at the near node and at the far one.
-    pub fn came(&self) -> Option<[Came; 2]> {
+    /// What is told of the last call at the near node, where that ended at both.
+    pub fn called(&self) -> Option<&Report> {
         match &self.ends {
-            Some(ends) => Some([Came::of(&ends.called), Came::of(&ends.answered)]),
+            Some(ends) => Some(&ends.called),
             None => None,
         }
     }
 
-    /// Whether the last call finished at both nodes.
-    pub fn has_finished(&self) -> bool {
+    /// The same at the far node.
+    pub fn answered(&self) -> Option<&Report> {
         match &self.ends {
-            Some(ends) => ends.called.end == End::Finished && ends.answered.end == End::Finished,
-            None => false,
-        }
-    }
-
-    /// Whether the last call ended so, at the near node and at the far one.
-    pub fn has_ended(&self, called: &End, answered: &End) -> bool {
-        match &self.ends {
-            Some(ends) => ends.called.end == *called && ends.answered.end == *answered,
-            None => false,
+            Some(ends) => Some(&ends.answered),
+            None => None,
         }
     }
 

@@ -1,7 +1,6 @@
 //! A peer that says what a test tells it to say.
 ghost use Rattle.std.specs.Prelude.{◌≡◌, false};
 
-use crate::came::Came;
 use crate::half::Half;
 use crate::node::Node;
 use crate::offered::side_of;
@@ -9,7 +8,6 @@ use crate::word::{Word, bytes_of};
 use binkp_link::{Line, MemPipe, ReadAnswer, WriteAnswer};
 use ftn_addr::{Bytes, NoMemory};
 use mem_store::ListStore;
-use session_core::End;
 use session_run::Report;
 use std::alloc::Global;
 use std::marker::Model;
@@ -75,30 +73,6 @@ impl Peer {
         Ok(())
     }
 
-    /// The same as `say`, whether what it hears are these words and no others.
-    pub fn hears(
-        &mut self,
-        alloc: Global,
-        words: &[Word<'_>],
-        turns: u32,
-        all: &[Word<'_>],
-    ) -> Result<bool, NoMemory> {
-        let heard = self.say(alloc, words, turns)?;
-        is_equal(alloc, &heard, all)
-    }
-
-    /// The same as `say`, whether what it hears ends with these words.
-    pub fn hears_last(
-        &mut self,
-        alloc: Global,
-        words: &[Word<'_>],
-        turns: u32,
-        last: &[Word<'_>],
-    ) -> Result<bool, NoMemory> {
-        let heard = self.say(alloc, words, turns)?;
-        ends_with(alloc, &heard, last)
-    }
-
     /// Ends the line, and lets the session make so many turns.
     pub fn cut(&mut self, alloc: Global, turns: u32) {
         self.half.cut_if(true);
@@ -110,19 +84,6 @@ impl Peer {
     /// What is told of the session, where that is over.
     pub fn report(&self) -> Option<&Report> {
         self.half.report()
-    }
-
-    /// What came of the session, where that is over.
-    pub fn came(&self) -> Option<Came> {
-        self.half.report().map(|report| Came::of(report))
-    }
-
-    /// Whether the session is over and ended so.
-    pub fn has_ended(&self, end: &End) -> bool {
-        match self.half.report() {
-            Some(report) => report.end == *end,
-            None => false,
-        }
     }
 
     /// What the node keeps.
@@ -168,16 +129,6 @@ impl Peer {
             ReadAnswer::Failed => Ok(()),
         }
     }
-}
-
-fn is_equal(alloc: Global, heard: &Bytes, words: &[Word<'_>]) -> Result<bool, NoMemory> {
-    let bytes = bytes_of(alloc, words)?;
-    Ok(heard.as_slice() == bytes.as_slice())
-}
-
-fn ends_with(alloc: Global, heard: &Bytes, words: &[Word<'_>]) -> Result<bool, NoMemory> {
-    let bytes = bytes_of(alloc, words)?;
-    Ok(heard.as_slice().ends_with(bytes.as_slice()))
 }
 
 fn write(pipe: &mut MemPipe, bytes: &[u8]) -> Result<(), NoMemory>

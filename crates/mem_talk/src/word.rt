@@ -22,8 +22,6 @@ pub enum Word<'a> {
     Get(Offered, u64),
     /// M_GOT of that file.
     Got(Offered),
-    /// M_GOT of each of these.
-    GotEach(&'a [Offered]),
     /// M_EOB.
     End,
     /// A command of that number and text, of at most 255 bytes together.
@@ -49,7 +47,6 @@ fn put(alloc: Global, word: Word<'_>, bytes: &mut Bytes) -> Result<(), NoMemory>
         Word::Block(file, place) => put_block(alloc, file, place, bytes),
         Word::Get(file, place) => put_get(alloc, file, place, bytes),
         Word::Got(file) => put_got(alloc, file, bytes),
-        Word::GotEach(files) => put_got_each(alloc, files, bytes),
         Word::End => write_command(alloc, &Command::Eob, bytes),
         Word::Command(number, text) => put_command(number, text, bytes),
         Word::Data(data) => put_data(data, bytes),
@@ -79,13 +76,6 @@ fn put_got(alloc: Global, file: Offered, bytes: &mut Bytes) -> Result<(), NoMemo
     let key = file.key(alloc)?;
     fits_a_frame();
     write_command(alloc, &Command::Got(key), bytes)
-}
-
-fn put_got_each(alloc: Global, files: &[Offered], bytes: &mut Bytes) -> Result<(), NoMemory> {
-    for file in files {
-        put_got(alloc, *file, bytes)?;
-    }
-    Ok(())
 }
 
 fn put_command(number: u8, text: &[u8], bytes: &mut Bytes) -> Result<(), NoMemory> {

@@ -1,0 +1,135 @@
+//! What two nodes do with one another.
+use crate::shown::{ended_text, records_text, report_text};
+use crate::words::{file, files, halves, node_number, number, rest, word, words_of};
+use anyhow::Result;
+use mem_talk::{Came, Cut, Pair, Plan};
+use std::alloc::Global;
+
+// What came of the last call, at the near node and at the far one.
+fn reports(alloc: Global, pair: &Pair) -> Result<String> {
+    let near = report_text(alloc, pair.called())?;
+    let far = report_text(alloc, pair.answered())?;
+    Ok(format!(in alloc; "{near}; {far}")?)
+}
+
+// How the last call ended, at the near node and at the far one.
+fn both_end(alloc: Global, pair: &Pair) -> Result<String> {
+    let near = ended_text(alloc, pair.called())?;
+    let far = ended_text(alloc, pair.answered())?;
+    Ok(format!(in alloc; "{near}; {far}")?)
+}
+
+// What came of one of two sessions that crossed.
+fn came_text(alloc: Global, came: Option<Came>) -> Result<String> {
+    Ok(match came {
+        Some(came) => {
+            let end = if came.finished {
+                "Finished"
+            } else {
+                "broken off"
+            };
+            format!(in alloc;
+                "{end}, {} sent, {} received, {} skipped",
+                came.sent, came.received, came.skipped
+            )?
+        }
+        None => String::from_str(alloc, "goes on")?,
+    })
+}
+
+fn both_text(alloc: Global, came: [Option<Came>; 2]) -> Result<String> {
+    let [first, second] = came;
+    let first = came_text(alloc, first)?;
+    let second = came_text(alloc, second)?;
+    Ok(format!(in alloc; "{first}; {second}")?)
+}
+
+// The near node calls the far one, and that one calls it under another address. The first session is cut where `cut` is said.
+fn cross(alloc: Global, pair: &mut Pair, words: &[&str]) -> Result<String> {
+    let (home, far) = (node_number(words, 1)?, node_number(words, 2)?);
+    let (other, cut) = (node_number(words, 3)?, word(words, 4) == "cut");
+    let plan = |home, calls| Plan { home, calls };
+    let near_plans = [plan(home, Some(far)), plan(home, None)];
+    let far_plans = [plan(far, None), plan(other, Some(home))];
+    let cut = if cut { Cut::First } else { Cut::Neither };
+    let [at_near, at_far] = pair.cross(alloc, near_plans, far_plans, cut)?;
+    let near_text = both_text(alloc, at_near)?;
+    let far_text = both_text(alloc, at_far)?;
+    Ok(format!(in alloc; "{near_text} / {far_text}")?)
+}
+
+// Whether each node has received these files of the other, each once and whole, and no others.
+fn both(alloc: Global, pair: &Pair, text: &str) -> Result<String> {
+    let (near, far) = halves(text);
+    let near = files(alloc, near)?;
+    let far = files(alloc, far)?;
+    let has = pair.has_each(alloc, near.as_slice(), far.as_slice())?;
+    Ok(format!(in alloc; "{has}")?)
+}
+
+// The same of the far node alone.
+fn far_has(alloc: Global, pair: &Pair, text: &str) -> Result<String> {
+    let files = files(alloc, text)?;
+    let has = pair.far_has_each(alloc, files.as_slice())?;
+    Ok(format!(in alloc; "{has}")?)
+}
+
+fn stores(alloc: Global, pair: &Pair) -> Result<String> {
+    let (live, received, refused) = (pair.live(), pair.received(), pair.refused());
+    Ok(format!(in alloc; "{live:?} left, {received:?} received, {refused:?} refused")?)
+}
+
+fn ask(alloc: Global, pair: &Pair, line: &str, words: &[&str]) -> Result<Option<String>> {
+    Ok(Some(match word(words, 0).as_bytes() {
+        b"reports" => reports(alloc, pair)?,
+        b"both_end" => both_end(alloc, pair)?,
+        b"stores" => stores(alloc, pair)?,
+        b"both" => both(alloc, pair, rest(line))?,
+        b"far_has" => far_has(alloc, pair, rest(line))?,
+        b"far_keeps" => { format!(in alloc; "{}", pair.far_keeps(alloc, file(word(words, 1))?)?)? }
+        b"far_records" => records_text(alloc, pair.far_store())?,
+        b"secure" => format!(in alloc; "{:?}", pair.is_secure())?,
+        _ => return Ok(None),
+    }))
+}
+
+// What only changes a node, where it is that.
+fn prepares(alloc: Global, pair: &mut Pair, line: &str, words: &[&str]) -> Result<bool> {
+    let files = || files(alloc, rest(rest(line)));
+    match word(words, 0).as_bytes() {
+        b"queue_near" => pair.queue_near(alloc, node_number(words, 1)?, files()?.as_slice())?,
+        b"queue_far" => pair.queue_far(alloc, node_number(words, 1)?, files()?.as_slice())?,
+        b"rename_far" => pair.rename_far(alloc, node_number(words, 1)?)?,
+        _ => return Ok(false),
+    }
+    Ok(true)
+}
+
+// A call whose line is cut behind so many bytes, or never. Whether both sessions ended.
+fn call(alloc: Global, pair: &mut Pair, words: &[&str], n: u64) -> Result<String> {
+    let most = if word(words, 1).is_empty() {
+        u64::MAX
+    } else {
+        number(words, 1, n)?
+    };
+    let ended = if pair.call(alloc, most)? {
+        "ended"
+    } else {
+        "goes on"
+    };
+    Ok(String::from_str(alloc, ended)?)
+}
+
+/// What the call of two nodes of this line comes to, empty where it tells nothing; none where it is none.
+pub fn pair_call(alloc: Global, pair: &mut Pair, line: &str, n: u64) -> Result<Option<String>> {
+    let words = words_of(alloc, line)?;
+    let words = words.as_slice();
+    if prepares(alloc, pair, line, words)? {
+        return Ok(Some(String::new(alloc)));
+    }
+    Ok(Some(match word(words, 0).as_bytes() {
+        b"call" => call(alloc, pair, words, n)?,
+        b"cross" => cross(alloc, pair, words)?,
+        _ => return ask(alloc, pair, line, words),
+    }))
+}
