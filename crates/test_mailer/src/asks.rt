@@ -1,0 +1,176 @@
+//! What is asked of the disk behind a call, and of what was told.
+//!
+//! ```text
+//! calls, syncs, faults                 the calls of the disk, how many were syncs, and how many failed
+//! files, names FOLDER                  the names of the own files, and of those in an outside folder
+//! size PATH                            the size of an outside file
+//! show PATH                            its bytes, of which a copy is left in the own folder
+//! read NAME                            the bytes of an own file
+//! keep, kept                           whether the own files are as they were at `keep`; of one, `keep NAME` and `kept NAME`
+//! status                               the status of the last call
+//! fault                                whether nothing was told, or at last a disk fault
+//! heard PIECE..                        whether that was told
+//! woven ONE PIECE..                    whether the pieces were told, with ONE anywhere behind the first
+//! report                               the line of a session
+//! memory                               how the program ends where there is no memory for its words
+//! ```
+use crate::calls::end_for_memory;
+use crate::stage::Stage;
+use crate::texts::{Texts, push_bytes};
+use crate::words::{word, words_from};
+use binkp_mailer::push_session;
+use disk_model::Disk;
+use ftn_addr::{Addr, Bytes, Failed};
+use mem_disk::MemDisk;
+use mem_node::{files_of, names_in, outside_file, own_file, size_at};
+use session_core::{Cause, End};
+use session_run::Report;
+use std::alloc::Global;
+use std::test::Fail;
+
+const DISK_FAULT: &[u8] = b"\x80\x0b\x07disk fault";
+
+fn is_or_not(is_so: bool) -> &'static str {
+    if is_so { " yes" } else { " no" }
+}
+
+/// The names and bytes of the own files, or of the one of that name.
+pub fn own_bytes(alloc: Global, disk: &mut MemDisk, only: &str) -> Result<Bytes, Fail> {
+    let mut all = Bytes::new(alloc);
+    for name in &files_of(disk)? {
+        if !only.is_empty() && name.as_slice() != only.as_bytes() {
+            continue;
+        }
+        all.push_slice(name.as_slice())?;
+        let bytes = own_file(alloc, disk, name.as_slice())?.ok_or(Failed)?;
+        all.push_number(alloc, bytes.len() as u64)?;
+        all.push_slice(b" ")?;
+        all.push_slice(bytes.as_slice())?;
+    }
+    Ok(all)
+}
+
+fn files(alloc: Global, disk: &mut MemDisk) -> Result<String, Fail> {
+    let mut text = String::new(alloc);
+    for name in &files_of(disk)? {
+        text.push_str(" ")?;
+        push_bytes(alloc, name.as_slice(), &mut text)?;
+    }
+    Ok(text)
+}
+
+fn names(alloc: Global, disk: &mut MemDisk, folder: &str) -> Result<String, Fail> {
+    let mut text = String::new(alloc);
+    for name in &names_in(alloc, disk, folder.as_bytes())? {
+        text.push_str(" ")?;
+        push_bytes(alloc, name.as_slice(), &mut text)?;
+    }
+    Ok(text)
+}
+
+// The bytes of a file.
+fn shown(alloc: Global, file: Option<Vec<u8>>) -> Result<String, Fail> {
+    let Some(bytes) = file else {
+        return Ok(String::from_str(alloc, " none")?);
+    };
+    if bytes.is_empty() {
+        return Ok(String::from_str(alloc, " empty")?);
+    }
+    let mut text = String::from_str(alloc, " ")?;
+    push_bytes(alloc, bytes.as_slice(), &mut text)?;
+    Ok(text)
+}
+
+fn size(alloc: Global, disk: &mut MemDisk, path: &str) -> Result<String, Fail> {
+    let size = size_at(alloc, disk, path.as_bytes())?;
+    Ok(format!(in alloc; " {size:?}")?)
+}
+
+fn ask_disk(alloc: Global, disk: &mut MemDisk, words: &[&str]) -> Result<Option<String>, Fail> {
+    let path = word(words, 1);
+    Ok(Some(match word(words, 0).as_bytes() {
+        b"calls" => format!(in alloc; " {}", disk.calls())?,
+        b"syncs" => format!(in alloc; " {}", disk.syncs())?,
+        b"faults" => format!(in alloc; " {}", disk.faults())?,
+        b"files" => files(alloc, disk)?,
+        b"names" => names(alloc, disk, path)?,
+        b"size" => size(alloc, disk, path)?,
+        b"show" => shown(alloc, outside_file(alloc, disk, path.as_bytes())?)?,
+        b"read" => shown(alloc, own_file(alloc, disk, path.as_bytes())?)?,
+        _ => return Ok(None),
+    }))
+}
+
+// Whether nothing was told, or a disk fault at last.
+fn is_fault(told: &[u8]) -> bool {
+    told.is_empty() || told.ends_with(DISK_FAULT)
+}
+
+fn is_heard(texts: &Texts, told: &[u8], words: &[&str]) -> Result<bool, Fail> {
+    let all = texts.joined(words)?;
+    Ok(all.as_slice() == told)
+}
+
+// Whether the words but the first were told, with the first anywhere behind the second.
+fn is_woven(texts: &Texts, told: &[u8], words: &[&str]) -> Result<bool, Fail> {
+    let one = texts.piece(word(words, 0))?;
+    for place in 2..=words.len() {
+        let mut all = texts.joined(words.get(1..place).unwrap_or(words))?;
+        all.push_slice(one.as_slice())?;
+        all.push_slice(texts.joined(words_from(words, place))?.as_slice())?;
+        if all.as_slice() == told {
+            return Ok(true);
+        }
+    }
+    Ok(false)
+}
+
+// The line of a session.
+fn report(alloc: Global) -> Result<String, Fail> {
+    let peer = Addr {
+        zone: 2,
+        net: 5020,
+        node: 7,
+        point: 3,
+        domain: Bytes::from_slice(alloc, b"fidonet")?,
+    };
+    let report = Report {
+        session: 4,
+        peer: Some(peer),
+        sent: 1,
+        received: 20,
+        skipped: 300,
+        taken: 5,
+        wrote: 6,
+        end: End::Broke(Cause::Late, 9),
+    };
+    let mut line = Bytes::new(alloc);
+    push_session(alloc, &report, &mut line)?;
+    let mut text = String::from_str(alloc, " ")?;
+    push_bytes(alloc, line.as_slice(), &mut text)?;
+    Ok(text)
+}
+
+/// What the question of these words answers.
+pub fn ask(stage: &mut Stage, words: &[&str]) -> Result<String, Fail> {
+    let alloc = stage.alloc;
+    if let Some(answer) = ask_disk(alloc, &mut stage.disk, words)? {
+        return Ok(answer);
+    }
+    let is_so = match word(words, 0).as_bytes() {
+        b"kept" => own_bytes(alloc, &mut stage.disk, word(words, 1))?.as_slice()
+            == stage.kept.as_slice(),
+        b"fault" => is_fault(stage.told.as_slice()),
+        b"heard" => is_heard(&stage.texts, stage.told.as_slice(), words_from(words, 1))?,
+        b"woven" => is_woven(&stage.texts, stage.told.as_slice(), words_from(words, 1))?,
+        b"status" => {
+            let mut text = String::from_str(alloc, " ")?;
+            push_bytes(alloc, stage.status.as_slice(), &mut text)?;
+            return Ok(text);
+        }
+        b"report" => return report(alloc),
+        b"memory" => return end_for_memory(alloc),
+        _ => return Err(Failed.into()),
+    };
+    Ok(String::from_str(alloc, is_or_not(is_so))?)
+}

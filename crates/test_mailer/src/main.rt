@@ -1,0 +1,100 @@
+//! The program's calls over a disk in memory, by script: each line of standard input is a call of the program, or what is done to
+//! the disk before it or asked behind it. A line is printed for each with what came back.
+//!
+//! ```text
+//! # A file is received.                printed as it stands
+//! let LOGIN \x80\x12\x012:5047/13@..   a text by name: what is told is printed by the names of its texts, in turn
+//! let CALL $LOGIN $OFFER $END          a text of texts
+//! new $ADDRESS                         an empty disk, with these settings
+//! settings $ADDRESS                    other settings in place of its own
+//! long 99                              settings of an address and a comment, of so many bytes
+//! own NAME BYTES, gone NAME            an own file is put, or removed
+//! out PATH BYTES                       a file of another program comes
+//! queue 13 one 1                       a file is queued for 2:5047/13: prints `queue 13 one 1: New(1)`
+//! source PATH delete                   that file is queued for 2:5047/13, to be left, deleted or cut then
+//! act, acts                            what the store answers that is to act on the next source, or whether it does
+//! ends WORD..                          how the program ends with these words, over a line on which nothing comes
+//! fail 3                               the third call of the disk in the next call of the program fails
+//! answer < $LOGIN $OFFER $END          the call of these words, with a peer that says all that at once:
+//!                                      prints `answer < ..: Done $GREETING $WELCOME`
+//! call 2:5047/13 << $LOGIN $END        with a peer that says one piece after another
+//! ~answer < $LOGIN                     prints nothing
+//! if $GOT LINE, else LINE              the line is played where what was told ends so, or where it didn't
+//! ```
+//!
+//! Each call of the program begins over the disk as a stop leaves it, at which nothing unsynced lasts; `reopen` does that alone.
+//! `asks.rt` has what may be asked.
+//!
+//! Between the lines `prepare` and `ready` stands what is done anew before each trial, of which there are four kinds. The lines
+//! behind each, to the line `end`, are played over what it leaves. What they print is printed once, and again with the place where it
+//! differs from the first.
+//!
+//! ```text
+//! stops CALL                           CALL is stopped behind each number of its disk's calls, at each pick of an image
+//! leaves CALL                          CALL is stopped behind all of them, at each pick
+//! fails CALL                           each call of CALL's disk fails in its turn
+//! breaks CALL                          each call of CALL's disk fails in its turn, and behind CALL the disk is stopped, at each pick
+//! ```
+#![tactic(auto)]
+
+mod asks;
+mod calls;
+mod made;
+mod stage;
+mod texts;
+mod trials;
+mod words;
+
+use stage::Stage;
+use std::io;
+use std::test::Fail;
+use trials::{Trial, is_trial};
+
+// The lines from one place to another; none where there are no such places.
+fn between<'l, 't>(lines: &'l [&'t str], first: usize, last: usize) -> &'l [&'t str] {
+    lines.get(first..last).unwrap_or(&lines[..0])
+}
+
+// Plays a line, or the trial that begins so, and prints what it says.
+fn play(rt: HostRuntime, stage: &mut Stage, trial: &Trial<'_>) -> Result<(), Fail> {
+    let played = if is_trial(trial.line) {
+        trial.all(stage)
+    } else {
+        stage.play(trial.line)
+    };
+    let _ = print!(rt; "{}", stage.take_said());
+    played
+}
+
+// Plays all lines over one stage.
+fn play_all(rt: HostRuntime, lines: &[&str]) -> Result<(), Fail> {
+    let mut stage = Box::new(rt.alloc(), Stage::new(rt.alloc()))?;
+    let (mut first, mut last, mut head) = (0, 0, None);
+    for (place, line) in lines.iter().enumerate() {
+        match line.as_bytes() {
+            b"prepare" => first = place.saturating_add(1),
+            b"ready" => last = place,
+            _ if is_trial(line) => head = Some(place),
+            _ if head.is_some() && *line != "end" => {}
+            _ => {
+                let start = head.take().unwrap_or(place);
+                let trial = Trial {
+                    line: lines.get(start).copied().unwrap_or(""),
+                    prepared: between(lines, first, last),
+                    then: between(lines, start.saturating_add(1), place),
+                };
+                play(rt, &mut stage, &trial)?;
+            }
+        }
+    }
+    Ok(())
+}
+
+fn main(rt: HostRuntime) -> Result<(), Fail> {
+    let text = io::read_to_string(rt.alloc(), rt.reader())?;
+    let mut lines = Vec::new(rt.alloc());
+    for line in text.lines() {
+        lines.push(line)?;
+    }
+    play_all(rt, lines.as_slice())
+}

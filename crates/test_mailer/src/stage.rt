@@ -1,0 +1,175 @@
+//! The disk that a script plays over, and what was told.
+use crate::asks::{ask, own_bytes};
+use crate::calls::{act, call, is_acting, saying_at};
+use crate::made::{is_making, made};
+use crate::texts::{Texts, push_bytes};
+use crate::words::{number, word, words_from, words_of};
+use command_base::{Status, push_status};
+use ftn_addr::{Bytes, Failed, NoMemory};
+use mem_disk::MemDisk;
+use mem_mailer::{Ran, disk_of};
+use mem_node::{Resting, reopened};
+use std::alloc::{AllocError, Global};
+use std::mem;
+use std::test::Fail;
+
+#[derive(Drop)]
+pub struct Stage {
+    pub alloc: Global,
+    pub texts: Texts,
+    /// The disk behind the last call.
+    pub disk: MemDisk,
+    /// Which call of the disk is to fail next; 0 where none is.
+    pub failing: u64,
+    /// What came of the last call, and what was told.
+    pub status: Bytes,
+    pub told: Bytes,
+    /// Whether what was told ended as the last `if` asked.
+    is_so: bool,
+    /// The own files that were kept, with their bytes.
+    pub kept: Bytes,
+    /// What is to be printed.
+    said: String,
+}
+
+// The line of a status, without its end; `Done` where it has none.
+fn status_line(alloc: Global, status: &Status) -> Result<Bytes, Fail> {
+    if *status == Status::Done {
+        return Ok(Bytes::from_slice(alloc, b"Done")?);
+    }
+    let mut line = Bytes::new(alloc);
+    push_status(alloc, status, &mut line)?;
+    let text = line.as_slice();
+    Ok(Bytes::from_slice(alloc, text.strip_suffix(b"\n").unwrap_or(text))?)
+}
+
+impl Stage {
+    /// An empty disk, and no text.
+    pub fn new(alloc: Global) -> Stage {
+        Stage {
+            alloc,
+            texts: Texts::new(alloc),
+            disk: MemDisk::new(alloc),
+            failing: 0,
+            status: Bytes::new(alloc),
+            told: Bytes::new(alloc),
+            is_so: false,
+            kept: Bytes::new(alloc),
+            said: String::new(alloc),
+        }
+    }
+
+    /// What is to be printed, which is nothing then.
+    pub fn take_said(&mut self) -> String {
+        mem::replace(&mut self.said, String::new(self.alloc))
+    }
+
+    /// The disk, in whose place an empty one comes.
+    pub fn take_disk(&mut self) -> MemDisk {
+        mem::replace(&mut self.disk, MemDisk::new(self.alloc))
+    }
+
+    /// The disk as a stop leaves it, of which a call may be to fail.
+    pub fn take_rest(&mut self) -> Result<Resting, NoMemory> {
+        let rest = reopened(self.take_disk())?;
+        let failing = mem::replace(&mut self.failing, 0);
+        if failing == 0 {
+            Ok(rest)
+        } else {
+            rest.failing_at(failing)
+        }
+    }
+
+    /// Keeps what came of a call.
+    pub fn keep_ran(&mut self, ran: Box<Ran>) -> Result<(), Fail> {
+        self.status = status_line(self.alloc, ran.status())?;
+        self.told = Bytes::from_slice(self.alloc, ran.told())?;
+        self.disk = disk_of(ran);
+        Ok(())
+    }
+
+    /// Prints a line.
+    pub fn say(&mut self, line: &str) -> Result<(), AllocError> {
+        self.said.push_str(line)?;
+        self.said.push_str("\n")
+    }
+
+    // The line that is played of one that may have a condition.
+    fn chosen<'l>(&mut self, line: &'l str) -> Result<&'l str, Fail> {
+        if let Some(rest) = line.strip_prefix("else ") {
+            return Ok(if self.is_so { "" } else { rest });
+        }
+        let Some(rest) = line.strip_prefix("if ") else {
+            return Ok(line);
+        };
+        let (end, rest) = rest.split_once(' ').ok_or(Failed)?;
+        let end = self.texts.piece(end)?;
+        self.is_so = self.told.as_slice().ends_with(end.as_slice());
+        Ok(if self.is_so { rest } else { "" })
+    }
+
+    // Makes the call of these words: its status, and what was told.
+    fn call(&mut self, words: &[&str], place: usize) -> Result<String, Fail> {
+        let rest = self.take_rest()?;
+        let ran = call(self.alloc, &self.texts, rest, words, place)?;
+        self.keep_ran(ran)?;
+        let mut text = String::from_str(self.alloc, " ")?;
+        push_bytes(self.alloc, self.status.as_slice(), &mut text)?;
+        self.texts.push_told(self.told.as_slice(), &mut text)?;
+        Ok(text)
+    }
+
+    // Does what the words say, where nothing is printed of them.
+    fn prepares(&mut self, words: &[&str]) -> Result<bool, Fail> {
+        let first = word(words, 0);
+        if is_making(first) {
+            let rest = self.take_rest()?;
+            self.disk = made(self.alloc, &self.texts, rest, words)?.into_disk();
+            return Ok(true);
+        }
+        match first.as_bytes() {
+            b"let" => self.texts.define(word(words, 1), words_from(words, 2))?,
+            b"fail" => self.failing = number(words, 1)?,
+            b"keep" => self.kept = own_bytes(self.alloc, &mut self.disk, word(words, 1))?,
+            _ => return Ok(false),
+        }
+        Ok(true)
+    }
+
+    // What is printed of words: nothing where they prepare a call.
+    fn answer(&mut self, words: &[&str]) -> Result<Option<String>, Fail> {
+        if let Some(place) = saying_at(words) {
+            return Ok(Some(self.call(words, place)?));
+        }
+        if self.prepares(words)? {
+            return Ok(None);
+        }
+        if !is_acting(word(words, 0)) {
+            return Ok(Some(ask(self, words)?));
+        }
+        let rest = self.take_rest()?;
+        let (text, disk) = act(self.alloc, &self.texts, rest, words)?;
+        self.disk = disk;
+        Ok(Some(text))
+    }
+
+    /// Plays a line.
+    pub fn play(&mut self, line: &str) -> Result<(), Fail> {
+        let line = self.chosen(line)?;
+        if line.is_empty() {
+            return Ok(());
+        }
+        if line.starts_with("#") {
+            return Ok(self.say(line)?);
+        }
+        let words = words_of(self.alloc, line.trim_start_matches("~"))?;
+        let answer = self.answer(words.as_slice())?;
+        if let Some(answer) = answer
+            && !line.starts_with("~")
+        {
+            let said = format!(in self.alloc; "{line}:{answer}")?;
+            self.say(said.as_str())?;
+        }
+        Ok(())
+    }
+}
