@@ -2,8 +2,8 @@
 //! command without a session, and how the program ends. [`Ran`] is what came of one, and has the disk.
 //!
 //! ```
-//! let ran = answer(alloc, settled(alloc, text)?, said)?;
-//! let again = answer(alloc, reopened(disk_of(ran))?, said)?;
+//! let ran = call_by(alloc, settled(alloc, text)?, &[b"answer"], said)?;
+//! let again = call_by(alloc, reopened(disk_of(ran))?, &[b"answer"], said)?;
 //! ```
 //!
 //! Left out: what is put on the disk before and read from it then (`mem_node`).
@@ -12,6 +12,8 @@
 mod lines;
 mod ran;
 mod running;
+mod script;
 
 pub use ran::{Ran, disk_of};
-pub use running::{answer, answer_slowly, call_by, call_slowly, end_of, run};
+pub use running::{call_by, call_over, call_slowly, end_of, run};
+pub use script::{Found, Takes};

@@ -8,13 +8,19 @@ use mem_disk::MemDisk;
 pub struct Ran {
     status: Status,
     told: Bytes,
+    printed: Bytes,
     disk: MemDisk,
 }
 
 impl Ran {
     /// A call that ended so.
-    pub(crate) fn new(status: Status, told: Bytes, disk: MemDisk) -> Ran {
-        Ran { status, told, disk }
+    pub(crate) fn new(status: Status, told: Bytes, printed: Bytes, disk: MemDisk) -> Ran {
+        Ran {
+            status,
+            told,
+            printed,
+            disk,
+        }
     }
 
     /// What came of it.
@@ -30,6 +36,11 @@ impl Ran {
     /// What the peer heard, or the command printed.
     pub fn told(&self) -> &[u8] {
         self.told.as_slice()
+    }
+
+    /// What the call of a session printed; of a command, nothing more than it told.
+    pub fn printed(&self) -> &[u8] {
+        self.printed.as_slice()
     }
 
     /// The disk behind the call. Its calls begin with those that read the settings.

@@ -1,5 +1,5 @@
 //! The calls of the folder, by their words.
-use crate::words::{bytes, name, number, word};
+use crate::words::name;
 use anyhow::{Result, bail};
 use disk_model::{Copied, Disk, Name, OutStat, Yard};
 use ftn_addr::{Bytes, Failed};
@@ -8,6 +8,7 @@ use std::alloc::Global;
 use std::fmt::Debug;
 use std::str;
 use test_files::Watched;
+use test_script::{bytes, number, word};
 
 /// Before this no test is made, in seconds since 1970.
 const LONG_AGO: u64 = 1_600_000_000;
@@ -73,31 +74,31 @@ fn read(alloc: Global, folder: &mut Folder<'_>, own: &Name, at: u64, len: u64) -
 
 fn own_call(alloc: Global, folder: &mut Folder<'_>, words: &[&str]) -> Result<Option<String>> {
     let own = || name(words, 1);
-    Ok(Some(match word(words, 0).as_bytes() {
-        b"list" => list(alloc, folder)?,
-        b"stat" => said(alloc, folder.stat(&own()?))?,
-        b"create" => said(alloc, folder.create(&own()?))?,
-        b"read" => read(alloc, folder, &own()?, number(words, 2)?, number(words, 3)?)?,
-        b"write" => said(
+    Ok(Some(match word(words, 0) {
+        "list" => list(alloc, folder)?,
+        "stat" => said(alloc, folder.stat(&own()?))?,
+        "create" => said(alloc, folder.create(&own()?))?,
+        "read" => read(alloc, folder, &own()?, number(words, 2)?, number(words, 3)?)?,
+        "write" => said(
             alloc,
             folder.write_at(&own()?, number(words, 2)?, word(words, 3).as_bytes()),
         )?,
-        b"cut" => said(alloc, folder.cut(&own()?, number(words, 2)?))?,
-        b"sync" => said(alloc, folder.sync(&own()?))?,
-        b"rename" => said(alloc, folder.rename(&own()?, &name(words, 2)?))?,
-        b"remove" => said(alloc, folder.remove(&own()?))?,
+        "cut" => said(alloc, folder.cut(&own()?, number(words, 2)?))?,
+        "sync" => said(alloc, folder.sync(&own()?))?,
+        "rename" => said(alloc, folder.rename(&own()?, &name(words, 2)?))?,
+        "remove" => said(alloc, folder.remove(&own()?))?,
         _ => return Ok(None),
     }))
 }
 
 // The file that was looked at last, or one of another size or time.
 fn meant(was: OutStat, word: &str) -> OutStat {
-    match word.as_bytes() {
-        b"size" => OutStat {
+    match word {
+        "size" => OutStat {
             size: was.size.wrapping_add(1),
             ..was
         },
-        b"time" => OutStat {
+        "time" => OutStat {
             time: was.time.wrapping_sub(1),
             ..was
         },
@@ -135,18 +136,18 @@ fn outside_call(
     was: &mut OutStat,
     words: &[&str],
 ) -> Result<Option<String>> {
-    let path = bytes(alloc, words, 1)?;
-    Ok(Some(match word(words, 0).as_bytes() {
-        b"look" => look(alloc, folder, was, &path)?,
-        b"names" => names(alloc, folder, &path)?,
-        b"take" => said(alloc, folder.take(&path, &name(words, 2)?))?,
-        b"copy" => copy(alloc, folder, &path, &name(words, 2)?, number(words, 3)?)?,
-        b"remove_if" => said(alloc, folder.remove_if(&path, &meant(*was, word(words, 2))))?,
-        b"cut_if" => said(alloc, folder.cut_if(&path, &meant(*was, word(words, 2))))?,
-        b"mark" => said(alloc, folder.mark(&path, &bytes(alloc, words, 2)?))?,
-        b"unmark" => said(alloc, folder.unmark(&path, &bytes(alloc, words, 2)?))?,
-        b"give" => {
-            let (to, as_name) = (bytes(alloc, words, 2)?, bytes(alloc, words, 3)?);
+    let path = bytes(alloc, word(words, 1))?;
+    Ok(Some(match word(words, 0) {
+        "look" => look(alloc, folder, was, &path)?,
+        "names" => names(alloc, folder, &path)?,
+        "take" => said(alloc, folder.take(&path, &name(words, 2)?))?,
+        "copy" => copy(alloc, folder, &path, &name(words, 2)?, number(words, 3)?)?,
+        "remove_if" => said(alloc, folder.remove_if(&path, &meant(*was, word(words, 2))))?,
+        "cut_if" => said(alloc, folder.cut_if(&path, &meant(*was, word(words, 2))))?,
+        "mark" => said(alloc, folder.mark(&path, &bytes(alloc, word(words, 2))?))?,
+        "unmark" => said(alloc, folder.unmark(&path, &bytes(alloc, word(words, 2))?))?,
+        "give" => {
+            let (to, as_name) = (bytes(alloc, word(words, 2))?, bytes(alloc, word(words, 3))?);
             said(alloc, folder.give(&name(words, 1)?, &to, &as_name))?
         }
         _ => return Ok(None),

@@ -43,9 +43,9 @@ fn play(rt: HostRuntime, lines: &[&str]) -> Result<()> {
     let mut stage = Box::new(rt.alloc(), Stage::new(rt, &seen)?)?;
     let (mut first, mut last) = (0, 0);
     for (place, line) in lines.iter().enumerate() {
-        match line.as_bytes() {
-            b"prepare" => first = place.saturating_add(1),
-            b"ready" => last = place,
+        match *line {
+            "prepare" => first = place.saturating_add(1),
+            "ready" => last = place,
             _ => stage
                 .play(line, between(lines, first, last))
                 .with_context(|| line)?,

@@ -1,10 +1,10 @@
 //! What other programs do in front of the folder.
-use crate::words::{number, word};
 use anyhow::{Context, Result, bail};
 use std::fs::{FileTimes, OpenFile, OpenOptions};
 use std::os::unix::fs::symlink;
 use std::time::{Duration, UNIX_EPOCH};
 use std::{fs, str};
+use test_script::{number, word};
 
 /// When the bytes of a file changed that is put there, in seconds since 1970.
 const PUT_AT: u64 = 1_000_000_000;
@@ -38,16 +38,16 @@ pub fn show(rt: &HostRuntime, path: &str) -> Result<()> {
 /// Does what the words say, where they are something that another program does.
 pub fn other(rt: &HostRuntime, words: &[&str]) -> Result<bool> {
     let (path, second) = (word(words, 1), word(words, 2));
-    match word(words, 0).as_bytes() {
-        b"mkdir" => fs::create_dir(rt, path)?,
-        b"put" => put(rt, path, second)?,
-        b"link" => symlink(rt, path, second)?,
-        b"alias" => fs::hard_link(rt, path, second)?,
-        b"age" => set_age(rt, path, number(words, 2)?)?,
-        b"gone" => fs::remove_file(rt, path)
+    match word(words, 0) {
+        "mkdir" => fs::create_dir(rt, path)?,
+        "put" => put(rt, path, second)?,
+        "link" => symlink(rt, path, second)?,
+        "alias" => fs::hard_link(rt, path, second)?,
+        "age" => set_age(rt, path, number(words, 2)?)?,
+        "gone" => fs::remove_file(rt, path)
             .or_else(|_| fs::remove_dir(rt, path))
             .unwrap_or(()),
-        b"show" => show(rt, path)?,
+        "show" => show(rt, path)?,
         _ => return Ok(false),
     }
     Ok(true)

@@ -1,12 +1,12 @@
 //! The folder that a script plays over, and what was seen of it.
 use crate::calls::{Folder, call};
 use crate::others::other;
-use crate::words::{number, word, words_of};
 use anyhow::{Result, bail};
 use disk_model::{Disk, OutStat};
 use real_edge::RealFolder;
 use std::io::ErrorKind;
 use test_files::{Journal, Race, Seen, Watched};
+use test_script::{number, word, words_of};
 
 /// The most calls of the system that one call of the folder makes here.
 const MOST_CALLS: u32 = 64;
@@ -25,12 +25,12 @@ fn folder_at<'a>(rt: HostRuntime, seen: &'a Seen, path: &str) -> Result<Folder<'
 }
 
 fn kind_of(word: &str) -> Result<ErrorKind> {
-    Ok(match word.as_bytes() {
-        b"room" => ErrorKind::StorageFull,
-        b"right" => ErrorKind::PermissionDenied,
-        b"readonly" => ErrorKind::ReadOnlyFilesystem,
-        b"running" => ErrorKind::ExecutableFileBusy,
-        b"interrupted" => ErrorKind::Interrupted,
+    Ok(match word {
+        "room" => ErrorKind::StorageFull,
+        "right" => ErrorKind::PermissionDenied,
+        "readonly" => ErrorKind::ReadOnlyFilesystem,
+        "running" => ErrorKind::ExecutableFileBusy,
+        "interrupted" => ErrorKind::Interrupted,
         _ => bail!("no such fault"),
     })
 }
@@ -38,11 +38,11 @@ fn kind_of(word: &str) -> Result<ErrorKind> {
 fn race_of(word: &str, path: &str) -> Result<Race> {
     let mut at = Journal::new();
     at.push(path);
-    Ok(match word.as_bytes() {
-        b"link" => Race::Link(at),
-        b"file" => Race::File(at),
-        b"folder" => Race::Folder(at),
-        b"gone" => Race::Gone(at),
+    Ok(match word {
+        "link" => Race::Link(at),
+        "file" => Race::File(at),
+        "folder" => Race::Folder(at),
+        "gone" => Race::Gone(at),
         _ => bail!("no such race"),
     })
 }
@@ -104,11 +104,11 @@ impl<'a> Stage<'a> {
 
     // Whether the words prepare the next call, or ask what was told.
     fn prepares(&mut self, words: &[&str]) -> Result<bool> {
-        match word(words, 0).as_bytes() {
-            b"own" => self.enter(word(words, 1))?,
-            b"fail" | b"race" => self.disturb(words)?,
-            b"faults" => println!(self.rt; "faults: {}", self.folder.faults())?,
-            b"told" => {
+        match word(words, 0) {
+            "own" => self.enter(word(words, 1))?,
+            "fail" | "race" => self.disturb(words)?,
+            "faults" => println!(self.rt; "faults: {}", self.folder.faults())?,
+            "told" => {
                 let told = self.told()?;
                 println!(self.rt; "told: {told}")?;
             }

@@ -8,6 +8,7 @@
 //! read NAME                            the bytes of an own file
 //! keep, kept                           whether the own files are as they were at `keep`; of one, `keep NAME` and `kept NAME`
 //! status                               the status of the last call
+//! printed                              what it printed, where it held a session
 //! fault                                whether nothing was told, or at last a disk fault
 //! heard PIECE..                        whether that was told
 //! woven ONE PIECE..                    whether the pieces were told, with ONE anywhere behind the first
@@ -17,7 +18,6 @@
 use crate::calls::end_for_memory;
 use crate::stage::Stage;
 use crate::texts::{Texts, push_bytes};
-use crate::words::{word, words_from};
 use binkp_mailer::push_session;
 use disk_model::Disk;
 use ftn_addr::{Addr, Bytes, Failed};
@@ -27,6 +27,7 @@ use session_core::{Cause, End};
 use session_run::Report;
 use std::alloc::Global;
 use std::test::Fail;
+use test_script::{word, words_from};
 
 const DISK_FAULT: &[u8] = b"\x80\x0b\x07disk fault";
 
@@ -68,6 +69,13 @@ fn names(alloc: Global, disk: &mut MemDisk, folder: &str) -> Result<String, Fail
     Ok(text)
 }
 
+// These bytes behind a blank.
+fn line(alloc: Global, bytes: &[u8]) -> Result<String, Fail> {
+    let mut text = String::from_str(alloc, " ")?;
+    push_bytes(alloc, bytes, &mut text)?;
+    Ok(text)
+}
+
 // The bytes of a file.
 fn shown(alloc: Global, file: Option<Vec<u8>>) -> Result<String, Fail> {
     let Some(bytes) = file else {
@@ -76,9 +84,7 @@ fn shown(alloc: Global, file: Option<Vec<u8>>) -> Result<String, Fail> {
     if bytes.is_empty() {
         return Ok(String::from_str(alloc, " empty")?);
     }
-    let mut text = String::from_str(alloc, " ")?;
-    push_bytes(alloc, bytes.as_slice(), &mut text)?;
-    Ok(text)
+    line(alloc, bytes.as_slice())
 }
 
 fn size(alloc: Global, disk: &mut MemDisk, path: &str) -> Result<String, Fail> {
@@ -88,15 +94,15 @@ fn size(alloc: Global, disk: &mut MemDisk, path: &str) -> Result<String, Fail> {
 
 fn ask_disk(alloc: Global, disk: &mut MemDisk, words: &[&str]) -> Result<Option<String>, Fail> {
     let path = word(words, 1);
-    Ok(Some(match word(words, 0).as_bytes() {
-        b"calls" => format!(in alloc; " {}", disk.calls())?,
-        b"syncs" => format!(in alloc; " {}", disk.syncs())?,
-        b"faults" => format!(in alloc; " {}", disk.faults())?,
-        b"files" => files(alloc, disk)?,
-        b"names" => names(alloc, disk, path)?,
-        b"size" => size(alloc, disk, path)?,
-        b"show" => shown(alloc, outside_file(alloc, disk, path.as_bytes())?)?,
-        b"read" => shown(alloc, own_file(alloc, disk, path.as_bytes())?)?,
+    Ok(Some(match word(words, 0) {
+        "calls" => format!(in alloc; " {}", disk.calls())?,
+        "syncs" => format!(in alloc; " {}", disk.syncs())?,
+        "faults" => format!(in alloc; " {}", disk.faults())?,
+        "files" => files(alloc, disk)?,
+        "names" => names(alloc, disk, path)?,
+        "size" => size(alloc, disk, path)?,
+        "show" => shown(alloc, outside_file(alloc, disk, path.as_bytes())?)?,
+        "read" => shown(alloc, own_file(alloc, disk, path.as_bytes())?)?,
         _ => return Ok(None),
     }))
 }
@@ -111,13 +117,18 @@ fn is_heard(texts: &Texts, told: &[u8], words: &[&str]) -> Result<bool, Fail> {
     Ok(all.as_slice() == told)
 }
 
+// All words but the first, with the first at that place.
+fn woven(texts: &Texts, words: &[&str], place: usize) -> Result<Bytes, Fail> {
+    let mut all = texts.joined(words.get(1..place).unwrap_or(words))?;
+    texts.push_all(words.get(..1).unwrap_or(words), &mut all)?;
+    texts.push_all(words_from(words, place), &mut all)?;
+    Ok(all)
+}
+
 // Whether the words but the first were told, with the first anywhere behind the second.
 fn is_woven(texts: &Texts, told: &[u8], words: &[&str]) -> Result<bool, Fail> {
-    let one = texts.piece(word(words, 0))?;
     for place in 2..=words.len() {
-        let mut all = texts.joined(words.get(1..place).unwrap_or(words))?;
-        all.push_slice(one.as_slice())?;
-        all.push_slice(texts.joined(words_from(words, place))?.as_slice())?;
+        let all = woven(texts, words, place)?;
         if all.as_slice() == told {
             return Ok(true);
         }
@@ -144,11 +155,9 @@ fn report(alloc: Global) -> Result<String, Fail> {
         wrote: 6,
         end: End::Broke(Cause::Late, 9),
     };
-    let mut line = Bytes::new(alloc);
-    push_session(alloc, &report, &mut line)?;
-    let mut text = String::from_str(alloc, " ")?;
-    push_bytes(alloc, line.as_slice(), &mut text)?;
-    Ok(text)
+    let mut said = Bytes::new(alloc);
+    push_session(alloc, &report, &mut said)?;
+    line(alloc, said.as_slice())
 }
 
 /// What the question of these words answers.
@@ -157,19 +166,16 @@ pub fn ask(stage: &mut Stage, words: &[&str]) -> Result<String, Fail> {
     if let Some(answer) = ask_disk(alloc, &mut stage.disk, words)? {
         return Ok(answer);
     }
-    let is_so = match word(words, 0).as_bytes() {
-        b"kept" => own_bytes(alloc, &mut stage.disk, word(words, 1))?.as_slice()
+    let is_so = match word(words, 0) {
+        "kept" => own_bytes(alloc, &mut stage.disk, word(words, 1))?.as_slice()
             == stage.kept.as_slice(),
-        b"fault" => is_fault(stage.told.as_slice()),
-        b"heard" => is_heard(&stage.texts, stage.told.as_slice(), words_from(words, 1))?,
-        b"woven" => is_woven(&stage.texts, stage.told.as_slice(), words_from(words, 1))?,
-        b"status" => {
-            let mut text = String::from_str(alloc, " ")?;
-            push_bytes(alloc, stage.status.as_slice(), &mut text)?;
-            return Ok(text);
-        }
-        b"report" => return report(alloc),
-        b"memory" => return end_for_memory(alloc),
+        "fault" => is_fault(stage.told.as_slice()),
+        "heard" => is_heard(&stage.texts, stage.told.as_slice(), words_from(words, 1))?,
+        "woven" => is_woven(&stage.texts, stage.told.as_slice(), words_from(words, 1))?,
+        "status" => return line(alloc, stage.status.as_slice()),
+        "printed" => return line(alloc, stage.printed.as_slice()),
+        "report" => return report(alloc),
+        "memory" => return end_for_memory(alloc),
         _ => return Err(Failed.into()),
     };
     Ok(String::from_str(alloc, is_or_not(is_so))?)

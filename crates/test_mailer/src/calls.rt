@@ -1,23 +1,103 @@
 //! The calls of the program, and those of its store.
 use crate::texts::{Texts, push_bytes, slices};
-use crate::words::{number, word, words_from};
 use binkp_link::MemSink;
 use binkp_mailer::refuse_for_memory;
 use ftn_addr::{Action, Failed};
 use mem_disk::MemDisk;
-use mem_mailer::{Ran, call_by, call_slowly, end_of};
+use mem_mailer::{Found, Ran, Takes, call_by, call_over, call_slowly, end_of, run};
 use mem_node::{Resting, act_once, with_queued, with_source};
 use std::alloc::Global;
 use std::test::Fail;
+use test_script::{number, word, words_from};
 
-/// The place of `<` or `<<`, behind which stands what the peer says: at once, or one piece after another.
+/// The place of `<`, `<<` or `<~`, behind which stands what the peer says: at once, one piece after another, or as a script has it.
 pub fn saying_at(words: &[&str]) -> Option<usize> {
     for (place, word) in words.iter().enumerate() {
-        if *word == "<" || *word == "<<" {
+        if matches!(*word, "<" | "<<" | "<~") {
             return Some(place);
         }
     }
     None
+}
+
+// A call with a peer that says one piece after another.
+fn slowly(
+    alloc: Global,
+    texts: &Texts,
+    rest: Resting,
+    named: &[&[u8]],
+    words: &[&str],
+) -> Result<Box<Ran>, Fail> {
+    let pieces = texts.pieces(words)?;
+    let pieces = slices(alloc, pieces.as_slice())?;
+    Ok(call_slowly(alloc, rest, named, pieces.as_slice())?)
+}
+
+// What a read of a line finds by its word: `~` nothing, `!` that it is broken, and else what is said.
+fn found(texts: &Texts, word: &str) -> Result<Found, Fail> {
+    match word {
+        "~" => Ok(Found::Nothing),
+        "!" => Ok(Found::Fault),
+        _ => Ok(Found::Bytes(texts.piece(word)?)),
+    }
+}
+
+// What the reads of a line find, in these words, each of which may come more than once, as in `60*~`.
+fn all_found(alloc: Global, texts: &Texts, words: &[&str]) -> Result<Vec<Found>, Fail> {
+    let mut all = Vec::new(alloc);
+    for word in words {
+        let (times, word) = word.split_once("*").unwrap_or(("1", word));
+        for _ in 0..times.parse::<u32>()? {
+            all.push(found(texts, word)?)?;
+        }
+    }
+    Ok(all)
+}
+
+// What a line takes by its word, which may be that of its reads.
+fn takes(word: &str) -> Takes {
+    match word {
+        "^0" => Takes::Nothing,
+        "^1" => Takes::NoWrite,
+        "^3" => Takes::TwoWrites,
+        _ => Takes::All,
+    }
+}
+
+// A call over a line: behind what it takes or lets fail of the output, these words have what its reads find.
+fn scripted(
+    alloc: Global,
+    texts: &Texts,
+    rest: Resting,
+    named: &[&[u8]],
+    words: &[&str],
+) -> Result<Box<Ran>, Fail> {
+    let first = word(words, 0);
+    let mut failing = Vec::new(alloc);
+    if let Some(put) = first.strip_prefix("%") {
+        failing.push(put.parse::<u64>()?)?;
+    }
+    let found = all_found(alloc, texts, words_from(words, 1))?;
+    Ok(call_over(alloc, rest, named, found.as_slice(), takes(first), failing)?)
+}
+
+// A call with a peer that says what stands behind the first word, at once or one piece after another, or as a script has it.
+fn heard(
+    alloc: Global,
+    texts: &Texts,
+    rest: Resting,
+    named: &[&[u8]],
+    words: &[&str],
+) -> Result<Box<Ran>, Fail> {
+    let pieces = words_from(words, 1);
+    match word(words, 0) {
+        "<<" => slowly(alloc, texts, rest, named, pieces),
+        "<~" => scripted(alloc, texts, rest, named, pieces),
+        _ => {
+            let said = texts.joined(pieces)?;
+            Ok(call_by(alloc, rest, named, said.as_slice())?)
+        }
+    }
 }
 
 /// Makes the call of the words before that place, with a peer that says those behind it.
@@ -30,13 +110,25 @@ pub fn call(
 ) -> Result<Box<Ran>, Fail> {
     let named = texts.pieces(words.get(..place).unwrap_or(words))?;
     let named = slices(alloc, named.as_slice())?;
-    let pieces = texts.pieces(words_from(words, place.saturating_add(1)))?;
-    let pieces = slices(alloc, pieces.as_slice())?;
-    if word(words, place) == "<<" {
-        return Ok(call_slowly(alloc, rest, named.as_slice(), pieces.as_slice())?);
-    }
-    let said = texts.joined(words_from(words, place.saturating_add(1)))?;
-    Ok(call_by(alloc, rest, named.as_slice(), said.as_slice())?)
+    heard(
+        alloc,
+        texts,
+        rest,
+        named.as_slice(),
+        words_from(words, place),
+    )
+}
+
+/// Runs the command of the words behind the first, which holds no session.
+pub fn run_words(
+    alloc: Global,
+    texts: &Texts,
+    rest: Resting,
+    words: &[&str],
+) -> Result<Box<Ran>, Fail> {
+    let named = texts.pieces(words_from(words, 1))?;
+    let named = slices(alloc, named.as_slice())?;
+    Ok(run(alloc, rest, named.as_slice())?)
 }
 
 /// What a call of the store answers, and the disk behind it.
@@ -54,10 +146,10 @@ fn queue(alloc: Global, texts: &Texts, rest: Resting, words: &[&str]) -> Acted {
 }
 
 fn action_of(word: &str) -> Result<Action, Fail> {
-    match word.as_bytes() {
-        b"leave" => Ok(Action::Leave),
-        b"delete" => Ok(Action::Delete),
-        b"cut" => Ok(Action::Cut),
+    match word {
+        "leave" => Ok(Action::Leave),
+        "delete" => Ok(Action::Delete),
+        "cut" => Ok(Action::Cut),
         _ => Err(Failed.into()),
     }
 }
@@ -102,19 +194,16 @@ pub fn end_for_memory(alloc: Global) -> Result<String, Fail> {
 
 /// Whether a line that begins so is a call of the store, or ends the program.
 pub fn is_acting(word: &str) -> bool {
-    matches!(
-        word.as_bytes(),
-        b"queue" | b"source" | b"act" | b"acts" | b"ends"
-    )
+    matches!(word, "queue" | "source" | "act" | "acts" | "ends")
 }
 
 /// Makes the call of these words.
 pub fn act(alloc: Global, texts: &Texts, rest: Resting, words: &[&str]) -> Acted {
-    match word(words, 0).as_bytes() {
-        b"queue" => queue(alloc, texts, rest, words),
-        b"source" => source(alloc, rest, words),
-        b"act" => act_next(alloc, rest, true),
-        b"acts" => act_next(alloc, rest, false),
+    match word(words, 0) {
+        "queue" => queue(alloc, texts, rest, words),
+        "source" => source(alloc, rest, words),
+        "act" => act_next(alloc, rest, true),
+        "acts" => act_next(alloc, rest, false),
         _ => end(alloc, texts, rest, words),
     }
 }

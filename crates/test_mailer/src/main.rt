@@ -9,6 +9,7 @@
 //! settings $ADDRESS                    other settings in place of its own
 //! long 99                              settings of an address and a comment, of so many bytes
 //! own NAME BYTES, gone NAME            an own file is put, or removed
+//! full 262144                          a ledger of so many takes is put
 //! out PATH BYTES                       a file of another program comes
 //! queue 13 one 1                       a file is queued for 2:5047/13: prints `queue 13 one 1: New(1)`
 //! source PATH delete                   that file is queued for 2:5047/13, to be left, deleted or cut then
@@ -18,6 +19,10 @@
 //! answer < $LOGIN $OFFER $END          the call of these words, with a peer that says all that at once:
 //!                                      prints `answer < ..: Done $GREETING $WELCOME`
 //! call 2:5047/13 << $LOGIN $END        with a peer that says one piece after another
+//! answer <~ ^0 $LOGIN 60*~ !          over a line whose reads find this: `60*~` nothing, sixty times, and `!` that it is broken. It takes
+//!                                      nothing of what is written behind `^0`, no write behind `^1`, two behind `^3`, all behind `-`,
+//!                                      and so behind `%1`, where the first put to the output fails
+//! run list                             the command of these words, which holds no session
 //! ~answer < $LOGIN                     prints nothing
 //! if $GOT LINE, else LINE              the line is played where what was told ends so, or where it didn't
 //! ```
@@ -43,7 +48,6 @@ mod made;
 mod stage;
 mod texts;
 mod trials;
-mod words;
 
 use stage::Stage;
 use std::io;
@@ -71,9 +75,9 @@ fn play_all(rt: HostRuntime, lines: &[&str]) -> Result<(), Fail> {
     let mut stage = Box::new(rt.alloc(), Stage::new(rt.alloc()))?;
     let (mut first, mut last, mut head) = (0, 0, None);
     for (place, line) in lines.iter().enumerate() {
-        match line.as_bytes() {
-            b"prepare" => first = place.saturating_add(1),
-            b"ready" => last = place,
+        match *line {
+            "prepare" => first = place.saturating_add(1),
+            "ready" => last = place,
             _ if is_trial(line) => head = Some(place),
             _ if head.is_some() && *line != "end" => {}
             _ => {

@@ -1,9 +1,8 @@
 //! The disk that a script plays over, and what was told.
 use crate::asks::{ask, own_bytes};
-use crate::calls::{act, call, is_acting, saying_at};
+use crate::calls::{act, call, is_acting, run_words, saying_at};
 use crate::made::{is_making, made};
 use crate::texts::{Texts, push_bytes};
-use crate::words::{number, word, words_from, words_of};
 use command_base::{Status, push_status};
 use ftn_addr::{Bytes, Failed, NoMemory};
 use mem_disk::MemDisk;
@@ -12,6 +11,7 @@ use mem_node::{Resting, reopened};
 use std::alloc::{AllocError, Global};
 use std::mem;
 use std::test::Fail;
+use test_script::{number, word, words_from, words_of};
 
 #[derive(Drop)]
 pub struct Stage {
@@ -21,9 +21,10 @@ pub struct Stage {
     pub disk: MemDisk,
     /// Which call of the disk is to fail next; 0 where none is.
     pub failing: u64,
-    /// What came of the last call, and what was told.
+    /// What came of the last call, what was told, and what a session's printed.
     pub status: Bytes,
     pub told: Bytes,
+    pub printed: Bytes,
     /// Whether what was told ended as the last `if` asked.
     is_so: bool,
     /// The own files that were kept, with their bytes.
@@ -32,10 +33,11 @@ pub struct Stage {
     said: String,
 }
 
-// The line of a status, without its end; `Done` where it has none.
+// The line of a status, without its end; its name where it has none.
 fn status_line(alloc: Global, status: &Status) -> Result<Bytes, Fail> {
-    if *status == Status::Done {
-        return Ok(Bytes::from_slice(alloc, b"Done")?);
+    if matches!(status, Status::Done | Status::OutFault) {
+        let name = format!(in alloc; "{status:?}")?;
+        return Ok(Bytes::from_slice(alloc, name.as_bytes())?);
     }
     let mut line = Bytes::new(alloc);
     push_status(alloc, status, &mut line)?;
@@ -53,6 +55,7 @@ impl Stage {
             failing: 0,
             status: Bytes::new(alloc),
             told: Bytes::new(alloc),
+            printed: Bytes::new(alloc),
             is_so: false,
             kept: Bytes::new(alloc),
             said: String::new(alloc),
@@ -84,6 +87,7 @@ impl Stage {
     pub fn keep_ran(&mut self, ran: Box<Ran>) -> Result<(), Fail> {
         self.status = status_line(self.alloc, ran.status())?;
         self.told = Bytes::from_slice(self.alloc, ran.told())?;
+        self.printed = Bytes::from_slice(self.alloc, ran.printed())?;
         self.disk = disk_of(ran);
         Ok(())
     }
@@ -96,22 +100,28 @@ impl Stage {
 
     // The line that is played of one that may have a condition.
     fn chosen<'l>(&mut self, line: &'l str) -> Result<&'l str, Fail> {
-        if let Some(rest) = line.strip_prefix("else ") {
-            return Ok(if self.is_so { "" } else { rest });
-        }
-        let Some(rest) = line.strip_prefix("if ") else {
+        let Some((kind, rest)) = line.split_once(' ') else {
             return Ok(line);
         };
-        let (end, rest) = rest.split_once(' ').ok_or(Failed)?;
-        let end = self.texts.piece(end)?;
-        self.is_so = self.told.as_slice().ends_with(end.as_slice());
-        Ok(if self.is_so { rest } else { "" })
+        match kind {
+            "else" => Ok(if self.is_so { "" } else { rest }),
+            "if" => {
+                let (end, rest) = rest.split_once(' ').ok_or(Failed)?;
+                self.is_so = self.has_told(end)?;
+                Ok(if self.is_so { rest } else { "" })
+            }
+            _ => Ok(line),
+        }
     }
 
-    // Makes the call of these words: its status, and what was told.
-    fn call(&mut self, words: &[&str], place: usize) -> Result<String, Fail> {
-        let rest = self.take_rest()?;
-        let ran = call(self.alloc, &self.texts, rest, words, place)?;
+    // Whether what was told ends so.
+    fn has_told(&self, end: &str) -> Result<bool, Fail> {
+        let end = self.texts.piece(end)?;
+        Ok(self.told.as_slice().ends_with(end.as_slice()))
+    }
+
+    // Keeps what came of a call: its status, and what was told.
+    fn told_of(&mut self, ran: Box<Ran>) -> Result<String, Fail> {
         self.keep_ran(ran)?;
         let mut text = String::from_str(self.alloc, " ")?;
         push_bytes(self.alloc, self.status.as_slice(), &mut text)?;
@@ -127,10 +137,10 @@ impl Stage {
             self.disk = made(self.alloc, &self.texts, rest, words)?.into_disk();
             return Ok(true);
         }
-        match first.as_bytes() {
-            b"let" => self.texts.define(word(words, 1), words_from(words, 2))?,
-            b"fail" => self.failing = number(words, 1)?,
-            b"keep" => self.kept = own_bytes(self.alloc, &mut self.disk, word(words, 1))?,
+        match first {
+            "let" => self.texts.define(word(words, 1), words_from(words, 2))?,
+            "fail" => self.failing = number(words, 1)?,
+            "keep" => self.kept = own_bytes(self.alloc, &mut self.disk, word(words, 1))?,
             _ => return Ok(false),
         }
         Ok(true)
@@ -139,7 +149,14 @@ impl Stage {
     // What is printed of words: nothing where they prepare a call.
     fn answer(&mut self, words: &[&str]) -> Result<Option<String>, Fail> {
         if let Some(place) = saying_at(words) {
-            return Ok(Some(self.call(words, place)?));
+            let rest = self.take_rest()?;
+            let ran = call(self.alloc, &self.texts, rest, words, place)?;
+            return Ok(Some(self.told_of(ran)?));
+        }
+        if word(words, 0) == "run" {
+            let rest = self.take_rest()?;
+            let ran = run_words(self.alloc, &self.texts, rest, words)?;
+            return Ok(Some(self.told_of(ran)?));
         }
         if self.prepares(words)? {
             return Ok(None);

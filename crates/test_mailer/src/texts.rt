@@ -71,12 +71,19 @@ impl Texts {
         Ok(all)
     }
 
+    /// Adds the bytes of all words, one behind the other.
+    pub fn push_all(&self, words: &[&str], all: &mut Bytes) -> Result<(), Fail> {
+        for word in words {
+            let piece = self.piece(word)?;
+            all.push_slice(piece.as_slice())?;
+        }
+        Ok(())
+    }
+
     /// The bytes of all words, one behind the other.
     pub fn joined(&self, words: &[&str]) -> Result<Bytes, Fail> {
         let mut all = Bytes::new(self.alloc);
-        for word in words {
-            all.push_slice(self.piece(word)?.as_slice())?;
-        }
+        self.push_all(words, &mut all)?;
         Ok(all)
     }
 

@@ -6,10 +6,10 @@ use std::test::Fail;
 
 /// Whether the line begins a trial.
 pub fn is_trial(line: &str) -> bool {
-    line.starts_with("stops ")
-        || line.starts_with("leaves ")
-        || line.starts_with("fails ")
-        || line.starts_with("breaks ")
+    match line.split_once(' ') {
+        Some((kind, _)) => matches!(kind, "stops" | "leaves" | "fails" | "breaks"),
+        None => false,
+    }
 }
 
 // The first outcome, and the text of all that differ.

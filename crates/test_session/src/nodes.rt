@@ -1,8 +1,9 @@
 //! Nodes, by their words.
-use crate::words::{node_number, number, word};
+use crate::words::{node_number, number};
 use anyhow::{Result, bail};
 use mem_talk::Node;
 use std::alloc::Global;
+use test_script::word;
 
 /// The largest limit of a session, which is 2 to the 62.
 const MOST: u64 = 4_611_686_018_427_387_904;
@@ -18,12 +19,12 @@ fn ending(alloc: Global, own: u16, limit: u64) -> Result<Node> {
 pub fn node_of(alloc: Global, words: &[&str]) -> Result<Node> {
     let own = node_number(words, 1)?;
     let limit = || number(words, 3, 0);
-    Ok(match word(words, 2).as_bytes() {
-        b"" => Node::new(alloc, own)?,
-        b"refusing" => Node::refusing(alloc, own, word(words, 3).as_bytes())?,
-        b"above" => Node::refusing_above(alloc, own, limit()?)?,
-        b"ending" => ending(alloc, own, limit()?)?,
-        b"knowing" => {
+    Ok(match word(words, 2) {
+        "" => Node::new(alloc, own)?,
+        "refusing" => Node::refusing(alloc, own, word(words, 3).as_bytes())?,
+        "above" => Node::refusing_above(alloc, own, limit()?)?,
+        "ending" => ending(alloc, own, limit()?)?,
+        "knowing" => {
             let other = node_number(words, 3)?;
             Node::knowing(alloc, own, other, word(words, 4).as_bytes())?
         }

@@ -1,9 +1,10 @@
 //! What two nodes do with one another.
 use crate::shown::{ended_text, records_text, report_text};
-use crate::words::{file, files, halves, node_number, number, rest, word, words_of};
+use crate::words::{file, files, halves, node_number, number};
 use anyhow::Result;
 use mem_talk::{Came, Cut, Pair, Plan};
 use std::alloc::Global;
+use test_script::{behind, word, words_of};
 
 // What came of the last call, at the near node and at the far one.
 fn reports(alloc: Global, pair: &Pair) -> Result<String> {
@@ -80,26 +81,26 @@ fn stores(alloc: Global, pair: &Pair) -> Result<String> {
 }
 
 fn ask(alloc: Global, pair: &Pair, line: &str, words: &[&str]) -> Result<Option<String>> {
-    Ok(Some(match word(words, 0).as_bytes() {
-        b"reports" => reports(alloc, pair)?,
-        b"both_end" => both_end(alloc, pair)?,
-        b"stores" => stores(alloc, pair)?,
-        b"both" => both(alloc, pair, rest(line))?,
-        b"far_has" => far_has(alloc, pair, rest(line))?,
-        b"far_keeps" => { format!(in alloc; "{}", pair.far_keeps(alloc, file(word(words, 1))?)?)? }
-        b"far_records" => records_text(alloc, pair.far_store())?,
-        b"secure" => format!(in alloc; "{:?}", pair.is_secure())?,
+    Ok(Some(match word(words, 0) {
+        "reports" => reports(alloc, pair)?,
+        "both_end" => both_end(alloc, pair)?,
+        "stores" => stores(alloc, pair)?,
+        "both" => both(alloc, pair, behind(line))?,
+        "far_has" => far_has(alloc, pair, behind(line))?,
+        "far_keeps" => { format!(in alloc; "{}", pair.far_keeps(alloc, file(word(words, 1))?)?)? }
+        "far_records" => records_text(alloc, pair.far_store())?,
+        "secure" => format!(in alloc; "{:?}", pair.is_secure())?,
         _ => return Ok(None),
     }))
 }
 
 // What only changes a node, where it is that.
 fn prepares(alloc: Global, pair: &mut Pair, line: &str, words: &[&str]) -> Result<bool> {
-    let files = || files(alloc, rest(rest(line)));
-    match word(words, 0).as_bytes() {
-        b"queue_near" => pair.queue_near(alloc, node_number(words, 1)?, files()?.as_slice())?,
-        b"queue_far" => pair.queue_far(alloc, node_number(words, 1)?, files()?.as_slice())?,
-        b"rename_far" => pair.rename_far(alloc, node_number(words, 1)?)?,
+    let files = || files(alloc, behind(behind(line)));
+    match word(words, 0) {
+        "queue_near" => pair.queue_near(alloc, node_number(words, 1)?, files()?.as_slice())?,
+        "queue_far" => pair.queue_far(alloc, node_number(words, 1)?, files()?.as_slice())?,
+        "rename_far" => pair.rename_far(alloc, node_number(words, 1)?)?,
         _ => return Ok(false),
     }
     Ok(true)
@@ -127,9 +128,9 @@ pub fn pair_call(alloc: Global, pair: &mut Pair, line: &str, n: u64) -> Result<O
     if prepares(alloc, pair, line, words)? {
         return Ok(Some(String::new(alloc)));
     }
-    Ok(Some(match word(words, 0).as_bytes() {
-        b"call" => call(alloc, pair, words, n)?,
-        b"cross" => cross(alloc, pair, words)?,
+    Ok(Some(match word(words, 0) {
+        "call" => call(alloc, pair, words, n)?,
+        "cross" => cross(alloc, pair, words)?,
         _ => return ask(alloc, pair, line, words),
     }))
 }

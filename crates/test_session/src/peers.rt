@@ -1,11 +1,12 @@
 //! What a peer does, and what its session comes to.
 use crate::phrases::said;
 use crate::shown::{heard_text, moved_text, receipts_text, records_text, report_text};
-use crate::words::{file, files, halves, node_number, number, rest, word, words_of};
+use crate::words::{file, files, halves, node_number, number};
 use anyhow::Result;
 use ftn_addr::Bytes;
 use mem_talk::{Peer, Word, address, has_each, kept_of, live};
 use std::alloc::Global;
+use test_script::{behind, word, words_of};
 
 // Says phrases: what is heard then.
 fn say(alloc: Global, peer: &mut Peer, turns: u32, phrases: &str, n: u64) -> Result<Bytes> {
@@ -59,14 +60,14 @@ fn keeps(alloc: Global, peer: &Peer, from: u16, word: &str) -> Result<String> {
 
 fn ask(alloc: Global, peer: &Peer, line: &str, words: &[&str]) -> Result<Option<String>> {
     let from = || node_number(words, 1);
-    Ok(Some(match word(words, 0).as_bytes() {
-        b"report" => report_text(alloc, peer.report())?,
-        b"moved" => moved_text(alloc, peer.report())?,
-        b"receipts" => receipts_text(alloc, peer.store())?,
-        b"records" => records_text(alloc, peer.store())?,
-        b"left" => format!(in alloc; "{}", live(peer.store()))?,
-        b"has" => has(alloc, peer, from()?, rest(rest(line)))?,
-        b"keeps" => keeps(alloc, peer, from()?, word(words, 2))?,
+    Ok(Some(match word(words, 0) {
+        "report" => report_text(alloc, peer.report())?,
+        "moved" => moved_text(alloc, peer.report())?,
+        "receipts" => receipts_text(alloc, peer.store())?,
+        "records" => records_text(alloc, peer.store())?,
+        "left" => format!(in alloc; "{}", live(peer.store()))?,
+        "has" => has(alloc, peer, from()?, behind(behind(line)))?,
+        "keeps" => keeps(alloc, peer, from()?, word(words, 2))?,
         _ => return Ok(None),
     }))
 }
@@ -80,12 +81,12 @@ pub fn peer_call(alloc: Global, peer: &mut Peer, line: &str, n: u64) -> Result<O
     let words = words_of(alloc, line)?;
     let words = words.as_slice();
     let turns = || turns(words, n);
-    let phrases = rest(rest(line));
-    Ok(Some(match word(words, 0).as_bytes() {
-        b"say" => hear(alloc, peer, turns()?, phrases, n)?,
-        b"ends" => ends(alloc, peer, turns()?, phrases, n)?,
-        b"tell" => tell(alloc, peer, turns()?, phrases, n)?,
-        b"cut" => cut(alloc, peer, turns()?),
+    let phrases = behind(behind(line));
+    Ok(Some(match word(words, 0) {
+        "say" => hear(alloc, peer, turns()?, phrases, n)?,
+        "ends" => ends(alloc, peer, turns()?, phrases, n)?,
+        "tell" => tell(alloc, peer, turns()?, phrases, n)?,
+        "cut" => cut(alloc, peer, turns()?),
         _ => return ask(alloc, peer, line, words),
     }))
 }

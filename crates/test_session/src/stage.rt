@@ -2,11 +2,12 @@
 use crate::nodes::node_of;
 use crate::pairs::pair_call;
 use crate::peers::peer_call;
-use crate::words::{files, node_number, number, rest, word, words_of};
+use crate::words::{files, node_number, number};
 use anyhow::{Context, Result, bail};
 use mem_talk::{Node, Pair, Peer};
 use std::alloc::Global;
 use std::mem;
+use test_script::{behind, word, words_of};
 
 #[derive(Drop)]
 pub struct Stage {
@@ -87,17 +88,17 @@ impl Stage {
     // Whether the words make a node, a peer or a pair.
     fn makes(&mut self, line: &str, words: &[&str]) -> Result<bool> {
         let alloc = self.rt.alloc();
-        match word(words, 0).as_bytes() {
-            b"node" => self.node = node_of(alloc, words)?,
-            b"queue" => {
+        match word(words, 0) {
+            "node" => self.node = node_of(alloc, words)?,
+            "queue" => {
                 let dest = node_number(words, 1)?;
-                queue(alloc, &mut self.node, dest, rest(rest(line)))?;
+                queue(alloc, &mut self.node, dest, behind(behind(line)))?;
             }
-            b"far" => self.far = taken(alloc, &mut self.node)?,
-            b"pair" => self.make_pair()?,
-            b"peer" => self.make_peer(words)?,
-            b"again" => self.peer.again(alloc)?,
-            b"leave" => self.node = left(alloc, &mut self.peer)?,
+            "far" => self.far = taken(alloc, &mut self.node)?,
+            "pair" => self.make_pair()?,
+            "peer" => self.make_peer(words)?,
+            "again" => self.peer.again(alloc)?,
+            "leave" => self.node = left(alloc, &mut self.peer)?,
             _ => return Ok(false),
         }
         Ok(true)

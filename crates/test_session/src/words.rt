@@ -2,28 +2,7 @@
 use anyhow::{Context, Result};
 use mem_talk::Offered;
 use std::alloc::Global;
-
-/// The words of a line, between blanks.
-pub fn words_of(alloc: Global, line: &str) -> Result<Vec<&str>> {
-    let mut words = Vec::new(alloc);
-    for word in line.split_whitespace() {
-        words.push(word)?;
-    }
-    Ok(words)
-}
-
-/// The word at a place, empty where there is none.
-pub fn word<'a>(words: &[&'a str], place: usize) -> &'a str {
-    words.get(place).copied().unwrap_or("")
-}
-
-/// What stands behind the first word.
-pub fn rest(line: &str) -> &str {
-    match line.split_once(" ") {
-        Some((_, rest)) => rest,
-        None => "",
-    }
-}
+use test_script::word;
 
 /// What stands before the bar, and behind it.
 pub fn halves(line: &str) -> (&str, &str) {

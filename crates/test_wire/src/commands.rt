@@ -6,11 +6,11 @@ ghost use Rattle.binkp_args.specs.Command.{command_text};
 ghost use Rattle.binkp_args.specs.Limits.{HasAddresses, HasFile, IsShort};
 ghost use Rattle.binkp_args.specs.Writing.{IsKnown};
 
-use crate::words::shown;
 use anyhow::{Result, bail};
 use binkp_args::{Command, fits_a_frame, read_command, write_command};
 use ftn_addr::{Addr, Bytes, FileKey, MAX_FRAME_DATA, NoMemory, write_addr};
 use std::alloc::Global;
+use test_script::shown;
 
 /// The most addresses of an M_ADR that is written here.
 const MAX_ADDRESSES: usize = 500;

@@ -2,11 +2,11 @@
 ghost use Rattle.ftn_addr.specs.Frames.{CanSend};
 ghost use Rattle.binkp_frame.specs.Views.{frame_text};
 
-use crate::words::{bytes, shown};
 use anyhow::{Result, bail};
 use binkp_frame::{Decoder, Frame, head_of, put_frame};
 use ftn_addr::{Bytes, MAX_FRAME_DATA};
 use std::alloc::Global;
+use test_script::{bytes, shown};
 
 /// How many of the bytes that were written are printed.
 const FRONT: usize = 20;

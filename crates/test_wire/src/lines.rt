@@ -3,11 +3,11 @@ ghost use Rattle.std.specs.Prelude.{◌≡◌, ◌<◌, false, length, IfOk};
 ghost use Rattle.binkp_link.specs.MemLines.{mem_state};
 ghost use Rattle.binkp_link.specs.Scripts.{AllTakeSome};
 
-use crate::words::{bytes, shown};
 use anyhow::{Result, bail};
 use binkp_link::{Line, MemLine, ReadAct, ReadAnswer, WriteAct};
 use ftn_addr::Bytes;
 use std::alloc::Global;
+use test_script::{bytes, shown};
 
 // What a read answers whose buffer has so many bytes, at most eight, and what came.
 fn read<L: Line>(alloc: Global, line: &mut L, len: usize, wait: bool) -> Result<String>
@@ -47,13 +47,13 @@ pub fn step<L: Line>(alloc: Global, line: &mut L, step: &str) -> Result<String>
     requires { (L.state line.old).closed ≡ false }
     ensures { (L.state line.new).closed ≡ false }
 {
-    match step.as_bytes() {
-        b"read" => read(alloc, line, 8, false),
-        b"read3" => read(alloc, line, 3, false),
-        b"wait" => read(alloc, line, 8, true),
-        b"wait1" => read(alloc, line, 1, true),
-        b"wait3" => read(alloc, line, 3, true),
-        b"counts" => counts(alloc, line),
+    match step {
+        "read" => read(alloc, line, 8, false),
+        "read3" => read(alloc, line, 3, false),
+        "wait" => read(alloc, line, 8, true),
+        "wait1" => read(alloc, line, 1, true),
+        "wait3" => read(alloc, line, 3, true),
+        "counts" => counts(alloc, line),
         _ => write(alloc, line, step),
     }
 }

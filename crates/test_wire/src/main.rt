@@ -26,13 +26,12 @@ mod commands;
 mod frames;
 mod lines;
 mod stand_ins;
-mod words;
 
 use anyhow::Result;
 use calls::call;
 use ftn_addr::Bytes;
 use std::io;
-use words::{behind, bytes, words_of};
+use test_script::{behind, bytes, words_of};
 
 // Plays one line, over what was written since the last comment.
 fn play(rt: &HostRuntime, line: &str, written: &mut Bytes) -> Result<()> {

@@ -2,10 +2,10 @@
 ghost use Rattle.std.specs.Prelude.{◌≡◌, false};
 
 use crate::lines::{push, step};
-use crate::words::{bytes, shown};
 use anyhow::Result;
 use binkp_link::{Clock, Dice, MemClock, MemDice, MemPipe, MemSink, Sink};
 use std::alloc::Global;
+use test_script::{bytes, shown};
 
 fn carry(alloc: Global, near: &mut MemPipe, far: &mut MemPipe, most: u64) -> Result<String>
     requires near { near.old.line.closed ≡ false }
@@ -26,10 +26,10 @@ fn pipe_step(alloc: Global, near: &mut MemPipe, far: &mut MemPipe, word: &str) -
     if let Some(word) = word.strip_prefix("far:") {
         return step(alloc, far, word);
     }
-    match word.as_bytes() {
-        b"carry" => carry(alloc, near, far, u64::MAX),
-        b"carry4" => carry(alloc, near, far, 4),
-        b"cut" => {
+    match word {
+        "carry" => carry(alloc, near, far, u64::MAX),
+        "carry4" => carry(alloc, near, far, 4),
+        "cut" => {
             near.cut();
             far.cut();
             Ok(String::from_str(alloc, "cut")?)

@@ -1,5 +1,0 @@
-//! Tests of the disk in memory.
-#![tactic(auto)]
-
-#[cfg(test)]
-mod calls;
