@@ -35,14 +35,6 @@ impl Behind {
     pub fn outside(&self) -> &[u8] {
         self.outside.as_slice()
     }
-
-    /// Whether the take-in ended with these fates.
-    pub fn has_fates(&self, wanted: &[Fate]) -> bool {
-        match &self.fates {
-            Ok(fates) => fates.as_slice() == wanted,
-            Err(_) => false,
-        }
-    }
 }
 
 // What became of each line, packet and request.

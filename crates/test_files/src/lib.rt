@@ -14,9 +14,7 @@
 #![tactic(auto)]
 
 mod journal;
-mod values;
 mod watched;
 
 pub use journal::Journal;
-pub use values::{bytes, name};
 pub use watched::{Race, Seen, Watched};
