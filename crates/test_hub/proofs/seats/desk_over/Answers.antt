@@ -1,7 +1,7 @@
 use Rattle.mem_store.specs.ListStates.{stand_of}
 use Rattle.hub_core.specs.Hubs.{hub_state}
 use Rattle.hub_core.specs.Opening.{IsWhole}
-use Rattle.test_hub.proofs.seats.rig.desk_over.Goals as goal
+use Rattle.test_hub.proofs.seats.desk_over.Goals as goal
 
 pub returns : goal.returns
 returns c =
