@@ -1,0 +1,93 @@
+//! Names, the words of a command, flow files and file requests.
+use crate::shown::{behind_bars, lists, or_none, quoted};
+use anyhow::Result;
+use command_words::{Form, read_form};
+use disk_model::Name;
+use file_request::{Share, answer_request};
+use flow_file::{FlowLine, read_flow};
+use ftn_addr::{Bytes, NoMemory};
+use node_model::{numbered_name, plain_name};
+use std::alloc::Global;
+use test_script::{number, shown};
+
+/// A received name made plain.
+pub fn plain(alloc: Global, name: &[u8]) -> Result<String> {
+    let plain = plain_name(alloc, name)?;
+    quoted(alloc, plain.as_slice())
+}
+
+/// The name behind the number of its receipt, which is the first word.
+pub fn numbered(alloc: Global, words: &[&str], name: &[u8]) -> Result<String> {
+    let receipt = u32::try_from(number(words, 1)?)?;
+    let numbered = numbered_name(alloc, receipt, name)?;
+    quoted(alloc, numbered.as_slice())
+}
+
+/// The name of an own file that a text is.
+pub fn own_name(alloc: Global, text: &[u8]) -> Result<String> {
+    match Name::new(text) {
+        Some(name) => quoted(alloc, name.as_slice()),
+        None => Ok(String::from_str(alloc, "none")?),
+    }
+}
+
+// A command, and the word behind it.
+fn parts<'a>(form: Form<'a>) -> (&'static str, &'a [u8]) {
+    match form {
+        Form::Answer => ("answer", &[]),
+        Form::List => ("list", &[]),
+        Form::Take => ("take", &[]),
+        Form::Call(text) => ("call", text.as_slice()),
+        Form::Lookup(text) => ("lookup", text.as_slice()),
+        Form::Compile(path) => ("compile", path.as_slice()),
+    }
+}
+
+/// The command that words behind bars are, and the word behind it.
+pub fn command(alloc: Global, text: &[u8]) -> Result<String> {
+    let words = behind_bars(alloc, text)?;
+    let form = read_form(alloc, words.as_slice())?;
+    let (command, word) = form.map_or(("none", [].as_slice()), parts);
+    let word = shown(alloc, word)?;
+    Ok(format!(in alloc; "{command} \"{word}\"")?)
+}
+
+fn push_flow(alloc: Global, line: &FlowLine, out: &mut String) -> Result<(), NoMemory> {
+    let text = match line {
+        FlowLine::Send(action, path) => {
+            let path = shown(alloc, path.as_slice())?;
+            format!(in alloc; "[{action:?} {path}]")?
+        }
+        FlowLine::Passed => String::from_str(alloc, "[Passed]")?,
+    };
+    out.push_str(text.as_str())?;
+    Ok(())
+}
+
+/// What each line of a flow file asks for.
+pub fn flow(alloc: Global, text: &[u8]) -> Result<String> {
+    let lines = read_flow(alloc, text)?;
+    let mut out = String::new(alloc);
+    for line in &lines {
+        push_flow(alloc, line, &mut out)?;
+    }
+    Ok(or_none(alloc, out)?)
+}
+
+/// A folder, and behind each bar the name of a file.
+pub fn share_of(alloc: Global, text: &[u8]) -> Result<Share, NoMemory> {
+    let folder = text.split(|byte| *byte == b'|').next().unwrap_or(text);
+    let folder = Bytes::from_slice(alloc, folder)?;
+    Ok(Share {
+        folder,
+        names: behind_bars(alloc, text)?,
+    })
+}
+
+/// The files that a request gets, and the count of lines that get none.
+pub fn request(alloc: Global, text: &[u8], shares: &[Share]) -> Result<String> {
+    let answer = answer_request(alloc, text, shares)?;
+    let (files, passed) = (lists(alloc, answer.files.as_slice())?, answer.passed);
+    let count = answer.files.len();
+    Ok(format!(in alloc; "{files} {count} found {passed} passed")?)
+}
