@@ -1,13 +1,17 @@
-"""Frames of binkp (FTS-1026), folders and runs of the built program, for the checks here."""
+"""Frames of binkp (FTS-1026), folders and runs of the built program, for the checks here and for bench/."""
 import email.utils
 import os
 import re
 import subprocess
+import sys
 import time
 
 ROOT = os.path.dirname(os.path.dirname(os.path.abspath(__file__)))
 CRATE = os.path.join(ROOT, "crates", "binkp")
 BUILT = os.path.join(CRATE, "out", "binkp")
+
+# The program of the benches.
+BENCH = os.path.join(ROOT, "crates", "bench_parts", "out", "bench_parts")
 
 NUL, ADR, PWD, FILE, OK, EOB, GOT, ERR, BSY, GET, SKIP = range(11)
 
@@ -92,11 +96,41 @@ CALL_HELLO = LOGIN + HELLO + data(b"hello") + END
 HEARD_HELLO = LET_IN + GOT_HELLO + END
 
 
+def in_frames(content, most=4096):
+    """The content of a file in data frames of at most so many bytes."""
+    for at in range(0, len(content), most):
+        yield data(content[at : at + most])
+
+
 def settle(folder, settings):
     """Writes the settings of a folder, where there are any."""
     if settings is not None:
         with open(os.path.join(folder, "binkp.conf"), "wb") as out:
             out.write(settings)
+
+
+def program_named(built=BUILT):
+    """The program that the script's first word names, or else the built one. Where it isn't there the script ends."""
+    program = os.path.abspath(sys.argv[1]) if len(sys.argv) > 1 else built
+    if not os.access(program, os.X_OK):
+        sys.exit("%s isn't there: build it by `rt run` in crates/%s, or name one" % (program, os.path.basename(built)))
+    return program
+
+
+def start(program, folder, words, given=subprocess.PIPE, taken=subprocess.PIPE):
+    """Starts the program over that folder."""
+    return subprocess.Popen([program, folder] + words, cwd=folder, stdin=given, stdout=taken, stderr=subprocess.PIPE)
+
+
+def over_pipes(one, other):
+    """Two programs over two pipes, of which each reads what the other writes: each is started by its function of what it reads from
+    and writes to."""
+    to_other, from_one = os.pipe()
+    to_one, from_other = os.pipe()
+    children = [one(to_one, from_one), other(to_other, from_other)]
+    for end in (to_other, from_one, to_one, from_other):
+        os.close(end)
+    return children
 
 
 TIME = re.compile(rb"TIME (\w\w\w, \d\d \w\w\w \d\d\d\d \d\d:\d\d:\d\d \+0000)")
