@@ -2,6 +2,7 @@
 import email.utils
 import os
 import re
+import resource
 import subprocess
 import sys
 import time
@@ -10,8 +11,8 @@ ROOT = os.path.dirname(os.path.dirname(os.path.abspath(__file__)))
 CRATE = os.path.join(ROOT, "crates", "binkp")
 BUILT = os.path.join(CRATE, "out", "binkp")
 
-# The program of the benches.
-BENCH = os.path.join(ROOT, "crates", "bench_parts", "out", "bench_parts")
+# The program of bench/gate.
+BENCH = os.path.join(ROOT, "crates", "bench_gate", "out", "bench_gate")
 
 NUL, ADR, PWD, FILE, OK, EOB, GOT, ERR, BSY, GET, SKIP = range(11)
 
@@ -208,3 +209,43 @@ def leave(folder, **files):
 
 def took(peer, queued):
     return b"took %s queued %d again 0 missing 0 over 0 passed 0\n" % (peer, queued)
+
+
+def processor_time(words, **how):
+    """The seconds of the processor that a command takes, and what came of it."""
+    before = resource.getrusage(resource.RUSAGE_CHILDREN)
+    done = subprocess.run(words, stdin=subprocess.DEVNULL, capture_output=True, check=False, **how)
+    after = resource.getrusage(resource.RUSAGE_CHILDREN)
+    return after.ru_utime + after.ru_stime - before.ru_utime - before.ru_stime, done
+
+
+# The records of a ledger (docs/disk.md), of files of five bytes for and from the other node.
+def number_bytes(number):
+    return number.to_bytes(4, "big")
+
+
+def file_bytes(name):
+    return bytes([len(PEER)]) + PEER + bytes([len(name)]) + name + (5).to_bytes(8, "big") + (1000000000).to_bytes(8, "big")
+
+
+def queue_record(number, name):
+    """The file comes from no other, and is normal."""
+    return b"\x01" + number_bytes(number) + file_bytes(name) + b"\x00\x00\x00\x02"
+
+
+def done_record(number):
+    return b"\x02" + number_bytes(number) + number_bytes(1)
+
+
+def received_record(number, name):
+    return b"\x03" + number_bytes(number) + file_bytes(name) + number_bytes(1) + b"\x00"
+
+
+def refused_record(name):
+    return b"\x04" + file_bytes(name) + number_bytes(1) + b"\x01"
+
+
+def ledger_of(records):
+    """The ledger of these records."""
+    body = b"".join(b"\x01" + len(record).to_bytes(2, "big") + record for record in records)
+    return b"binkpldg" + number_bytes(1) + number_bytes(0) + body + b"\x00"
