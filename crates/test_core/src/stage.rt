@@ -5,6 +5,7 @@ use crate::receiver::ReceiverRig;
 use crate::sender::SenderRig;
 use crate::session::SessionRig;
 use crate::settings::{settings_of, side_of};
+use crate::wire;
 use anyhow::Result;
 use ftn_addr::{Bytes, NoMemory};
 use std::alloc::Global;
@@ -17,6 +18,8 @@ const NOW: u64 = 1_000_000_000;
 #[derive(Drop)]
 enum Scene {
     Nothing,
+    /// What was written.
+    Wire(Bytes),
     Login(Box<LoginRig>),
     Session(Box<SessionRig>),
     Sender(Box<SenderRig>),
@@ -81,9 +84,10 @@ impl Stage {
         SessionRig::new(self.alloc, side, conf, self.moment)
     }
 
-    // Whether the words make a login, a session or a half of one.
+    // Whether the words make a login, a session or a half of one, or are of the wire.
     fn makes(&mut self, words: &[&str]) -> Result<bool> {
         self.scene = match word(words, 0) {
+            "wire" => Scene::Wire(Bytes::new(self.alloc)),
             "login" => Scene::Login(self.login(words)?),
             "session" => Scene::Session(self.session(words)?),
             "sender" => Scene::Sender(SenderRig::new(self.alloc, word(words, 1).parse::<u16>()?)?),
@@ -109,6 +113,7 @@ impl Stage {
     fn answer(&mut self, line: &str, words: &[&str]) -> Result<String> {
         match &mut self.scene {
             Scene::Nothing => refused(self.alloc, words),
+            Scene::Wire(written) => wire::call(self.alloc, line, words, written),
             Scene::Login(login) => login.call(self.alloc, line),
             Scene::Session(session) => session.call(self.alloc, line, words),
             Scene::Sender(sender) => sender.call(self.alloc, line, words),

@@ -6,6 +6,7 @@ ghost use Rattle.binkp_args.specs.Command.{command_text};
 ghost use Rattle.binkp_args.specs.Limits.{HasAddresses, HasFile, IsShort};
 ghost use Rattle.binkp_args.specs.Writing.{IsKnown};
 
+use crate::commands::home;
 use anyhow::{Result, bail};
 use binkp_args::{Command, fits_a_frame, read_command, write_command};
 use ftn_addr::{Addr, Bytes, FileKey, MAX_FRAME_DATA, NoMemory, write_addr};
@@ -14,19 +15,6 @@ use test_script::shown;
 
 /// The most addresses of an M_ADR that is written here.
 const MAX_ADDRESSES: usize = 500;
-
-// The node that reads.
-fn home(alloc: Global) -> Result<Addr, NoMemory>
-    ensures { IfOk result (λ addr. IsAddress (address addr)) }
-{
-    Ok(Addr {
-        zone: 2,
-        net: 5020,
-        node: 1042,
-        point: 0,
-        domain: Bytes::from_slice(alloc, b"fidonet")?,
-    })
-}
 
 fn quoted(alloc: Global, name: &str, text: &Bytes) -> Result<String> {
     let text = shown(alloc, text.as_slice())?;

@@ -5,7 +5,7 @@ use crate::lines::{push, step};
 use anyhow::Result;
 use binkp_link::{Clock, Dice, MemClock, MemDice, MemPipe, MemSink, Sink};
 use std::alloc::Global;
-use test_script::{bytes, shown};
+use test_script::{bytes, number, shown, words_from};
 
 fn carry(alloc: Global, near: &mut MemPipe, far: &mut MemPipe, most: u64) -> Result<String>
     requires near { near.old.line.closed ≡ false }
@@ -49,29 +49,52 @@ pub fn play_pipe(alloc: Global, steps: &[&str]) -> Result<String> {
     Ok(text)
 }
 
-/// Puts these words into a sink, of whose calls that one fails.
-pub fn sink(alloc: Global, fails: u64, words: &[&str]) -> Result<String> {
-    let mut sink = MemSink::new(alloc, vec![in alloc; fails]?);
+fn put(alloc: Global, sink: &mut MemSink, word: &str, text: &mut String) -> Result<()> {
+    let piece = bytes(alloc, word)?;
+    let answer = sink.put(piece.as_slice());
+    let answer = format!(in alloc; "{answer:?}")?;
+    push(text, &answer)
+}
+
+fn sunk(alloc: Global, sink: &MemSink, text: &mut String) -> Result<()> {
+    text.push_str(", written \"")?;
+    text.push_str(shown(alloc, sink.written())?.as_str())?;
+    let faults = format!(in alloc; "\", {} faults", sink.faults())?;
+    text.push_str(faults.as_str())?;
+    Ok(())
+}
+
+fn play_sink(alloc: Global, fails: Vec<u64>, words: &[&str]) -> Result<String> {
+    let mut sink = MemSink::new(alloc, fails);
     let mut text = String::new(alloc);
     for word in words {
-        let piece = bytes(alloc, word)?;
-        let answer = sink.put(piece.as_slice());
-        let answer = format!(in alloc; "{answer:?}")?;
-        push(&mut text, &answer)?;
+        put(alloc, &mut sink, word, &mut text)?;
     }
-    let written = shown(alloc, sink.written())?;
-    Ok(format!(in alloc; "{text}, written \"{written}\", {} faults", sink.faults())?)
+    sunk(alloc, &sink, &mut text)?;
+    Ok(text)
+}
+
+/// Puts the words behind the number into a sink, of whose calls that one fails.
+pub fn sink(alloc: Global, words: &[&str]) -> Result<String> {
+    let fails = number(words, 1)?;
+    play_sink(alloc, vec![in alloc; fails]?, words_from(words, 2))
 }
 
 /// What a clock of two moments tells three times.
-pub fn clock(alloc: Global, first: u64, second: u64) -> Result<String> {
+pub fn clock(alloc: Global, words: &[&str]) -> Result<String> {
+    let (first, second) = (number(words, 1)?, number(words, 2)?);
     let mut clock = MemClock::new(vec![in alloc; first, second]?);
     let (one, two, three) = (clock.now(), clock.now(), clock.now());
     Ok(format!(in alloc; "{one} {two} {three}")?)
 }
 
+fn byte(words: &[&str], place: usize) -> Result<u8> {
+    Ok(u8::try_from(number(words, place)?)?)
+}
+
 /// What dice of two items give three times: sixteen bytes that are one, and sixteen that are another.
-pub fn dice(alloc: Global, first: u8, second: u8) -> Result<String> {
+pub fn dice(alloc: Global, words: &[&str]) -> Result<String> {
+    let (first, second) = (byte(words, 1)?, byte(words, 2)?);
     let mut dice = MemDice::new(vec![in alloc; [first; 16], [second; 16]]?);
     let (one, two, three) = (dice.sixteen(), dice.sixteen(), dice.sixteen());
     Ok(format!(in alloc; "{one:?} {two:?} {three:?}")?)
