@@ -61,7 +61,8 @@ fn names(alloc: Global, folder: &mut Folder<'_>, path: &Bytes) -> Result<String>
 }
 
 // So many bytes from a place on, at most eight.
-fn read(alloc: Global, folder: &mut Folder<'_>, own: &Name, at: u64, len: u64) -> Result<String> {
+fn read(alloc: Global, folder: &mut Folder<'_>, own: &Name, words: &[&str]) -> Result<String> {
+    let (at, len) = (number(words, 2)?, number(words, 3)?);
     let mut out = [0; 8];
     let piece = &mut out[..usize::try_from(len.min(8))?];
     let answer = folder.read_at(own, at, piece);
@@ -72,23 +73,39 @@ fn read(alloc: Global, folder: &mut Folder<'_>, own: &Name, at: u64, len: u64) -
     Ok(text)
 }
 
-fn own_call(alloc: Global, folder: &mut Folder<'_>, words: &[&str]) -> Result<Option<String>> {
-    let own = || name(words, 1);
-    Ok(Some(match word(words, 0) {
-        "list" => list(alloc, folder)?,
-        "stat" => said(alloc, folder.stat(&own()?))?,
-        "create" => said(alloc, folder.create(&own()?))?,
-        "read" => read(alloc, folder, &own()?, number(words, 2)?, number(words, 3)?)?,
-        "write" => said(
-            alloc,
-            folder.write_at(&own()?, number(words, 2)?, word(words, 3).as_bytes()),
-        )?,
-        "cut" => said(alloc, folder.cut(&own()?, number(words, 2)?))?,
-        "sync" => said(alloc, folder.sync(&own()?))?,
-        "rename" => said(alloc, folder.rename(&own()?, &name(words, 2)?))?,
-        "remove" => said(alloc, folder.remove(&own()?))?,
-        _ => return Ok(None),
-    }))
+fn write(alloc: Global, folder: &mut Folder<'_>, own: &Name, words: &[&str]) -> Result<String> {
+    let at = number(words, 2)?;
+    said(alloc, folder.write_at(own, at, word(words, 3).as_bytes()))
+}
+
+fn cut(alloc: Global, folder: &mut Folder<'_>, own: &Name, words: &[&str]) -> Result<String> {
+    let len = number(words, 2)?;
+    said(alloc, folder.cut(own, len))
+}
+
+fn rename(alloc: Global, folder: &mut Folder<'_>, own: &Name, words: &[&str]) -> Result<String> {
+    let to = name(words, 2)?;
+    said(alloc, folder.rename(own, &to))
+}
+
+/// The calls of an own file.
+const OWN_CALLS: [&str; 8] = [
+    "stat", "create", "read", "write", "cut", "sync", "rename", "remove",
+];
+
+// One of these.
+fn own_call(alloc: Global, folder: &mut Folder<'_>, words: &[&str]) -> Result<String> {
+    let own = name(words, 1)?;
+    match word(words, 0) {
+        "stat" => said(alloc, folder.stat(&own)),
+        "create" => said(alloc, folder.create(&own)),
+        "read" => read(alloc, folder, &own, words),
+        "write" => write(alloc, folder, &own, words),
+        "cut" => cut(alloc, folder, &own, words),
+        "sync" => said(alloc, folder.sync(&own)),
+        "rename" => rename(alloc, folder, &own, words),
+        _ => said(alloc, folder.remove(&own)),
+    }
 }
 
 // The file that was looked at last, or one of another size or time.
@@ -117,41 +134,70 @@ fn look(alloc: Global, folder: &mut Folder<'_>, was: &mut OutStat, path: &Bytes)
     }
 }
 
-fn copy(
-    alloc: Global,
-    folder: &mut Folder<'_>,
-    path: &Bytes,
-    own: &Name,
-    most: u64,
-) -> Result<String> {
-    match folder.copy(path, own, most) {
+fn take(alloc: Global, folder: &mut Folder<'_>, path: &Bytes, words: &[&str]) -> Result<String> {
+    let own = name(words, 2)?;
+    said(alloc, folder.take(path, &own))
+}
+
+fn copy(alloc: Global, folder: &mut Folder<'_>, path: &Bytes, words: &[&str]) -> Result<String> {
+    let (own, most) = (name(words, 2)?, number(words, 3)?);
+    match folder.copy(path, &own, most) {
         Ok(Copied::Copied(stat)) => stat_text(alloc, stat),
         answer => said(alloc, answer),
     }
 }
 
+fn mark(alloc: Global, folder: &mut Folder<'_>, path: &Bytes, words: &[&str]) -> Result<String> {
+    let text = bytes(alloc, word(words, 2))?;
+    said(alloc, folder.mark(path, &text))
+}
+
+fn unmark(alloc: Global, folder: &mut Folder<'_>, path: &Bytes, words: &[&str]) -> Result<String> {
+    let text = bytes(alloc, word(words, 2))?;
+    said(alloc, folder.unmark(path, &text))
+}
+
+// Gives the own file to a folder, under a name.
+fn give_to(
+    alloc: Global,
+    folder: &mut Folder<'_>,
+    own: &Name,
+    to: &Bytes,
+    words: &[&str],
+) -> Result<String> {
+    let as_name = bytes(alloc, word(words, 3))?;
+    said(alloc, folder.give(own, to, &as_name))
+}
+
+fn give(alloc: Global, folder: &mut Folder<'_>, words: &[&str]) -> Result<String> {
+    let own = name(words, 1)?;
+    let to = bytes(alloc, word(words, 2))?;
+    give_to(alloc, folder, &own, &to, words)
+}
+
+fn no_such_call() -> Result<String> {
+    bail!("no such call")
+}
+
+// A call of the file, the folder or the mark under a path.
 fn outside_call(
     alloc: Global,
     folder: &mut Folder<'_>,
     was: &mut OutStat,
     words: &[&str],
-) -> Result<Option<String>> {
+) -> Result<String> {
     let path = bytes(alloc, word(words, 1))?;
-    Ok(Some(match word(words, 0) {
-        "look" => look(alloc, folder, was, &path)?,
-        "names" => names(alloc, folder, &path)?,
-        "take" => said(alloc, folder.take(&path, &name(words, 2)?))?,
-        "copy" => copy(alloc, folder, &path, &name(words, 2)?, number(words, 3)?)?,
-        "remove_if" => said(alloc, folder.remove_if(&path, &meant(*was, word(words, 2))))?,
-        "cut_if" => said(alloc, folder.cut_if(&path, &meant(*was, word(words, 2))))?,
-        "mark" => said(alloc, folder.mark(&path, &bytes(alloc, word(words, 2))?))?,
-        "unmark" => said(alloc, folder.unmark(&path, &bytes(alloc, word(words, 2))?))?,
-        "give" => {
-            let (to, as_name) = (bytes(alloc, word(words, 2))?, bytes(alloc, word(words, 3))?);
-            said(alloc, folder.give(&name(words, 1)?, &to, &as_name))?
-        }
-        _ => return Ok(None),
-    }))
+    match word(words, 0) {
+        "look" => look(alloc, folder, was, &path),
+        "names" => names(alloc, folder, &path),
+        "take" => take(alloc, folder, &path, words),
+        "copy" => copy(alloc, folder, &path, words),
+        "remove_if" => said(alloc, folder.remove_if(&path, &meant(*was, word(words, 2)))),
+        "cut_if" => said(alloc, folder.cut_if(&path, &meant(*was, word(words, 2)))),
+        "mark" => mark(alloc, folder, &path, words),
+        "unmark" => unmark(alloc, folder, &path, words),
+        _ => no_such_call(),
+    }
 }
 
 /// Makes the call of these words: what it answers. What a look finds is what is meant by the next `remove_if` and `cut_if`.
@@ -161,11 +207,10 @@ pub fn call(
     was: &mut OutStat,
     words: &[&str],
 ) -> Result<String> {
-    if let Some(answer) = own_call(alloc, folder, words)? {
-        return Ok(answer);
-    }
-    match outside_call(alloc, folder, was, words)? {
-        Some(answer) => Ok(answer),
-        None => bail!("no such call"),
+    match word(words, 0) {
+        "list" => list(alloc, folder),
+        "give" => give(alloc, folder, words),
+        own if OWN_CALLS.contains(&own) => own_call(alloc, folder, words),
+        _ => outside_call(alloc, folder, was, words),
     }
 }

@@ -1,4 +1,5 @@
-//! A real folder by script: each line of standard input is a call of the folder, or what another program does there.
+//! A real folder by script: each line of standard input is a call of the folder, what another program does there, or a session of the
+//! mailer over it.
 //!
 //! No contract says what a file system does, so this stands in front of it: a runtime before the real one (`test_files`) notes each
 //! call of the system with its paths, moves two bytes at a time, lets one call fail, and lets another program come before one. The
@@ -15,15 +16,22 @@
 //! race 2 link w1/a                       before the second call a link comes in place of that file
 //! faults                                 prints the count of faults
 //! told                                   prints it with the last reason
+//! answer b1 \x80\x01\x05 frames:2        the mailer answers over that folder, and its caller says one piece after another: prints
+//!                                        `answer: exit 0, sync b1,` with all syncs that the system was asked for
+//! run b1 take                            the same of any words of the mailer, without a caller
 //! ```
 //!
 //! Between the lines `prepare` and `ready` stands what `again` does anew, and what `each CALL` does before it lets each call of the
-//! system that CALL makes fail in its turn. `calls.rt` has the calls of the folder, `others.rt` what other programs do. A `\x` and two digits in a word are a byte,
-//! as in binkp's names.
+//! system that CALL makes fail in its turn. `calls.rt` has the calls of the folder, `others.rt` what other programs do, and
+//! `sessions.rt` the mailer's sessions. A `\x` and two digits in a word are a byte, as in binkp's names, and `frames:N` is N data
+//! frames of 16,384 bytes.
+//!
+//! A disk in memory counts its own syncs (`test_mailer`); those of a session here reach the system, the folder's own among them.
 #![tactic(auto)]
 
 mod calls;
 mod others;
+mod sessions;
 mod stage;
 mod words;
 

@@ -4,7 +4,7 @@ use std::fs::{FileTimes, OpenFile, OpenOptions};
 use std::os::unix::fs::symlink;
 use std::time::{Duration, UNIX_EPOCH};
 use std::{fs, str};
-use test_script::{number, word};
+use test_script::{bytes, number, word};
 
 /// When the bytes of a file changed that is put there, in seconds since 1970.
 const PUT_AT: u64 = 1_000_000_000;
@@ -19,7 +19,8 @@ fn set_age(rt: &HostRuntime, path: &str, seconds: u64) -> Result<()> {
 }
 
 fn put(rt: &HostRuntime, path: &str, text: &str) -> Result<()> {
-    fs::write(rt, path, text.as_bytes())?;
+    let text = bytes(rt.alloc(), text)?;
+    fs::write(rt, path, text.as_slice())?;
     set_age(rt, path, PUT_AT)
 }
 

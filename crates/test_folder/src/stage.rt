@@ -1,6 +1,7 @@
 //! The folder that a script plays over, and what was seen of it.
 use crate::calls::{Folder, call};
 use crate::others::other;
+use crate::sessions::session;
 use anyhow::{Result, bail};
 use disk_model::{Disk, OutStat};
 use real_edge::RealFolder;
@@ -117,6 +118,11 @@ impl<'a> Stage<'a> {
         Ok(true)
     }
 
+    // Does what the words say, where that is done by another program or by the mailer.
+    fn plays_beside(&self, words: &[&str]) -> Result<bool> {
+        Ok(other(&self.rt, words)? || session(self.rt, words)?)
+    }
+
     fn prepare(&mut self, prepared: &[&str]) -> Result<()> {
         for line in prepared {
             self.play_one(line)?;
@@ -152,7 +158,7 @@ impl<'a> Stage<'a> {
             return Ok(());
         }
         let words = words_of(self.rt.alloc(), line)?;
-        if self.prepares(words.as_slice())? || other(&self.rt, words.as_slice())? {
+        if self.prepares(words.as_slice())? || self.plays_beside(words.as_slice())? {
             return Ok(());
         }
         self.play_call(line)

@@ -1,0 +1,138 @@
+//! The mailer over a folder, of which the syncs alone are noted.
+ghost use Rattle.std.specs.Prelude.{◌≡◌, false, IfOk};
+ghost use Rattle.binkp_link.specs.MemLines.{mem_state};
+ghost use Rattle.binkp_link.specs.Scripts.{GivesSome, act_of};
+
+use anyhow::Result;
+use binkp_link::{MemLine, MemSink, ReadAct};
+use binkp_mailer::run_program;
+use ftn_addr::{Bytes, NoMemory};
+use real_edge::RealFolder;
+use std::alloc::Global;
+use std::rt::Files;
+use test_files::{Seen, Watched};
+use test_script::{bytes, word, words_from};
+
+// So many data frames of 16,384 bytes.
+fn frames(alloc: Global, count: u32) -> Result<Bytes, NoMemory> {
+    let mut all = Bytes::new(alloc);
+    for _ in 0..count {
+        all.push_slice(b"\x40\x00")?;
+        all.push_slice([b'x'; 16_384].as_slice())?;
+    }
+    Ok(all)
+}
+
+// What the peer says by a word of the script: its bytes, or data frames by their number.
+fn piece(alloc: Global, word: &str) -> Result<Bytes, NoMemory> {
+    match word.strip_prefix("frames:") {
+        Some(count) => frames(alloc, count.parse::<u32>().unwrap_or(0)),
+        None => bytes(alloc, word),
+    }
+}
+
+// What a read finds by a word: nothing yet where it is empty.
+fn read_of(alloc: Global, word: &str) -> Result<ReadAct, NoMemory>
+    ensures { IfOk result (λ read. GivesSome (act_of read)) }
+{
+    let piece = piece(alloc, word)?;
+    if piece.is_empty() {
+        return Ok(ReadAct::NotYet);
+    }
+    Ok(ReadAct::Bytes(piece))
+}
+
+// The word of a turn: each third one has a piece, and the two behind it find nothing yet.
+fn word_at<'t>(pieces: &[&'t str], turn: usize) -> &'t str {
+    if turn % 3 == 0 {
+        word(pieces, turn / 3)
+    } else {
+        ""
+    }
+}
+
+// A line on which these pieces come one after another, and then the end.
+fn line_of(alloc: Global, pieces: &[&str]) -> Result<MemLine, NoMemory>
+    ensures { IfOk result (λ line. ((mem_state line).calm ≡ 0) × ((mem_state line).closed ≡ false)) }
+{
+    let mut reads = Vec::new(alloc);
+    for turn in 0..pieces.len().saturating_mul(3) {
+        let read = read_of(alloc, word_at(pieces, turn))?;
+        reads.push(read)?;
+    }
+    reads.push(ReadAct::Quiet)?;
+    Ok(MemLine::new(alloc, reads, Vec::new(alloc)))
+}
+
+// The words of the mailer.
+fn named(alloc: Global, words: &[&str]) -> Result<Vec<Bytes>, NoMemory> {
+    let mut all = Vec::new(alloc);
+    for word in words {
+        all.push(bytes(alloc, word)?)?;
+    }
+    Ok(all)
+}
+
+// Runs the mailer over that folder and that line: the exit status.
+fn run_over<R: Files + AllocGlobal + Clone + Drop>(
+    alloc: Global,
+    folder: RealFolder<R>,
+    named: &[Bytes],
+    line: &mut MemLine,
+) -> u8
+    requires calm { (mem_state line.old).calm ≡ 0 }
+    requires open { (mem_state line.old).closed ≡ false }
+{
+    let mut out = MemSink::new(alloc, Vec::new(alloc));
+    let (ended, _) = run_program(alloc, named, folder, line, 0, [0; 16], &mut out);
+    ended.exit
+}
+
+// The same over the folder of that path.
+fn run_at(
+    rt: HostRuntime,
+    seen: &Seen,
+    path: &str,
+    named: &[Bytes],
+    line: &mut MemLine,
+) -> Result<u8, NoMemory>
+    requires calm { (mem_state line.old).calm ≡ 0 }
+    requires open { (mem_state line.old).closed ≡ false }
+{
+    let folder = RealFolder::new(Watched { rt, seen }, path)?;
+    Ok(run_over(rt.alloc(), folder, named, line))
+}
+
+// The same where the caller says these pieces.
+fn run_words(
+    rt: HostRuntime,
+    seen: &Seen,
+    path: &str,
+    words: &[&str],
+    pieces: &[&str],
+) -> Result<u8, NoMemory> {
+    let named = named(rt.alloc(), words)?;
+    let mut line = line_of(rt.alloc(), pieces)?;
+    run_at(rt, seen, path, named.as_slice(), &mut line)
+}
+
+// Runs the mailer, and prints its exit status and the syncs that it asked for.
+fn run(rt: HostRuntime, path: &str, words: &[&str], pieces: &[&str]) -> Result<()> {
+    let seen = Seen::of_syncs();
+    let exit = run_words(rt, &seen, path, words, pieces)?;
+    let syncs = seen.take();
+    print!(rt; "{}: ", word(words, 0))?;
+    println!(rt; "exit {exit}, {}", syncs.as_str())?;
+    Ok(())
+}
+
+/// Runs the mailer, where the words say so.
+pub fn session(rt: HostRuntime, words: &[&str]) -> Result<bool> {
+    let (path, rest) = (word(words, 1), words_from(words, 2));
+    match word(words, 0) {
+        "answer" => run(rt, path, &["answer"], rest)?,
+        "run" => run(rt, path, rest, &[])?,
+        _ => return Ok(false),
+    }
+    Ok(true)
+}
