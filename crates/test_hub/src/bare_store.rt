@@ -2,7 +2,7 @@
 ghost use Rattle.std.specs.Prelude.{◌≡◌, IfOk};
 ghost use Rattle.test_hub.specs.Fitting.{FitsHub};
 
-use crate::asks::ask;
+use crate::asks::{ASKS, ask};
 use crate::calls::call;
 use crate::queueing::{Queued, queue_bytes, queue_copy};
 use crate::seats::{Seats, conf};
@@ -88,14 +88,13 @@ impl BareStore {
     /// What the call or the question of these words answers.
     pub fn play(&mut self, alloc: Global, words: &[&str]) -> Result<String> {
         match word(words, 0) {
-            "queue" => return self.queue(alloc, words),
-            "queue_copy" => return self.queue_copy(alloc, words),
-            _ => {}
+            "queue" => self.queue(alloc, words),
+            "queue_copy" => self.queue_copy(alloc, words),
+            asked if ASKS.contains(&asked) => ask(alloc, &self.store, words),
+            _ => {
+                self.fits = false;
+                call(alloc, &mut self.store, words)
+            }
         }
-        if let Some(answer) = ask(alloc, &self.store, words)? {
-            return Ok(answer);
-        }
-        self.fits = false;
-        call(alloc, &mut self.store, words)
     }
 }

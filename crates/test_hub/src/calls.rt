@@ -1,6 +1,6 @@
 //! The calls of a store that no hub has. One whose conditions aren't met isn't made.
-use crate::receiving::receive;
-use crate::settling::settle;
+use crate::receiving::{self, receive};
+use crate::settling::{self, settle};
 use crate::words::{node, said, unmet};
 use anyhow::{Result, bail};
 use ftn_addr::Bytes;
@@ -20,28 +20,40 @@ fn give(alloc: Global, store: &mut ListStore) -> Result<String> {
     said(alloc, gave)
 }
 
-// A call that asks for nothing but a store that isn't broken.
-fn call_whole(alloc: Global, store: &mut ListStore, words: &[&str]) -> Result<String> {
+fn reserve(alloc: Global, store: &mut ListStore, words: &[&str]) -> Result<String> {
+    let places = word(words, 1).parse::<u32>()?;
     if store.broken().is_some() {
         return unmet(alloc);
     }
-    match word(words, 0) {
-        "reserve" => {
-            let reserved = store.reserve(word(words, 1).parse::<u32>()?);
-            said(alloc, reserved)
-        }
-        "copy" => {
-            let path = bytes(alloc, word(words, 1))?;
-            let copied = store.stage_copy(alloc, &path);
-            said(alloc, copied)
-        }
-        "act" => {
-            let dest = node(alloc, words, 1)?;
-            let acted = store.act_next(alloc, &dest);
-            said(alloc, acted)
-        }
-        _ => bail!("no such call of the store"),
+    let reserved = store.reserve(places);
+    said(alloc, reserved)
+}
+
+fn copy(alloc: Global, store: &mut ListStore, words: &[&str]) -> Result<String> {
+    let path = bytes(alloc, word(words, 1))?;
+    if store.broken().is_some() {
+        return unmet(alloc);
     }
+    let copied = store.stage_copy(alloc, &path);
+    said(alloc, copied)
+}
+
+fn act(alloc: Global, store: &mut ListStore, words: &[&str]) -> Result<String> {
+    let dest = node(alloc, words, 1)?;
+    if store.broken().is_some() {
+        return unmet(alloc);
+    }
+    let acted = store.act_next(alloc, &dest);
+    said(alloc, acted)
+}
+
+fn by(alloc: Global, store: &mut ListStore, words: &[&str]) -> Result<String> {
+    store.by(word(words, 1).parse::<u32>()?);
+    Ok(String::new(alloc))
+}
+
+fn no_such_call() -> Result<String> {
+    bail!("no such call of the store")
 }
 
 // Another program puts a file.
@@ -54,19 +66,15 @@ fn put_out(alloc: Global, store: &mut ListStore, words: &[&str]) -> Result<Strin
 
 /// What the call of these words answers; nothing where it only changes what stands outside, or the seat.
 pub fn call(alloc: Global, store: &mut ListStore, words: &[&str]) -> Result<String> {
-    if let Some(answer) = receive(alloc, store, words)? {
-        return Ok(answer);
-    }
-    if let Some(answer) = settle(alloc, store, words)? {
-        return Ok(answer);
-    }
     match word(words, 0) {
+        first if receiving::CALLS.contains(&first) => receive(alloc, store, words),
+        first if settling::CALLS.contains(&first) => settle(alloc, store, words),
         "put_out" => put_out(alloc, store, words),
         "give" => give(alloc, store),
-        "by" => {
-            store.by(word(words, 1).parse::<u32>()?);
-            Ok(String::new(alloc))
-        }
-        _ => call_whole(alloc, store, words),
+        "by" => by(alloc, store, words),
+        "reserve" => reserve(alloc, store, words),
+        "copy" => copy(alloc, store, words),
+        "act" => act(alloc, store, words),
+        _ => no_such_call(),
     }
 }

@@ -68,11 +68,7 @@ mod words;
 use anyhow::Result;
 use stage::Stage;
 use std::io;
-
-// The lines from one place to another; all of them where there are no such places.
-fn between<'l, 't>(lines: &'l [&'t str], first: usize, last: usize) -> &'l [&'t str] {
-    lines.get(first..last).unwrap_or(lines)
-}
+use test_script::{between, lines_of};
 
 // Plays all lines over one stage.
 fn play(rt: HostRuntime, lines: &[&str]) -> Result<()> {
@@ -94,9 +90,6 @@ fn play(rt: HostRuntime, lines: &[&str]) -> Result<()> {
 
 fn main(rt: HostRuntime) -> Result<()> {
     let text = io::read_to_string(rt.alloc(), rt.reader())?;
-    let mut lines = Vec::new(rt.alloc());
-    for line in text.lines() {
-        lines.push(line)?;
-    }
+    let lines = lines_of(rt.alloc(), text.as_str())?;
     play(rt, lines.as_slice())
 }

@@ -35,8 +35,8 @@ fn refuse(alloc: Global, store: &mut ListStore, words: &[&str]) -> Result<String
     }
 }
 
-fn put(alloc: Global, store: &mut ListStore, part: u32, word: &str) -> Result<String> {
-    let data = bytes(alloc, word)?;
+fn put(alloc: Global, store: &mut ListStore, part: u32, words: &[&str]) -> Result<String> {
+    let data = bytes(alloc, word(words, 2))?;
     if store.broken().is_some() || !store.is_open(part, data.len() as u64) {
         return unmet(alloc);
     }
@@ -62,7 +62,13 @@ fn commit(alloc: Global, store: &mut ListStore, part: u32, secure: bool) -> Resu
 }
 
 // Reads at most eight bytes of a received file.
-fn read_receipt(alloc: Global, store: &mut ListStore, receipt: u32, at: u64) -> Result<String> {
+fn read_receipt(
+    alloc: Global,
+    store: &mut ListStore,
+    receipt: u32,
+    words: &[&str],
+) -> Result<String> {
+    let at = number(words, 2)?;
     if store.broken().is_some() || !store.is_kept(receipt) {
         return unmet(alloc);
     }
@@ -73,17 +79,25 @@ fn read_receipt(alloc: Global, store: &mut ListStore, receipt: u32, at: u64) -> 
     }
 }
 
-/// What the call of these words answers, where it is one of a received file.
-pub fn receive(alloc: Global, store: &mut ListStore, words: &[&str]) -> Result<Option<String>> {
-    let part = word(words, 1).parse::<u32>().unwrap_or(0);
-    let answer = match word(words, 0) {
-        "open" => open(alloc, store, words),
-        "refuse" => refuse(alloc, store, words),
-        "put" => put(alloc, store, part, word(words, 2)),
+// A call of a part, or of what it became.
+fn of_part(alloc: Global, store: &mut ListStore, words: &[&str]) -> Result<String> {
+    let part = word(words, 1).parse::<u32>()?;
+    match word(words, 0) {
+        "put" => put(alloc, store, part, words),
         "mark" => mark(alloc, store, part),
         "commit" => commit(alloc, store, part, word(words, 2) == "secure"),
-        "read_receipt" => read_receipt(alloc, store, part, number(words, 2)?),
-        _ => return Ok(None),
-    };
-    Ok(Some(answer?))
+        _ => read_receipt(alloc, store, part, words),
+    }
+}
+
+/// The words of the calls here.
+pub const CALLS: [&str; 6] = ["open", "refuse", "put", "mark", "commit", "read_receipt"];
+
+/// What the call of these words answers, which is one of a received file.
+pub fn receive(alloc: Global, store: &mut ListStore, words: &[&str]) -> Result<String> {
+    match word(words, 0) {
+        "open" => open(alloc, store, words),
+        "refuse" => refuse(alloc, store, words),
+        _ => of_part(alloc, store, words),
+    }
 }

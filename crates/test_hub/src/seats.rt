@@ -7,7 +7,7 @@ ghost use Rattle.test_hub.specs.Fitting.{FitsHub};
 
 use crate::words::{key, node, quoted, said, unmet};
 use anyhow::{Result, bail};
-use ftn_addr::NoMemory;
+use ftn_addr::{Bytes, NoMemory};
 use hub_core::{Desk, DeskFault, Hub, HubConf, HubDesk, Offer};
 use mem_store::ListStore;
 use node_model::Role;
@@ -38,15 +38,19 @@ impl Model for Seats {
 pub fn conf(alloc: Global, words: &[&str]) -> Result<HubConf> {
     let max_servers = word(words, 1).parse::<u16>()?;
     let refuse_over = number(words, 2)?;
-    let mut refuse_names = Vec::new(alloc);
-    for end in words_from(words, 3) {
-        refuse_names.push(bytes(alloc, end)?)?;
-    }
     Ok(HubConf {
         max_servers,
-        refuse_names,
+        refuse_names: all_bytes(alloc, words_from(words, 3))?,
         refuse_over,
     })
+}
+
+fn all_bytes(alloc: Global, words: &[&str]) -> Result<Vec<Bytes>, NoMemory> {
+    let mut all = Vec::new(alloc);
+    for word in words {
+        all.push(bytes(alloc, word)?)?;
+    }
+    Ok(all)
 }
 
 // The second seat of a hub over that store.
@@ -165,7 +169,8 @@ impl Seats {
     }
 
     // At most so many bytes of what is offered, and no more than eight.
-    fn read(&mut self, alloc: Global, at: u64, most: usize) -> Result<String> {
+    fn read(&mut self, alloc: Global, words: &[&str]) -> Result<String> {
+        let (at, most) = (number(words, 1)?, word(words, 2).parse::<usize>()?);
         let mut buffer = [0u8; 8];
         let Some(out) = buffer.get_mut(..most) else {
             bail!("at most eight bytes are read")
@@ -193,25 +198,40 @@ impl Seats {
         Ok(String::from_str(alloc, "skipped")?)
     }
 
+    fn next(&mut self, alloc: Global) -> Result<String> {
+        match self.offer(alloc) {
+            Some(offered) => said(alloc, offered),
+            None => unmet(alloc),
+        }
+    }
+
+    // Whether the entry of that number is offered next.
+    fn offers(&mut self, alloc: Global, words: &[&str]) -> Result<String> {
+        let number = word(words, 1).parse::<u32>()?;
+        let offered = self.offer(alloc);
+        said(alloc, offered == Some(Ok(Some(number))))
+    }
+
+    fn knock(&mut self, alloc: Global, words: &[&str]) -> Result<String> {
+        let role = role_of(word(words, 1))?;
+        let answer = self.desk.knock(role);
+        said(alloc, answer)
+    }
+
+    fn leave(&mut self, alloc: Global) -> Result<String> {
+        let answer = self.desk.leave();
+        said(alloc, answer)
+    }
+
     // Makes the call of these words by which the peer gets files.
     fn send(&mut self, alloc: Global, words: &[&str]) -> Result<String> {
         match word(words, 0) {
-            "next" => match self.offer(alloc) {
-                Some(offered) => said(alloc, offered),
-                None => unmet(alloc),
-            },
-            "offers" => {
-                let number = word(words, 1).parse::<u32>()?;
-                let offered = self.offer(alloc);
-                said(alloc, offered == Some(Ok(Some(number))))
-            }
-            "read" => {
-                let most = word(words, 2).parse::<usize>()?;
-                self.read(alloc, number(words, 1)?, most)
-            }
+            "next" => self.next(alloc),
+            "offers" => self.offers(alloc, words),
+            "read" => self.read(alloc, words),
             "got" => self.got(alloc),
             "skip" => self.skip(alloc),
-            _ => bail!("no such call of a seat"),
+            _ => no_such_call(),
         }
     }
 
@@ -219,21 +239,19 @@ impl Seats {
     pub fn play(&mut self, alloc: Global, words: &[&str]) -> Result<String> {
         match word(words, 0) {
             "seat" => self.turn(alloc, words),
-            "knock" => {
-                let answer = self.desk.knock(role_of(word(words, 1))?);
-                said(alloc, answer)
-            }
+            "knock" => self.knock(alloc, words),
             "begin" if words.len() < 3 => self.begin(alloc, words),
             "begin" => self.begin_call(alloc, words),
-            "leave" => {
-                let answer = self.desk.leave();
-                said(alloc, answer)
-            }
+            "leave" => self.leave(alloc),
             "file" => self.file(alloc, words),
             "data" => self.data(alloc, words),
             _ => self.send(alloc, words),
         }
     }
+}
+
+fn no_such_call() -> Result<String> {
+    bail!("no such call of a seat")
 }
 
 /// The hub's store, once its sessions are over.

@@ -10,7 +10,8 @@ use std::alloc::Global;
 use test_script::{number, word};
 
 // Reads at most eight bytes of a queued file.
-fn read(alloc: Global, store: &mut ListStore, entry: u32, at: u64) -> Result<String> {
+fn read(alloc: Global, store: &mut ListStore, entry: u32, words: &[&str]) -> Result<String> {
+    let at = number(words, 2)?;
     if store.broken().is_some() || !store.is_live(entry) {
         return unmet(alloc);
     }
@@ -22,7 +23,8 @@ fn read(alloc: Global, store: &mut ListStore, entry: u32, at: u64) -> Result<Str
 }
 
 // Settles an entry in a session.
-fn done(alloc: Global, store: &mut ListStore, entry: u32, session: u32) -> Result<String> {
+fn done(alloc: Global, store: &mut ListStore, entry: u32, words: &[&str]) -> Result<String> {
+    let session = word(words, 2).parse::<u32>()?;
     if store.broken().is_some() || store.reserved() == 0 || session == 0 {
         return unmet(alloc);
     }
@@ -69,16 +71,17 @@ fn release(alloc: Global, store: &mut ListStore, places: u32) -> Result<String> 
     Ok(String::from_str(alloc, "released")?)
 }
 
-/// What the call of these words answers, where it is one of a queued file, a take, an answer or places.
-pub fn settle(alloc: Global, store: &mut ListStore, words: &[&str]) -> Result<Option<String>> {
-    let first = word(words, 1).parse::<u32>().unwrap_or(0);
-    let answer = match word(words, 0) {
-        "read" => read(alloc, store, first, number(words, 2)?),
-        "done" => done(alloc, store, first, word(words, 2).parse::<u32>()?),
+/// The words of the calls here.
+pub const CALLS: [&str; 5] = ["read", "done", "take", "answer", "release"];
+
+/// What the call of these words answers, which is one of a queued file, a take, an answer or places.
+pub fn settle(alloc: Global, store: &mut ListStore, words: &[&str]) -> Result<String> {
+    let first = word(words, 1).parse::<u32>()?;
+    match word(words, 0) {
+        "read" => read(alloc, store, first, words),
+        "done" => done(alloc, store, first, words),
         "take" => take(alloc, store, first),
         "answer" => answer_request(alloc, store, first),
-        "release" => release(alloc, store, first),
-        _ => return Ok(None),
-    };
-    Ok(Some(answer?))
+        _ => release(alloc, store, first),
+    }
 }

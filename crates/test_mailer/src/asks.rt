@@ -15,7 +15,7 @@
 //! report                               the line of a session
 //! memory                               how the program ends where there is no memory for its words
 //! ```
-use crate::calls::end_for_memory;
+use crate::calls::{end_for_memory, said};
 use crate::stage::Stage;
 use crate::texts::{Texts, push_bytes};
 use binkp_mailer::push_session;
@@ -87,24 +87,34 @@ fn shown(alloc: Global, file: Option<Vec<u8>>) -> Result<String, Fail> {
     line(alloc, bytes.as_slice())
 }
 
-fn size(alloc: Global, disk: &mut MemDisk, path: &str) -> Result<String, Fail> {
-    let size = size_at(alloc, disk, path.as_bytes())?;
-    Ok(format!(in alloc; " {size:?}")?)
+fn show(alloc: Global, disk: &mut MemDisk, path: &str) -> Result<String, Fail> {
+    let file = outside_file(alloc, disk, path.as_bytes())?;
+    shown(alloc, file)
 }
 
-fn ask_disk(alloc: Global, disk: &mut MemDisk, words: &[&str]) -> Result<Option<String>, Fail> {
+fn read(alloc: Global, disk: &mut MemDisk, name: &str) -> Result<String, Fail> {
+    let file = own_file(alloc, disk, name.as_bytes())?;
+    shown(alloc, file)
+}
+
+fn size(alloc: Global, disk: &mut MemDisk, path: &str) -> Result<String, Fail> {
+    let size = size_at(alloc, disk, path.as_bytes())?;
+    Ok(said(alloc, size)?)
+}
+
+fn ask_disk(alloc: Global, disk: &mut MemDisk, words: &[&str]) -> Result<String, Fail> {
     let path = word(words, 1);
-    Ok(Some(match word(words, 0) {
-        "calls" => format!(in alloc; " {}", disk.calls())?,
-        "syncs" => format!(in alloc; " {}", disk.syncs())?,
-        "faults" => format!(in alloc; " {}", disk.faults())?,
-        "files" => files(alloc, disk)?,
-        "names" => names(alloc, disk, path)?,
-        "size" => size(alloc, disk, path)?,
-        "show" => shown(alloc, outside_file(alloc, disk, path.as_bytes())?)?,
-        "read" => shown(alloc, own_file(alloc, disk, path.as_bytes())?)?,
-        _ => return Ok(None),
-    }))
+    match word(words, 0) {
+        "calls" => Ok(said(alloc, disk.calls())?),
+        "syncs" => Ok(said(alloc, disk.syncs())?),
+        "faults" => Ok(said(alloc, disk.faults())?),
+        "files" => files(alloc, disk),
+        "names" => names(alloc, disk, path),
+        "size" => size(alloc, disk, path),
+        "show" => show(alloc, disk, path),
+        "read" => read(alloc, disk, path),
+        _ => Err(Failed.into()),
+    }
 }
 
 // Whether nothing was told, or a disk fault at last.
@@ -160,23 +170,30 @@ fn report(alloc: Global) -> Result<String, Fail> {
     line(alloc, said.as_slice())
 }
 
+// What is asked of the own files that were kept, and of what was told.
+fn is_so(stage: &mut Stage, words: &[&str]) -> Result<String, Fail> {
+    let rest = words_from(words, 1);
+    let is_so = match word(words, 0) {
+        "fault" => is_fault(stage.told.as_slice()),
+        "heard" => is_heard(&stage.texts, stage.told.as_slice(), rest)?,
+        "woven" => is_woven(&stage.texts, stage.told.as_slice(), rest)?,
+        _ => {
+            let own = own_bytes(stage.alloc, &mut stage.disk, word(words, 1))?;
+            own.as_slice() == stage.kept.as_slice()
+        }
+    };
+    Ok(String::from_str(stage.alloc, is_or_not(is_so))?)
+}
+
 /// What the question of these words answers.
 pub fn ask(stage: &mut Stage, words: &[&str]) -> Result<String, Fail> {
     let alloc = stage.alloc;
-    if let Some(answer) = ask_disk(alloc, &mut stage.disk, words)? {
-        return Ok(answer);
+    match word(words, 0) {
+        "kept" | "fault" | "heard" | "woven" => is_so(stage, words),
+        "status" => line(alloc, stage.status.as_slice()),
+        "printed" => line(alloc, stage.printed.as_slice()),
+        "report" => report(alloc),
+        "memory" => end_for_memory(alloc),
+        _ => ask_disk(alloc, &mut stage.disk, words),
     }
-    let is_so = match word(words, 0) {
-        "kept" => own_bytes(alloc, &mut stage.disk, word(words, 1))?.as_slice()
-            == stage.kept.as_slice(),
-        "fault" => is_fault(stage.told.as_slice()),
-        "heard" => is_heard(&stage.texts, stage.told.as_slice(), words_from(words, 1))?,
-        "woven" => is_woven(&stage.texts, stage.told.as_slice(), words_from(words, 1))?,
-        "status" => return line(alloc, stage.status.as_slice()),
-        "printed" => return line(alloc, stage.printed.as_slice()),
-        "report" => return report(alloc),
-        "memory" => return end_for_memory(alloc),
-        _ => return Err(Failed.into()),
-    };
-    Ok(String::from_str(alloc, is_or_not(is_so))?)
 }

@@ -6,7 +6,8 @@ use ftn_addr::{Action, Failed};
 use mem_disk::MemDisk;
 use mem_mailer::{Found, Ran, Takes, call_by, call_over, call_slowly, end_of, run};
 use mem_node::{Resting, act_once, with_queued, with_source};
-use std::alloc::Global;
+use std::alloc::{AllocError, Global};
+use std::fmt::Debug;
 use std::test::Fail;
 use test_script::{number, word, words_from};
 
@@ -42,14 +43,20 @@ fn found(texts: &Texts, word: &str) -> Result<Found, Fail> {
     }
 }
 
+// What so many reads find by the same word.
+fn push_found(texts: &Texts, times: u32, word: &str, all: &mut Vec<Found>) -> Result<(), Fail> {
+    for _ in 0..times {
+        all.push(found(texts, word)?)?;
+    }
+    Ok(())
+}
+
 // What the reads of a line find, in these words, each of which may come more than once, as in `60*~`.
 fn all_found(alloc: Global, texts: &Texts, words: &[&str]) -> Result<Vec<Found>, Fail> {
     let mut all = Vec::new(alloc);
     for word in words {
         let (times, word) = word.split_once("*").unwrap_or(("1", word));
-        for _ in 0..times.parse::<u32>()? {
-            all.push(found(texts, word)?)?;
-        }
+        push_found(texts, times.parse::<u32>()?, word, &mut all)?;
     }
     Ok(all)
 }
@@ -142,7 +149,7 @@ fn queue(alloc: Global, texts: &Texts, rest: Resting, words: &[&str]) -> Acted {
     }
     let (name, bytes) = (texts.piece(word(words, 2))?, texts.piece(word(words, 3))?);
     let (slot, rest) = with_queued(alloc, rest, node, name.as_slice(), bytes.as_slice())?;
-    Ok((format!(in alloc; " {slot:?}")?, rest.into_disk()))
+    Ok((said(alloc, slot)?, rest.into_disk()))
 }
 
 fn action_of(word: &str) -> Result<Action, Fail> {
@@ -161,13 +168,18 @@ fn source(alloc: Global, rest: Resting, words: &[&str]) -> Acted {
     Ok((String::from_str(alloc, " queued")?, rest.into_disk()))
 }
 
+/// An answer, behind a blank.
+pub fn said<T: Debug + Drop>(alloc: Global, answer: T) -> Result<String, AllocError> {
+    format!(in alloc; " {answer:?}")
+}
+
 // What the store answers where it is to act on the next source, or whether it does.
 fn act_next(alloc: Global, rest: Resting, is_told: bool) -> Acted {
     let (acted, disk) = act_once(alloc, rest)?;
     let text = if is_told {
-        format!(in alloc; " {acted:?}")?
+        said(alloc, acted)?
     } else {
-        format!(in alloc; " {}", acted.is_ok())?
+        said(alloc, acted.is_ok())?
     };
     Ok((text, disk))
 }

@@ -52,12 +52,8 @@ mod trials;
 use stage::Stage;
 use std::io;
 use std::test::Fail;
+use test_script::{between, lines_of};
 use trials::{Trial, is_trial};
-
-// The lines from one place to another; none where there are no such places.
-fn between<'l, 't>(lines: &'l [&'t str], first: usize, last: usize) -> &'l [&'t str] {
-    lines.get(first..last).unwrap_or(&lines[..0])
-}
 
 // Plays a line, or the trial that begins so, and prints what it says.
 fn play(rt: HostRuntime, stage: &mut Stage, trial: &Trial<'_>) -> Result<(), Fail> {
@@ -96,9 +92,6 @@ fn play_all(rt: HostRuntime, lines: &[&str]) -> Result<(), Fail> {
 
 fn main(rt: HostRuntime) -> Result<(), Fail> {
     let text = io::read_to_string(rt.alloc(), rt.reader())?;
-    let mut lines = Vec::new(rt.alloc());
-    for line in text.lines() {
-        lines.push(line)?;
-    }
+    let lines = lines_of(rt.alloc(), text.as_str())?;
     play_all(rt, lines.as_slice())
 }

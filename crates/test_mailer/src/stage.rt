@@ -92,7 +92,13 @@ impl Stage {
         Ok(())
     }
 
-    /// Prints a line.
+    /// Prints the front of a line, and a colon.
+    pub fn begin(&mut self, line: &str) -> Result<(), AllocError> {
+        self.said.push_str(line)?;
+        self.said.push_str(":")
+    }
+
+    /// Prints a line, or the rest of one.
     pub fn say(&mut self, line: &str) -> Result<(), AllocError> {
         self.said.push_str(line)?;
         self.said.push_str("\n")
@@ -129,15 +135,17 @@ impl Stage {
         Ok(text)
     }
 
+    // Makes another disk of the present one.
+    fn make(&mut self, words: &[&str]) -> Result<(), Fail> {
+        let rest = self.take_rest()?;
+        self.disk = made(self.alloc, &self.texts, rest, words)?.into_disk();
+        Ok(())
+    }
+
     // Does what the words say, where nothing is printed of them.
     fn prepares(&mut self, words: &[&str]) -> Result<bool, Fail> {
-        let first = word(words, 0);
-        if is_making(first) {
-            let rest = self.take_rest()?;
-            self.disk = made(self.alloc, &self.texts, rest, words)?.into_disk();
-            return Ok(true);
-        }
-        match first {
+        match word(words, 0) {
+            first if is_making(first) => self.make(words)?,
             "let" => self.texts.define(word(words, 1), words_from(words, 2))?,
             "fail" => self.failing = number(words, 1)?,
             "keep" => self.kept = own_bytes(self.alloc, &mut self.disk, word(words, 1))?,
@@ -146,28 +154,52 @@ impl Stage {
         Ok(true)
     }
 
-    // What is printed of words: nothing where they prepare a call.
-    fn answer(&mut self, words: &[&str]) -> Result<Option<String>, Fail> {
-        if let Some(place) = saying_at(words) {
-            let rest = self.take_rest()?;
-            let ran = call(self.alloc, &self.texts, rest, words, place)?;
-            return Ok(Some(self.told_of(ran)?));
-        }
-        if word(words, 0) == "run" {
-            let rest = self.take_rest()?;
-            let ran = run_words(self.alloc, &self.texts, rest, words)?;
-            return Ok(Some(self.told_of(ran)?));
-        }
-        if self.prepares(words)? {
-            return Ok(None);
-        }
-        if !is_acting(word(words, 0)) {
-            return Ok(Some(ask(self, words)?));
-        }
+    // What comes of the call whose peer says what stands behind that place.
+    fn called(&mut self, words: &[&str], place: usize) -> Result<String, Fail> {
+        let rest = self.take_rest()?;
+        let ran = call(self.alloc, &self.texts, rest, words, place)?;
+        self.told_of(ran)
+    }
+
+    // What comes of a command without a session.
+    fn commanded(&mut self, words: &[&str]) -> Result<String, Fail> {
+        let rest = self.take_rest()?;
+        let ran = run_words(self.alloc, &self.texts, rest, words)?;
+        self.told_of(ran)
+    }
+
+    // What the store answers, or how the program ends.
+    fn acted(&mut self, words: &[&str]) -> Result<String, Fail> {
         let rest = self.take_rest()?;
         let (text, disk) = act(self.alloc, &self.texts, rest, words)?;
         self.disk = disk;
-        Ok(Some(text))
+        Ok(text)
+    }
+
+    // What is printed of words that prepare nothing.
+    fn answer(&mut self, words: &[&str]) -> Result<String, Fail> {
+        if let Some(place) = saying_at(words) {
+            return self.called(words, place);
+        }
+        let first = word(words, 0);
+        if first == "run" {
+            return self.commanded(words);
+        }
+        if is_acting(first) {
+            self.acted(words)
+        } else {
+            ask(self, words)
+        }
+    }
+
+    // Prints what is answered to these words, or nothing.
+    fn tell(&mut self, line: &str, words: &[&str]) -> Result<(), Fail> {
+        let answer = self.answer(words)?;
+        if line.starts_with("~") {
+            return Ok(());
+        }
+        self.begin(line)?;
+        Ok(self.say(answer.as_str())?)
     }
 
     /// Plays a line.
@@ -180,13 +212,9 @@ impl Stage {
             return Ok(self.say(line)?);
         }
         let words = words_of(self.alloc, line.trim_start_matches("~"))?;
-        let answer = self.answer(words.as_slice())?;
-        if let Some(answer) = answer
-            && !line.starts_with("~")
-        {
-            let said = format!(in self.alloc; "{line}:{answer}")?;
-            self.say(said.as_str())?;
+        if saying_at(words.as_slice()).is_none() && self.prepares(words.as_slice())? {
+            return Ok(());
         }
-        Ok(())
+        self.tell(line, words.as_slice())
     }
 }

@@ -140,6 +140,14 @@ impl Trial<'_> {
         Ok(())
     }
 
+    // Prints what all trials came to.
+    fn tell(&self, stage: &mut Stage, seen: &str) -> Result<(), Fail> {
+        stage.take_said();
+        stage.begin(self.line)?;
+        stage.say("")?;
+        Ok(stage.say(seen.trim_end())?)
+    }
+
     /// Makes all trials. What comes of the first is printed, and of each other that differs from it.
     pub fn all(&self, stage: &mut Stage) -> Result<(), Fail> {
         let calls = self.calls(stage)?;
@@ -150,8 +158,6 @@ impl Trial<'_> {
         for number in self.first(calls)..=calls {
             self.each(stage, &mut seen, number, calls)?;
         }
-        stage.take_said();
-        let said = format!(in stage.alloc; "{}:\n{}", self.line, seen.text.trim_end())?;
-        Ok(stage.say(said.as_str())?)
+        self.tell(stage, seen.text.as_str())
     }
 }

@@ -1,6 +1,6 @@
 //! Indexes of files, of numbers and of turns, each by steps on a new one.
-use crate::calls::said;
-use anyhow::{Result, bail};
+use crate::saying::{no_such, say, say_text};
+use anyhow::Result;
 use file_index::{FileIndex, NumberIndex, NumberSet, Turn, TurnIndex};
 use ftn_addr::{Addr, Bytes, FileKey};
 use std::alloc::Global;
@@ -34,72 +34,81 @@ fn numbers_of(step: &str) -> Result<(u64, u64, u64)> {
 }
 
 // Notes and finds the file of that size for that node.
-fn file_step(alloc: Global, index: &mut FileIndex, step: &str) -> Result<String> {
+fn file_step(alloc: Global, index: &mut FileIndex, step: &str, out: &mut String) -> Result<()> {
     let (to, size, _) = numbers_of(step)?;
-    let (to, key) = (node(alloc, to)?, key(alloc, size)?);
+    let key = key(alloc, size)?;
+    let to = node(alloc, to)?;
     if step.starts_with("note") {
         index.note(&to, &key);
-        return said(alloc, ());
+        return say(out, ());
     }
-    said(alloc, index.find(&to, &key))
+    say(out, index.find(&to, &key))
 }
 
 // Notes a number at its place, finds it, and tells where it stands first of so many.
-fn number_step(alloc: Global, index: &mut NumberIndex, step: &str) -> Result<String> {
+fn number_step(index: &mut NumberIndex, step: &str, out: &mut String) -> Result<()> {
     let (number, place, _) = numbers_of(step)?;
     let (number, place) = (u32::try_from(number)?, usize::try_from(place)?);
     if step.starts_with("note") {
         index.note(number, place);
-        return said(alloc, ());
+        return say(out, ());
     }
     if step.starts_with("start") {
-        return said(alloc, index.start(number, place));
+        return say(out, index.start(number, place));
     }
-    said(alloc, index.find(number))
+    say(out, index.find(number))
 }
 
-// Notes a turn of 2:5047/13 and takes it out, and tells the next of a node, behind that one where it is named.
-fn turn_step(alloc: Global, index: &mut TurnIndex, step: &str) -> Result<String> {
-    let (first, second, third) = numbers_of(step)?;
-    if let Some(after) = step.strip_prefix("next") {
-        let behind = Turn {
-            rank: u8::try_from(second)?,
-            number: u32::try_from(third)?,
-        };
-        let is_behind = after.split(":").skip(2).next().is_some();
-        let to = node(alloc, first)?;
-        return said(
-            alloc,
-            index.next(&to, if is_behind { Some(behind) } else { None }),
-        );
+fn turn(rank: u64, number: u64) -> Result<Turn> {
+    Ok(Turn {
+        rank: u8::try_from(rank)?,
+        number: u32::try_from(number)?,
+    })
+}
+
+// The next turn of a node, behind that one where it is named.
+fn next_turn(alloc: Global, index: &TurnIndex, step: &str, out: &mut String) -> Result<()> {
+    let (to, rank, number) = numbers_of(step)?;
+    let after = turn(rank, number)?;
+    let is_behind = step.split(":").skip(2).next().is_some();
+    let to = node(alloc, to)?;
+    say(
+        out,
+        index.next(&to, if is_behind { Some(after) } else { None }),
+    )
+}
+
+// Notes a turn of 2:5047/13 and takes it out, and tells the next of a node.
+fn turn_step(alloc: Global, index: &mut TurnIndex, step: &str, out: &mut String) -> Result<()> {
+    if step.starts_with("next") {
+        return next_turn(alloc, index, step, out);
     }
-    let turn = Turn {
-        rank: u8::try_from(first)?,
-        number: u32::try_from(second)?,
-    };
+    let (rank, number, _) = numbers_of(step)?;
+    let turn = turn(rank, number)?;
+    let to = node(alloc, 13)?;
     if step.starts_with("note") {
-        index.note(&node(alloc, 13)?, turn);
+        index.note(&to, turn);
     } else {
-        index.remove(&node(alloc, 13)?, turn);
+        index.remove(&to, turn);
     }
-    said(alloc, ())
+    say(out, ())
 }
 
 // Notes a number and takes it out, and tells the next, behind that one where it is named.
-fn set_step(alloc: Global, set: &mut NumberSet, step: &str) -> Result<String> {
+fn set_step(set: &mut NumberSet, step: &str, out: &mut String) -> Result<()> {
     let number = u32::try_from(numbers_of(step)?.0)?;
     if step == "next" {
-        return said(alloc, set.next(None));
+        return say(out, set.next(None));
     }
     if step.starts_with("next") {
-        return said(alloc, set.next(Some(number)));
+        return say(out, set.next(Some(number)));
     }
     if step.starts_with("note") {
         set.note(number);
     } else {
         set.remove(number);
     }
-    said(alloc, ())
+    say(out, ())
 }
 
 /// An index of each kind, without anything noted.
@@ -122,25 +131,28 @@ impl Indexes {
     }
 
     // A step on the index of that kind.
-    fn step(&mut self, alloc: Global, kind: &str, step: &str) -> Result<String> {
+    fn step(&mut self, alloc: Global, kind: &str, step: &str, out: &mut String) -> Result<()> {
         match kind {
-            "files" => file_step(alloc, &mut self.files, step),
-            "numbers" => number_step(alloc, &mut self.numbers, step),
-            "turns" => turn_step(alloc, &mut self.turns, step),
-            "set" => set_step(alloc, &mut self.set, step),
-            _ => bail!("no such index"),
+            "files" => file_step(alloc, &mut self.files, step, out),
+            "numbers" => number_step(&mut self.numbers, step, out),
+            "turns" => turn_step(alloc, &mut self.turns, step, out),
+            "set" => set_step(&mut self.set, step, out),
+            _ => no_such("index"),
         }
+    }
+
+    fn steps(&mut self, alloc: Global, kind: &str, steps: &[&str], out: &mut String) -> Result<()> {
+        for step in steps {
+            say_text(out, " ")?;
+            self.step(alloc, kind, step, out)?;
+        }
+        Ok(())
     }
 }
 
 /// Steps on a new index of the kind that the first word names.
-pub fn index_steps(alloc: Global, words: &[&str]) -> Result<String> {
+pub fn index_steps(alloc: Global, words: &[&str], out: &mut String) -> Result<()> {
+    say_text(out, "answers")?;
     let mut indexes = Indexes::new(alloc);
-    let mut text = String::from_str(alloc, "answers")?;
-    for step in words_from(words, 1) {
-        let answer = indexes.step(alloc, word(words, 0), step)?;
-        text.push_str(" ")?;
-        text.push_str(answer.as_str())?;
-    }
-    Ok(text)
+    indexes.steps(alloc, word(words, 0), words_from(words, 1), out)
 }

@@ -1,16 +1,17 @@
 //! Steps on a ledger.
-ghost use Rattle.std.specs.Prelude.{◌≡◌, true, IfOk, OnOk};
+ghost use Rattle.std.specs.Prelude.{◌≡◌, true, IfOk, IsOk, OnOk};
 ghost use Rattle.disk_model.specs.Changes.{Every};
 ghost use Rattle.disk_model.specs.Moments.{Now};
 ghost use Rattle.ledger_file.specs.Ledger.{LedgerIs};
 ghost use Rattle.ledger_file.specs.Text.{IsPayload};
 
-use anyhow::{Result, bail};
+use crate::saying::{no_such, say, say_bytes, say_count, say_text};
+use anyhow::Result;
 use disk_model::Disk;
 use ftn_addr::Bytes;
 use ledger_file::{AppendFault, Ledger};
 use std::alloc::Global;
-use test_script::{bytes, shown};
+use test_script::bytes;
 
 // The payload that a text stands for.
 fn payload(alloc: Global, text: &str) -> Result<Bytes>
@@ -18,20 +19,20 @@ fn payload(alloc: Global, text: &str) -> Result<Bytes>
 {
     let found = bytes(alloc, text)?;
     if found.is_empty() || found.len() > 1400 {
-        bail!("no payload");
+        return no_such("payload");
     }
     Ok(found)
 }
 
 // Each payload and its place.
-fn told(alloc: Global, ledger: &Ledger) -> Result<String> {
-    let mut text = String::from_str(alloc, "told")?;
+fn told(alloc: Global, ledger: &Ledger, out: &mut String) -> Result<()> {
+    say_text(out, "told")?;
     for i in 0..ledger.count() {
-        let payload = shown(alloc, ledger.payload(i))?;
-        let piece = format!(in alloc; " {payload} at {}", ledger.place(i))?;
-        text.push_str(piece.as_str())?;
+        say_text(out, " ")?;
+        say_bytes(alloc, out, ledger.payload(i))?;
+        say_count(out, " at ", ledger.place(i), "")?;
     }
-    Ok(text)
+    Ok(())
 }
 
 // One payload more.
@@ -63,15 +64,24 @@ fn append_both<D: Disk>(
     Ok(ledger.append_all(disk, &both))
 }
 
-// So many places are reserved no longer, where so many are.
-fn release(ledger: &mut Ledger, count: u32) -> Result<(), AppendFault>
+// So many places are reserved.
+fn reserve(ledger: &mut Ledger, text: &str) -> Result<Result<(), AppendFault>>
     ensures { ledger.new.payloads ≡ ledger.old.payloads }
 {
+    let count = text.parse::<u32>()?;
+    Ok(ledger.reserve(count))
+}
+
+// So many places are reserved no longer, where so many are.
+fn release(ledger: &mut Ledger, text: &str) -> Result<Result<(), AppendFault>>
+    ensures { ledger.new.payloads ≡ ledger.old.payloads }
+{
+    let count = text.parse::<u32>()?;
     if count > ledger.reserved() {
-        return Err(AppendFault::Full);
+        return Ok(Err(AppendFault::Full));
     }
     ledger.release(count);
-    Ok(())
+    Ok(Ok(()))
 }
 
 // One step: its answer.
@@ -88,10 +98,19 @@ fn step<D: Disk>(
     match step {
         "append" => append(alloc, disk, ledger, text),
         "both" => append_both(alloc, disk, ledger, text),
-        "reserve" => Ok(ledger.reserve(text.parse::<u32>()?)),
-        "release" => Ok(release(ledger, text.parse::<u32>()?)),
-        _ => bail!("no such step"),
+        "reserve" => reserve(ledger, text),
+        "release" => release(ledger, text),
+        _ => no_such("step"),
     }
+}
+
+// An answer: whether another step may follow.
+fn say_answer(out: &mut String, answer: Result<(), AppendFault>) -> Result<bool>
+    ensures { IfOk result (λ more. more ≡ true → IsOk answer) }
+{
+    let more = answer.is_ok();
+    say(out, answer)?;
+    Ok(more)
 }
 
 // One step, whose answer is put behind the text: whether another may follow.
@@ -100,36 +119,50 @@ fn play<D: Disk>(
     disk: &mut D,
     ledger: &mut Ledger,
     word: &str,
-    text: &mut String,
+    out: &mut String,
 ) -> Result<bool>
     requires { Every (Now D.moment D.images disk.old) (LedgerIs ledger.old.payloads) }
     ensures { IfOk result (λ more. more ≡ true → Every (Now D.moment D.images disk.new) (LedgerIs ledger.new.payloads)) }
 {
     if word == "told" {
-        let piece = told(alloc, ledger)?;
-        text.push_str(piece.as_str())?;
+        told(alloc, ledger, out)?;
         return Ok(true);
     }
     let answer = step(alloc, disk, ledger, word)?;
-    let piece = format!(in alloc; "{answer:?}")?;
-    text.push_str(piece.as_str())?;
-    Ok(answer.is_ok())
+    say_answer(out, answer)
 }
 
-/// Opens the ledger, and makes steps on it until one is refused: what each answered, or why it isn't opened.
-pub fn ledger_steps<D: Disk>(alloc: Global, disk: &mut D, steps: &[&str]) -> Result<String> {
-    let mut ledger = match Ledger::open(alloc, disk) {
-        Ok(ledger) => ledger,
-        Err(fault) => return Ok(format!(in alloc; "{fault:?}")?),
-    };
-    let mut text = String::from_str(alloc, "opened")?;
+// Makes steps on a ledger until one is refused: what each answered.
+fn play_all<D: Disk>(
+    alloc: Global,
+    disk: &mut D,
+    ledger: &mut Ledger,
+    steps: &[&str],
+    out: &mut String,
+) -> Result<()>
+    requires { Every (Now D.moment D.images disk.old) (LedgerIs ledger.old.payloads) }
+{
     for word in steps {
-        text.push_str(", ")?;
-        if !play(alloc, disk, &mut ledger, word, &mut text)? {
+        say_text(out, ", ")?;
+        if !play(alloc, disk, ledger, word, out)? {
             break;
         }
     }
-    let piece = format!(in alloc; ", {} payloads", ledger.count())?;
-    text.push_str(piece.as_str())?;
-    Ok(text)
+    say_count(out, ", ", u64::from(ledger.count()), " payloads")
+}
+
+/// Opens the ledger, and makes steps on it until one is refused: what each answered, or why it isn't opened.
+pub fn ledger_steps<D: Disk>(
+    alloc: Global,
+    disk: &mut D,
+    steps: &[&str],
+    out: &mut String,
+) -> Result<()> {
+    match Ledger::open(alloc, disk) {
+        Ok(mut ledger) => {
+            say_text(out, "opened")?;
+            play_all(alloc, disk, &mut ledger, steps, out)
+        }
+        Err(fault) => say(out, fault),
+    }
 }

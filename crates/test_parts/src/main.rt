@@ -62,53 +62,41 @@ mod nodelists;
 mod outside;
 mod own;
 mod records;
+mod saying;
 
 use anyhow::Result;
 use calls::call;
-use folds::record_call;
 use ledger_rec::Folded;
 use mem_disk::MemDisk;
-use std::alloc::Global;
 use std::io;
-use test_script::{word, words_of};
-
-// The call of a line's words.
-fn answer(
-    alloc: Global,
-    words: &[&str],
-    disk: &mut MemDisk,
-    folded: &mut Folded,
-) -> Result<String> {
-    match word(words, 0) {
-        "write"
-        | "spell"
-        | "fold"
-        | "folded"
-        | "longer"
-        | "hold"
-        | "waits"
-        | "acts"
-        | "queued"
-        | "batch"
-        | "many" => record_call(alloc, folded, words),
-        _ => call(alloc, disk, words),
-    }
-}
+use test_script::words_of;
 
 // Plays one line, over what the lines before it left.
 fn play(rt: &HostRuntime, line: &str, disk: &mut MemDisk, folded: &mut Folded) -> Result<()> {
-    if line.is_empty() {
-        return Ok(());
-    }
-    if line.starts_with("#") {
-        *disk = MemDisk::new(rt.alloc());
-        *folded = Folded::new(rt.alloc());
-        println!(rt; "{line}")?;
-        return Ok(());
-    }
     let words = words_of(rt.alloc(), line)?;
-    let answer = answer(rt.alloc(), words.as_slice(), disk, folded)?;
-    println!(rt; "{line}: {answer}")?;
+    let mut out = String::new(rt.alloc());
+    call(rt.alloc(), disk, folded, words.as_slice(), &mut out)?;
+    println!(rt; "{line}: {out}")?;
+    Ok(())
+}
+
+// Begins what stands below a sentence.
+fn begin(rt: &HostRuntime, line: &str, disk: &mut MemDisk, folded: &mut Folded) -> Result<()> {
+    *disk = MemDisk::new(rt.alloc());
+    *folded = Folded::new(rt.alloc());
+    println!(rt; "{line}")?;
+    Ok(())
+}
+
+// Plays the lines.
+fn play_all(rt: &HostRuntime, text: &str, disk: &mut MemDisk, folded: &mut Folded) -> Result<()> {
+    for line in text.lines() {
+        if line.starts_with("#") {
+            begin(rt, line, disk, folded)?;
+        } else if !line.is_empty() {
+            play(rt, line, disk, folded)?;
+        }
+    }
     Ok(())
 }
 
@@ -116,8 +104,5 @@ fn main(rt: HostRuntime) -> Result<()> {
     let text = io::read_to_string(rt.alloc(), rt.reader())?;
     let mut disk = MemDisk::new(rt.alloc());
     let mut folded = Folded::new(rt.alloc());
-    for line in text.lines() {
-        play(&rt, line, &mut disk, &mut folded)?;
-    }
-    Ok(())
+    play_all(&rt, text.as_str(), &mut disk, &mut folded)
 }

@@ -1,28 +1,37 @@
 //! The calls of the own folder.
-use crate::calls::said;
+use crate::saying::{say, say_bytes, say_count, say_text};
 use anyhow::{Context, Result};
 use disk_model::{Disk, Name, Piece, write_twice};
 use ftn_addr::{Bytes, Failed, NoMemory};
 use ledger_file::put_file;
 use mem_disk::MemDisk;
 use std::alloc::Global;
-use test_script::{bytes, number, shown, word, words_from};
+use test_script::{bytes, number, word, words_from};
 
 /// The name of an own file at a place.
 pub fn name(words: &[&str], place: usize) -> Result<Name> {
     Name::new(word(words, place).as_bytes()).context("a name of an own file")
 }
 
-// A piece so many times, in which a `#` is the number of the time, from 1 on.
-fn push_times(alloc: Global, all: &mut Bytes, piece: &[u8], times: u64) -> Result<(), NoMemory> {
-    for time in 1..=times {
-        for byte in piece {
-            if *byte == b'#' {
-                all.push_number(alloc, time)?;
-            } else {
-                all.push_slice(&[*byte])?;
-            }
+// A piece, in which a `#` is a number.
+fn push_piece(alloc: Global, all: &mut Bytes, piece: &[u8], time: u64) -> Result<(), NoMemory> {
+    for byte in piece {
+        if *byte == b'#' {
+            all.push_number(alloc, time)?;
+        } else {
+            all.push_slice(&[*byte])?;
         }
+    }
+    Ok(())
+}
+
+// The bytes that a word stands for.
+fn push_word(alloc: Global, all: &mut Bytes, word: &str) -> Result<()> {
+    let (times, text) = word.split_once("*").unwrap_or(("1", word));
+    let times = times.parse::<u64>()?;
+    let piece = bytes(alloc, text)?;
+    for time in 1..=times {
+        push_piece(alloc, all, piece.as_slice(), time)?;
     }
     Ok(())
 }
@@ -31,9 +40,7 @@ fn push_times(alloc: Global, all: &mut Bytes, piece: &[u8], times: u64) -> Resul
 pub fn pieces(alloc: Global, words: &[&str]) -> Result<Bytes> {
     let mut all = Bytes::new(alloc);
     for word in words {
-        let (times, text) = word.split_once("*").unwrap_or(("1", word));
-        let piece = bytes(alloc, text)?;
-        push_times(alloc, &mut all, piece.as_slice(), times.parse::<u64>()?)?;
+        push_word(alloc, &mut all, word)?;
     }
     Ok(all)
 }
@@ -102,55 +109,76 @@ pub fn file<D: Disk>(alloc: Global, disk: &mut D, own: &Name) -> Result<Option<V
 }
 
 // The bytes of an own file, as they are printed.
-fn file_text(alloc: Global, disk: &mut MemDisk, own: &Name) -> Result<String> {
-    match file(alloc, disk, own)? {
-        Some(found) => {
-            let text = shown(alloc, found.as_slice())?;
-            Ok(format!(in alloc; "{} bytes, {text}", found.len())?)
-        }
-        None => Ok(String::from_str(alloc, "none")?),
+fn say_file(alloc: Global, disk: &mut MemDisk, words: &[&str], out: &mut String) -> Result<()> {
+    match file(alloc, disk, &name(words, 1)?)? {
+        Some(found) => say_found(alloc, found.as_slice(), out),
+        None => say_text(out, "none"),
     }
+}
+
+fn say_found(alloc: Global, found: &[u8], out: &mut String) -> Result<()> {
+    say_count(out, "", found.len() as u64, " bytes, ")?;
+    say_bytes(alloc, out, found)
+}
+
+fn say_names(alloc: Global, names: &[Name], out: &mut String) -> Result<()> {
+    say_text(out, "the names")?;
+    for name in names {
+        say_text(out, " ")?;
+        say_bytes(alloc, out, name.as_slice())?;
+    }
+    Ok(())
 }
 
 // The names of the own files.
-fn list(alloc: Global, disk: &mut MemDisk) -> Result<String> {
-    let Ok(names) = disk.list() else {
-        return said(alloc, Failed);
-    };
-    let mut text = String::from_str(alloc, "the names")?;
-    for name in &names {
-        let name = shown(alloc, name.as_slice())?;
-        text.push_str(" ")?;
-        text.push_str(name.as_str())?;
+fn list(alloc: Global, disk: &mut MemDisk, out: &mut String) -> Result<()> {
+    match disk.list() {
+        Ok(names) => say_names(alloc, names.as_slice(), out),
+        Err(_) => say(out, Failed),
     }
-    Ok(text)
+}
+
+fn put(disk: &mut MemDisk, words: &[&str], out: &mut String) -> Result<()> {
+    let (synced, unsynced) = (word(words, 2).as_bytes(), word(words, 3).as_bytes());
+    say(out, put_and_write(disk, &name(words, 1)?, synced, unsynced))
+}
+
+fn rename(disk: &mut MemDisk, words: &[&str], out: &mut String) -> Result<()> {
+    let to = name(words, 2)?;
+    say(out, put_and_remove(disk, &name(words, 1)?, &to))
+}
+
+fn create(disk: &mut MemDisk, words: &[&str], out: &mut String) -> Result<()> {
+    say(out, disk.create(&name(words, 1)?))
+}
+
+fn twice(disk: &mut MemDisk, words: &[&str], out: &mut String) -> Result<()> {
+    let (first, second) = (piece(words, 2)?, piece(words, 4)?);
+    say(out, write_both(disk, &name(words, 1)?, first, second))
+}
+
+fn behind(alloc: Global, disk: &mut MemDisk, words: &[&str], out: &mut String) -> Result<()> {
+    let (own, at) = (name(words, 1)?, number(words, 2)?);
+    let text = pieces(alloc, words_from(words, 3))?;
+    say(out, write_behind(disk, &own, at, text.as_slice()))
+}
+
+fn store(alloc: Global, disk: &mut MemDisk, words: &[&str], out: &mut String) -> Result<()> {
+    let own = name(words, 1)?;
+    let text = pieces(alloc, words_from(words, 2))?;
+    say(out, put_file(disk, &own, text.as_slice()))
 }
 
 /// A call of the own folder, by its words.
-pub fn own_call(alloc: Global, disk: &mut MemDisk, words: &[&str]) -> Result<String> {
-    if word(words, 0) == "list" {
-        return list(alloc, disk);
-    }
-    let own = name(words, 1)?;
-    let (second, third) = (word(words, 2).as_bytes(), word(words, 3).as_bytes());
+pub fn own_call(alloc: Global, disk: &mut MemDisk, words: &[&str], out: &mut String) -> Result<()> {
     match word(words, 0) {
-        "put" => said(alloc, put_and_write(disk, &own, second, third)),
-        "move" => said(alloc, put_and_remove(disk, &own, &name(words, 2)?)),
-        "create" => said(alloc, disk.create(&own)),
-        "file" => file_text(alloc, disk, &own),
-        "twice" => {
-            let (first, second) = (piece(words, 2)?, piece(words, 4)?);
-            said(alloc, write_both(disk, &own, first, second))
-        }
-        "behind" => {
-            let text = pieces(alloc, words_from(words, 3))?;
-            let answer = write_behind(disk, &own, number(words, 2)?, text.as_slice());
-            said(alloc, answer)
-        }
-        _ => {
-            let text = pieces(alloc, words_from(words, 2))?;
-            let answer = put_file(disk, &own, text.as_slice());
-            said(alloc, answer)
-        }
+        "list" => list(alloc, disk, out),
+        "put" => put(disk, words, out),
+        "move" => rename(disk, words, out),
+        "create" => create(disk, words, out),
+        "file" => say_file(alloc, disk, words, out),
+        "twice" => twice(disk, words, out),
+        "behind" => behind(alloc, disk, words, out),
+        _ => store(alloc, disk, words, out),
     }
 }

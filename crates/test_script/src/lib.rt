@@ -1,4 +1,4 @@
-//! What the programs that play a script have in common: the words of a line, and bytes as they are printed.
+//! What the programs that play a script have in common: its lines and their words, and bytes as they are printed.
 //!
 //! A `\x` and two digits are a byte, in a word and in what is printed. There a `\` is `\x5c`.
 #![tactic(auto)]
@@ -7,6 +7,20 @@ use binkp_args::unescape;
 use ftn_addr::{Bytes, NoMemory};
 use std::alloc::Global;
 use std::num::ParseIntError;
+
+/// The lines of a script.
+pub fn lines_of(alloc: Global, text: &str) -> Result<Vec<&str>, NoMemory> {
+    let mut lines = Vec::new(alloc);
+    for line in text.lines() {
+        lines.push(line)?;
+    }
+    Ok(lines)
+}
+
+/// The lines from one place to another, none where there are no such places.
+pub fn between<'l, 't>(lines: &'l [&'t str], first: usize, last: usize) -> &'l [&'t str] {
+    lines.get(first..last).unwrap_or(&lines[..0])
+}
 
 /// The words of a line, between blanks.
 pub fn words_of(alloc: Global, line: &str) -> Result<Vec<&str>, NoMemory> {

@@ -61,15 +61,11 @@ mod words;
 use anyhow::Result;
 use stage::Stage;
 use std::io;
-
-// The lines from one place to another; all of them where there are no such places.
-fn between<'l, 't>(lines: &'l [&'t str], first: usize, last: usize) -> &'l [&'t str] {
-    lines.get(first..last).unwrap_or(lines)
-}
+use test_script::{between, lines_of};
 
 // Plays all lines over one stage.
 fn play(rt: HostRuntime, lines: &[&str]) -> Result<()> {
-    let mut stage = Box::new(rt.alloc(), Stage::new(rt)?)?;
+    let mut stage = Box::new(rt.alloc(), Stage::new(rt))?;
     let (mut first, mut last, mut waits) = (0, 0, false);
     for (place, line) in lines.iter().enumerate() {
         if *line == "prepare" {
@@ -87,9 +83,6 @@ fn play(rt: HostRuntime, lines: &[&str]) -> Result<()> {
 
 fn main(rt: HostRuntime) -> Result<()> {
     let text = io::read_to_string(rt.alloc(), rt.reader())?;
-    let mut lines = Vec::new(rt.alloc());
-    for line in text.lines() {
-        lines.push(line)?;
-    }
+    let lines = lines_of(rt.alloc(), text.as_str())?;
     play(rt, lines.as_slice())
 }

@@ -1,54 +1,57 @@
 //! What a peer says, phrase by phrase.
 use crate::words::{file, node_number, number};
 use anyhow::{Result, bail};
-use binkp_args::unescape;
-use ftn_addr::{Bytes, NoMemory};
+use ftn_addr::Bytes;
 use mem_talk::{Word, bytes_of};
 use std::alloc::Global;
-use test_script::{behind, word, words_of};
+use test_script::{behind, bytes, word, words_of};
 
-// The bytes that a text stands for.
-fn bytes(alloc: Global, text: &str) -> Result<Bytes, NoMemory> {
-    let mut found = Bytes::new(alloc);
-    unescape(alloc, text.as_bytes(), &mut found)?;
-    Ok(found)
+// What is said of a file and a place in it.
+fn of_file(alloc: Global, words: &[&str], n: u64) -> Result<Bytes> {
+    let file = file(word(words, 1))?;
+    let place = number(words, 2, n)?;
+    let said = match word(words, 0) {
+        "file" => Word::File(file, place),
+        "block" => Word::Block(file, place),
+        _ => Word::Get(file, place),
+    };
+    Ok(bytes_of(alloc, &[said])?)
 }
 
-// What is said of a file, where that is one of these phrases.
-fn of_file(words: &[&str], n: u64) -> Result<Option<Word<'static>>> {
-    let file = || file(word(words, 1));
-    let place = || number(words, 2, n);
-    Ok(Some(match word(words, 0) {
-        "file" => Word::File(file()?, place()?),
-        "block" => Word::Block(file()?, place()?),
-        "get" => Word::Get(file()?, place()?),
-        "got" => Word::Got(file()?),
-        _ => return Ok(None),
-    }))
+fn got(alloc: Global, words: &[&str]) -> Result<Bytes> {
+    let file = file(word(words, 1))?;
+    Ok(bytes_of(alloc, &[Word::Got(file)])?)
 }
 
-// The bytes of any other phrase.
-fn of_text(alloc: Global, words: &[&str], text: &str) -> Result<Bytes> {
-    Ok(match word(words, 0) {
-        "" => Bytes::new(alloc),
-        "raw" => bytes(alloc, text)?,
-        "data" => bytes_of(alloc, &[Word::Data(bytes(alloc, text)?.as_slice())])?,
-        "login" => bytes_of(alloc, &[Word::Login(node_number(words, 1)?)])?,
-        "end" => bytes_of(alloc, &[Word::End])?,
-        "command" => {
-            let number = word(words, 1).parse::<u8>()?;
-            let text = bytes(alloc, behind(text))?;
-            bytes_of(alloc, &[Word::Command(number, text.as_slice())])?
-        }
-        _ => bail!("no such phrase"),
-    })
+fn login(alloc: Global, words: &[&str]) -> Result<Bytes> {
+    let node = node_number(words, 1)?;
+    Ok(bytes_of(alloc, &[Word::Login(node)])?)
+}
+
+fn data(alloc: Global, text: &str) -> Result<Bytes> {
+    let data = bytes(alloc, text)?;
+    Ok(bytes_of(alloc, &[Word::Data(data.as_slice())])?)
+}
+
+fn command(alloc: Global, words: &[&str], text: &str) -> Result<Bytes> {
+    let number = word(words, 1).parse::<u8>()?;
+    let text = bytes(alloc, behind(text))?;
+    Ok(bytes_of(alloc, &[Word::Command(number, text.as_slice())])?)
 }
 
 fn of_phrase(alloc: Global, phrase: &str, n: u64) -> Result<Bytes> {
     let words = words_of(alloc, phrase)?;
-    match of_file(words.as_slice(), n)? {
-        Some(word) => Ok(bytes_of(alloc, &[word])?),
-        None => of_text(alloc, words.as_slice(), behind(phrase)),
+    let (words, text) = (words.as_slice(), behind(phrase));
+    match word(words, 0) {
+        "" => Ok(Bytes::new(alloc)),
+        "raw" => Ok(bytes(alloc, text)?),
+        "data" => data(alloc, text),
+        "login" => login(alloc, words),
+        "end" => Ok(bytes_of(alloc, &[Word::End])?),
+        "command" => command(alloc, words, text),
+        "file" | "block" | "get" => of_file(alloc, words, n),
+        "got" => got(alloc, words),
+        _ => bail!("no such phrase"),
     }
 }
 

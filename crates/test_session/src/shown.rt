@@ -4,55 +4,43 @@ use mem_store::{ListStore, LogRecord};
 use session_core::End;
 use session_run::Report;
 use std::alloc::Global;
+use std::fmt::Debug;
+use test_script::shown;
 
-fn digit(value: u8) -> char {
-    char::from_digit(u32::from(value), 16).unwrap_or('?')
-}
-
-fn push_byte(text: &mut String, byte: u8) -> Result<()> {
-    if byte >= b' ' && byte <= b'~' && byte != b'\\' {
-        text.push(char::from(byte))?;
-    } else {
-        text.push_str("\\x")?;
-        text.push(digit(byte / 16))?;
-        text.push(digit(byte % 16))?;
-    }
-    Ok(())
-}
-
-/// Printable bytes as they stand, and others as `\x` and two digits.
-pub fn shown(alloc: Global, bytes: &[u8]) -> Result<String> {
-    let mut text = String::new(alloc);
-    for byte in bytes {
-        push_byte(&mut text, *byte)?;
-    }
-    Ok(text)
+/// An answer as it is printed.
+pub fn told<T: Debug + Drop>(alloc: Global, answer: T) -> Result<String> {
+    Ok(format!(in alloc; "{answer:?}")?)
 }
 
 /// What was heard, between brackets. Where it ends with what was to come last, a bar stands in place of that.
 pub fn heard_text(alloc: Global, heard: &[u8], last: &[u8]) -> Result<String> {
-    if last.is_empty() || !heard.ends_with(last) {
-        let heard = shown(alloc, heard)?;
-        return Ok(format!(in alloc; "<{heard}>")?);
-    }
-    let front = heard.len().saturating_sub(last.len());
-    let front = shown(alloc, heard.get(..front).unwrap_or(heard))?;
-    Ok(format!(in alloc; "<{front}|>")?)
+    let (front, end) = match heard.strip_suffix(last) {
+        Some(front) if !last.is_empty() => (front, "|>"),
+        _ => (heard, ">"),
+    };
+    let mut text = String::from_str(alloc, "<")?;
+    text.push_str(shown(alloc, front)?.as_str())?;
+    text.push_str(end)?;
+    Ok(text)
+}
+
+fn peer_error(alloc: Global, said: &[u8]) -> Result<String> {
+    let said = shown(alloc, said)?;
+    Ok(format!(in alloc; "PeerError({said})")?)
+}
+
+fn bad_password(alloc: Global, wanted: &[u8], given: &[u8]) -> Result<String> {
+    let wanted = shown(alloc, wanted)?;
+    let given = shown(alloc, given)?;
+    Ok(format!(in alloc; "BadPassword({wanted}, {given})")?)
 }
 
 fn end_text(alloc: Global, end: &End) -> Result<String> {
-    Ok(match end {
-        End::PeerError(said) => {
-            let said = shown(alloc, said.as_slice())?;
-            format!(in alloc; "PeerError({said})")?
-        }
-        End::BadPassword(wanted, given) => {
-            let wanted = shown(alloc, wanted.as_slice())?;
-            let given = shown(alloc, given.as_slice())?;
-            format!(in alloc; "BadPassword({wanted}, {given})")?
-        }
-        end => format!(in alloc; "{end:?}")?,
-    })
+    match end {
+        End::PeerError(said) => peer_error(alloc, said.as_slice()),
+        End::BadPassword(wanted, given) => bad_password(alloc, wanted.as_slice(), given.as_slice()),
+        end => told(alloc, end),
+    }
 }
 
 /// How a session ended.
@@ -63,22 +51,53 @@ pub fn ended_text(alloc: Global, report: Option<&Report>) -> Result<String> {
     }
 }
 
+// A count behind a comma, with what it counts.
+fn push_count(alloc: Global, count: u32, what: &str, text: &mut String) -> Result<()> {
+    let said = format!(in alloc; ", {count} {what}")?;
+    text.push_str(said.as_str())?;
+    Ok(())
+}
+
+/// How a session ended, and how many files it sent, received and skipped.
+pub fn counts_text(
+    alloc: Global,
+    end: String,
+    sent: u32,
+    received: u32,
+    skipped: u32,
+) -> Result<String> {
+    let mut text = end;
+    push_count(alloc, sent, "sent", &mut text)?;
+    push_count(alloc, received, "received", &mut text)?;
+    push_count(alloc, skipped, "skipped", &mut text)?;
+    Ok(text)
+}
+
 /// What came of a session.
 pub fn report_text(alloc: Global, report: Option<&Report>) -> Result<String> {
     let end = ended_text(alloc, report)?;
     let Some(report) = report else {
         return Ok(end);
     };
-    let (sent, received, skipped) = (report.sent, report.received, report.skipped);
-    Ok(format!(in alloc; "{end}, {sent} sent, {received} received, {skipped} skipped")?)
+    counts_text(alloc, end, report.sent, report.received, report.skipped)
+}
+
+fn counted_bytes(alloc: Global, taken: u64, wrote: u64) -> Result<String> {
+    Ok(format!(in alloc; "{taken} taken, {wrote} written")?)
 }
 
 /// How many bytes a session took and wrote.
 pub fn moved_text(alloc: Global, report: Option<&Report>) -> Result<String> {
-    Ok(match report {
-        Some(report) => format!(in alloc; "{} taken, {} written", report.taken, report.wrote)?,
-        None => String::from_str(alloc, "goes on")?,
-    })
+    match report {
+        Some(report) => counted_bytes(alloc, report.taken, report.wrote),
+        None => Ok(String::from_str(alloc, "goes on")?),
+    }
+}
+
+fn receipt_text(alloc: Global, name: &[u8], bytes: &[u8]) -> Result<String> {
+    let name = shown(alloc, name)?;
+    let bytes = shown(alloc, bytes)?;
+    Ok(format!(in alloc; "[{name}: {bytes}]")?)
 }
 
 /// The names and bytes of what a node received.
@@ -88,19 +107,19 @@ pub fn receipts_text(alloc: Global, store: &ListStore) -> Result<String> {
         text.push_str("none")?;
     }
     for receipt in store.receipts() {
-        let name = shown(alloc, receipt.key.name.as_slice())?;
-        let bytes = shown(alloc, receipt.bytes.as_slice())?;
-        text.push_str(format!(in alloc; "[{name}: {bytes}]")?.as_str())?;
+        let said = receipt_text(alloc, receipt.key.name.as_slice(), receipt.bytes.as_slice())?;
+        text.push_str(said.as_str())?;
     }
     Ok(text)
 }
 
 fn record_text(alloc: Global, record: &LogRecord) -> Result<String> {
-    Ok(match record {
-        LogRecord::Marked { size, .. } => format!(in alloc; "[{size} marked]")?,
-        LogRecord::Received { .. } => String::from_str(alloc, "[received]")?,
-        _ => String::from_str(alloc, "[other]")?,
-    })
+    let size = match record {
+        LogRecord::Marked { size, .. } => size,
+        LogRecord::Received { .. } => return Ok(String::from_str(alloc, "[received]")?),
+        _ => return Ok(String::from_str(alloc, "[other]")?),
+    };
+    Ok(format!(in alloc; "[{size} marked]")?)
 }
 
 /// The records of a node.

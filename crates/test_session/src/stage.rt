@@ -13,92 +13,113 @@ use test_script::{behind, word, words_of};
 pub struct Stage {
     rt: HostRuntime,
     /// The node that is being made.
-    node: Node,
+    node: Option<Node>,
     /// The one that is to be the far one of two.
-    far: Node,
-    peer: Peer,
-    pair: Pair,
+    far: Option<Node>,
+    talk: Talk,
 }
 
-// Takes a node, and leaves a blank one.
-fn taken(alloc: Global, node: &mut Node) -> Result<Node> {
-    let blank = Node::new(alloc, 0)?;
-    Ok(mem::replace(node, blank))
+/// Who talks.
+#[derive(Drop)]
+enum Talk {
+    Nobody,
+    /// A peer, with a node's session.
+    Peer(Box<Peer>),
+    /// Two nodes.
+    Pair(Box<Pair>),
 }
 
-fn blank_peer(alloc: Global) -> Result<Peer> {
-    let node = Node::new(alloc, 0)?;
-    Ok(Peer::new(alloc, node, None)?)
+fn pair_of(alloc: Global, near: Option<Node>, far: Option<Node>) -> Result<Talk> {
+    match (near, far) {
+        (Some(near), Some(far)) => Ok(Talk::Pair(Box::new(alloc, Pair::new(near, far))?)),
+        _ => bail!("no two nodes"),
+    }
 }
 
-fn blank_pair(alloc: Global) -> Result<Pair> {
-    let near = Node::new(alloc, 0)?;
-    Ok(Pair::new(near, Node::new(alloc, 0)?))
+// A peer of a node that calls the node of that number, or answers where there is none.
+fn peer_of(alloc: Global, node: Option<Node>, calls: Option<u16>) -> Result<Talk> {
+    let Some(node) = node else { bail!("no node") };
+    let peer = Peer::new(alloc, node, calls)?;
+    Ok(Talk::Peer(Box::new(alloc, peer)?))
 }
 
-// The peer's node, as its session left it; a blank one has a session then.
-fn left(alloc: Global, peer: &mut Peer) -> Result<Node> {
-    let blank = blank_peer(alloc)?;
-    Ok(mem::replace(peer, blank).into_node())
+// The peer's node, as its session left it.
+fn left(talk: Talk) -> Result<Node> {
+    match talk {
+        Talk::Peer(peer) => Ok(Box::into_inner(peer).into_node()),
+        _ => bail!("no peer"),
+    }
 }
 
-// A peer of a node that calls the node of this word, or answers where there is none.
-fn peer_of(alloc: Global, node: Node, words: &[&str]) -> Result<Peer> {
-    let calls = if word(words, 1).is_empty() {
-        None
-    } else {
-        Some(node_number(words, 1)?)
+fn again(alloc: Global, talk: &mut Talk) -> Result<()> {
+    let Talk::Peer(peer) = talk else {
+        bail!("no peer")
     };
-    Ok(Peer::new(alloc, node, calls)?)
+    peer.again(alloc)?;
+    Ok(())
 }
 
-fn queue(alloc: Global, node: &mut Node, dest: u16, text: &str) -> Result<()> {
+// The number of the node that is called, where one is.
+fn calls_of(words: &[&str]) -> Result<Option<u16>> {
+    if word(words, 1).is_empty() {
+        return Ok(None);
+    }
+    Ok(Some(node_number(words, 1)?))
+}
+
+fn queue(alloc: Global, node: &mut Option<Node>, dest: u16, text: &str) -> Result<()> {
+    let Some(node) = node else { bail!("no node") };
     let files = files(alloc, text)?;
     node.queue(alloc, dest, files.as_slice())?;
     Ok(())
 }
 
 impl Stage {
-    /// Blank nodes, and a session of one.
-    pub fn new(rt: HostRuntime) -> Result<Stage> {
-        let alloc = rt.alloc();
-        Ok(Stage {
+    /// With nothing on it.
+    pub fn new(rt: HostRuntime) -> Stage {
+        Stage {
             rt,
-            node: Node::new(alloc, 0)?,
-            far: Node::new(alloc, 0)?,
-            peer: blank_peer(alloc)?,
-            pair: blank_pair(alloc)?,
-        })
+            node: None,
+            far: None,
+            talk: Talk::Nobody,
+        }
     }
 
     fn make_pair(&mut self) -> Result<()> {
-        let alloc = self.rt.alloc();
-        let near = taken(alloc, &mut self.node)?;
-        self.pair = Pair::new(near, taken(alloc, &mut self.far)?);
+        let (near, far) = (self.node.take(), self.far.take());
+        self.talk = pair_of(self.rt.alloc(), near, far)?;
         Ok(())
     }
 
     fn make_peer(&mut self, words: &[&str]) -> Result<()> {
-        let alloc = self.rt.alloc();
-        let node = taken(alloc, &mut self.node)?;
-        self.peer = peer_of(alloc, node, words)?;
+        let calls = calls_of(words)?;
+        let node = self.node.take();
+        self.talk = peer_of(self.rt.alloc(), node, calls)?;
         Ok(())
+    }
+
+    // The peer leaves, and its node is the one that is being made.
+    fn leave(&mut self) -> Result<()> {
+        let talk = mem::replace(&mut self.talk, Talk::Nobody);
+        self.node = Some(left(talk)?);
+        Ok(())
+    }
+
+    fn queue(&mut self, line: &str, words: &[&str]) -> Result<()> {
+        let dest = node_number(words, 1)?;
+        queue(self.rt.alloc(), &mut self.node, dest, behind(behind(line)))
     }
 
     // Whether the words make a node, a peer or a pair.
     fn makes(&mut self, line: &str, words: &[&str]) -> Result<bool> {
-        let alloc = self.rt.alloc();
         match word(words, 0) {
-            "node" => self.node = node_of(alloc, words)?,
-            "queue" => {
-                let dest = node_number(words, 1)?;
-                queue(alloc, &mut self.node, dest, behind(behind(line)))?;
-            }
-            "far" => self.far = taken(alloc, &mut self.node)?,
+            "node" => self.node = Some(node_of(self.rt.alloc(), words)?),
+            "queue" => self.queue(line, words)?,
+            "far" => self.far = self.node.take(),
             "pair" => self.make_pair()?,
             "peer" => self.make_peer(words)?,
-            "again" => self.peer.again(alloc)?,
-            "leave" => self.node = left(alloc, &mut self.peer)?,
+            "again" => again(self.rt.alloc(), &mut self.talk)?,
+            "leave" => self.leave()?,
             _ => return Ok(false),
         }
         Ok(true)
@@ -106,13 +127,10 @@ impl Stage {
 
     // What the call of this line comes to.
     fn answer(&mut self, line: &str, n: u64) -> Result<String> {
-        let alloc = self.rt.alloc();
-        if let Some(answer) = peer_call(alloc, &mut self.peer, line, n)? {
-            return Ok(answer);
-        }
-        match pair_call(alloc, &mut self.pair, line, n)? {
-            Some(answer) => Ok(answer),
-            None => bail!("no such call"),
+        match &mut self.talk {
+            Talk::Peer(peer) => peer_call(self.rt.alloc(), peer, line, n),
+            Talk::Pair(pair) => pair_call(self.rt.alloc(), pair, line, n),
+            Talk::Nobody => bail!("no such call"),
         }
     }
 

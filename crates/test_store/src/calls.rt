@@ -143,12 +143,28 @@ fn told_stat(alloc: Global, stat: Option<OutStat>) -> Result<String, AllocError>
     }
 }
 
+fn see(alloc: Global, rest: Resting, path: &[u8]) -> Result<String, Fail> {
+    let stat = seen(alloc, rest, path)?;
+    Ok(told_stat(alloc, stat)?)
+}
+
+fn list(alloc: Global, rest: Resting, path: &[u8]) -> Result<String, Fail> {
+    let names = listed(alloc, rest, path)?;
+    Ok(told_names(alloc, names.as_slice())?)
+}
+
+fn queued(alloc: Global, rest: Resting) -> Result<String, Fail> {
+    let count = queue_of(alloc, rest)?;
+    Ok(format!(in alloc; "{count}")?)
+}
+
 // What a store says of the outside, and how many files it has queued.
-fn ask_store(alloc: Global, rest: Resting, word: &str, path: &[u8]) -> Result<String, Fail> {
+fn ask_store(stage: &mut Stage, word: &str, path: &[u8]) -> Result<String, Fail> {
+    let rest = stage.take_rest()?;
     match word {
-        "see" => Ok(told_stat(alloc, seen(alloc, rest, path)?)?),
-        "list" => Ok(told_names(alloc, listed(alloc, rest, path)?.as_slice())?),
-        _ => Ok(format!(in alloc; "{}", queue_of(alloc, rest)?)?),
+        "see" => see(stage.alloc, rest, path),
+        "list" => list(stage.alloc, rest, path),
+        _ => queued(stage.alloc, rest),
     }
 }
 
@@ -198,7 +214,7 @@ pub fn call(stage: &mut Stage, words: &[&str], path: &[u8], bytes: &[u8]) -> Res
         "intake" => intake(stage, words),
         "behind" | "ends" => behind(stage, words),
         "piece" => piece(stage, words, path),
-        "see" | "list" | "queued" => ask_store(alloc, stage.take_rest()?, word(words, 0), path),
+        "see" | "list" | "queued" => ask_store(stage, word(words, 0), path),
         "names" | "show" | "read" | "holds" => {
             ask_disk(alloc, &mut stage.disk, words, path, bytes)
         }

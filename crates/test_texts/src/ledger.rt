@@ -60,27 +60,22 @@ fn refused(alloc: Global, name: &str) -> Result<Record> {
     }))
 }
 
-// The record of these words.
-fn record_of(alloc: Global, words: &[&str]) -> Result<Option<Record>> {
-    Ok(Some(match word(words, 0) {
-        "queue" => queue(alloc, words)?,
-        "done" => Record::Done(count(words, 1)?, 1),
-        "mark" => mark(alloc, words)?,
-        "received" => received(alloc, words)?,
-        "refused" => refused(alloc, word(words, 1))?,
-        _ => return Ok(None),
-    }))
+fn done(words: &[&str]) -> Result<Record> {
+    Ok(Record::Done(count(words, 1)?, 1))
 }
 
 /// Folds the record of these words into a ledger. Whether they are one.
 pub fn folds(alloc: Global, words: &[&str], ledger: &mut Folded) -> Result<bool> {
-    match record_of(alloc, words)? {
-        Some(record) => {
-            ledger.add_owned(record)?;
-            Ok(true)
-        }
-        None => Ok(false),
-    }
+    let record = match word(words, 0) {
+        "queue" => queue(alloc, words),
+        "done" => done(words),
+        "mark" => mark(alloc, words),
+        "received" => received(alloc, words),
+        "refused" => refused(alloc, word(words, 1)),
+        _ => return Ok(false),
+    };
+    ledger.add_owned(record?)?;
+    Ok(true)
 }
 
 // The counts of what was taken in, behind an address.
