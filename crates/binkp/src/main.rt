@@ -1,12 +1,15 @@
 //! `binkp DIR WORDS` is the mailer over the folder DIR: it answers a caller on standard input and output, as under inetd, or calls
 //! the node whose line they are. What came of it goes to standard error.
 //!
-//! All that it does is [`run_program`](binkp_mailer::run_program)'s, with the system's folder, line and clock, and a challenge of
+//! `binkp --help` and `binkp --version` tell of the program itself.
+//!
+//! All else that it does is [`run_program`](binkp_mailer::run_program)'s, with the system's folder, line and clock, and a challenge of
 //! the system's randomness. `main` hands them on, and holds the system's lock on the folder, so that one program at a time works
 //! on it.
 #![tactic(auto)]
 
 mod lock;
+mod told;
 
 use binkp_link::Dice;
 use binkp_mailer::{Ended, refuse_for_memory, run_program};
@@ -17,12 +20,18 @@ use std::io::BufReader;
 use std::process::ExitCode;
 use std::rt::Env;
 use std::{env, io};
+use told::tell;
 
 /// What the exit status is where nothing was done, since the system gives no random bytes for a challenge.
 const NO_CHALLENGE: u8 = 100;
 
 /// What the exit status is where nothing was done, since the folder is another program's or the system refused it.
 const NOT_STARTED: u8 = 101;
+
+/// What the exit status is where the program was told, and where standard output refused it.
+const TOLD: u8 = 0;
+
+const OUT_FAULT: u8 = 16;
 
 /// How many bytes of standard input are read at once, at most. A session takes them in smaller pieces.
 const READ_AHEAD: usize = 65_536;
@@ -119,9 +128,24 @@ fn program(rt: &HostRuntime, given: &Given) -> u8 {
     ended.exit
 }
 
+/// The exit status where the only word asks what the program is, which is told before any folder is looked at.
+fn tells(rt: &HostRuntime, given: &Given) -> Option<u8> {
+    if !given.words.is_empty() {
+        return None;
+    }
+    match tell(rt, given.folder.as_deref()?) {
+        Ok(true) => Some(TOLD),
+        Ok(false) => None,
+        Err(_) => Some(OUT_FAULT),
+    }
+}
+
 fn main(rt: HostRuntime) -> ExitCode {
     let exit = match read_given(&rt) {
-        Ok(given) => program(&rt, &given),
+        Ok(given) => match tells(&rt, &given) {
+            Some(exit) => exit,
+            None => program(&rt, &given),
+        },
         Err(NoMemory) => refuse_for_memory(rt.alloc(), &mut StdSink::new(rt.stderr())).exit,
     };
     ExitCode::from(exit)
