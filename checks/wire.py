@@ -219,7 +219,7 @@ def processor_time(words, **how):
     return after.ru_utime + after.ru_stime - before.ru_utime - before.ru_stime, done
 
 
-# The records of a ledger (docs/disk.md), of files of five bytes for and from the other node.
+# The records of a ledger (crates/ledger_rec/specs/Spelling.antt), of files of five bytes for and from the other node.
 def number_bytes(number):
     return number.to_bytes(4, "big")
 
@@ -229,7 +229,7 @@ def file_bytes(name):
 
 
 def queue_record(number, name):
-    """The file comes from no other, and is normal."""
+    """The file comes from no other, nothing is done with it, and its flavour is direct."""
     return b"\x01" + number_bytes(number) + file_bytes(name) + b"\x00\x00\x00\x02"
 
 
