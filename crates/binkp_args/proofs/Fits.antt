@@ -37,14 +37,14 @@ name_short : (name : List ℕ) → length (escaped name) ≤ 4 * length name
 name_short [] = omega arith
 name_short (byte ∷ name) = let more = name_short name in omega (arith, length-append (escaped_byte byte) (escaped name), byte_short byte)
 
-key_short : (k : Key) → IsKey k → length (key_text k) ≤ 930
+pub key_short : (k : Key) → IsKey k → length (key_text k) ≤ 930
 key_short k is =
     let name = name_short k.name in
     let size = number_short k.size in
     let time = number_short k.time in
     simp length-append (omega arith)
 
-place_short : (k : Key) (offset : ℕ) → IsKey k → length (place_text k offset) ≤ 995
+pub place_short : (k : Key) (offset : ℕ) → IsKey k → length (place_text k offset) ≤ 995
 place_short k offset is =
     let name = name_short k.name in
     let size = number_short k.size in

@@ -166,7 +166,7 @@ worded_limits home number words c are e =
     let skip = λ (e : (file_of words >>= (λ key. Ok (Skip key))) ≡ Ok c). (let b = steps_ok (file_of words) _ c e in known home (Skip b.0) c (file_limits words b.0 are b.1, λ is. tt) b.2) in
     one_of home c (eqb number 1) _ _ adr (one_of home c (eqb number 3) _ _ offered (one_of home c (eqb number 6) _ _ got (one_of home c (eqb number 9) _ _ wanted (one_of home c (eqb number 10) _ _ skip (known home (Other number) c (tt, λ is. tt)))))) e
 
-command_limits : (home : Address) (number : ℕ) (args : List ℕ) (c : CommandText) → command_of home number args ≡ Ok c → Within home c
+pub command_limits : (home : Address) (number : ℕ) (args : List ℕ) (c : CommandText) → command_of home number args ≡ Ok c → Within home c
 unfolding command_of
 command_limits home number args c e =
     let text = without_end args in

@@ -1,2 +1,3 @@
+pub mod FewFrames
 pub mod OneReading
 pub mod Taking

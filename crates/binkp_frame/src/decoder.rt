@@ -1,4 +1,4 @@
-ghost use Rattle.std.specs.Prelude.{◌≡◌, ◌<◌, ◌≤◌, [], ◌++◌, ℕ, List, length, drop, OnOk, OnErr, IfOk, IfSome, IfNone, option_map};
+ghost use Rattle.std.specs.Prelude.{◌≡◌, ◌+◌, ◌*◌, ◌<◌, ◌≤◌, [], ◌++◌, ℕ, List, length, drop, OnOk, OnErr, IfOk, IfSome, IfNone, option_map};
 ghost use Rattle.std.specs.Option.{option_to_list};
 ghost use Rattle.ftn_addr.specs.Frames.{FrameText, frame_of, spelling};
 ghost use Rattle.binkp_frame.specs.Stream.{IsPartial, Splits, Feeds};
@@ -137,7 +137,8 @@ impl Decoder {
         }
     }
 
-    /// Takes the next piece of the stream, and adds the frames that are whole now at the end of `out`.
+    /// Takes the next piece of the stream, and adds the frames that are whole now at the end of `out`: of a piece of n bytes at
+    /// most (n + 2) / 3, whatever was held.
     ///
     /// # Errors
     /// `NoMemory`: the piece isn't taken, and `out` is as before.
@@ -149,6 +150,7 @@ impl Decoder {
     ) -> Result<(), NoMemory>
         ensures ok { OnOk result (Feeds (frame_texts out.old.items) (self.old ++ piece.now) (frame_texts out.new.items) self.new) }
         ensures kept { Extends out.old.items out.new.items }
+        ensures few { OnOk result (3 * length out.new.items ≤ 3 * length out.old.items + length piece.now + 2) }
         ensures err { OnErr result (self.new ≡ self.old) }
         ensures err_out { OnErr result (out.new.items ≡ out.old.items) }
     {
@@ -183,4 +185,9 @@ pub fn reads_one_way()
 /// the other, is what both give together.
 pub fn pieces_add_up()
     ensures { (old mid new : List FrameText) (stream piece rest left : List ℕ) → Feeds old stream mid rest → Feeds mid (rest ++ piece) new left → Feeds old (stream ++ piece) new left }
+{}
+
+/// A piece of n bytes makes at most (n + 2) / 3 frames whole, whatever was held before it; so an empty one makes none.
+pub fn pieces_make_few()
+    ensures { (rest piece left : List ℕ) (frames : List FrameText) → IsPartial rest → Splits (rest ++ piece) frames left → 3 * length frames ≤ length piece + 2 }
 {}

@@ -14,8 +14,8 @@
 //! }
 //! ```
 //!
-//! `specs/Stream.antt` says which frames a stream has. Three laws about it are functions with empty
-//! bodies: [`reads_one_way`], [`pieces_add_up`] and [`reads_what_is_sent`].
+//! `specs/Stream.antt` says which frames a stream has. Four laws about it are functions with empty
+//! bodies: [`reads_one_way`], [`pieces_add_up`], [`pieces_make_few`] and [`reads_what_is_sent`].
 //!
 //! Left out: what a command's argument says (`binkp_args`), and every line that a stream comes from.
 #![tactic(auto)]
@@ -24,6 +24,6 @@ mod decoder;
 mod frame;
 mod writing;
 
-pub use decoder::{Decoder, pieces_add_up, reads_one_way};
+pub use decoder::{Decoder, pieces_add_up, pieces_make_few, reads_one_way};
 pub use frame::{Frame, Head, head_of};
 pub use writing::{put_frame, reads_what_is_sent};

@@ -4,3 +4,4 @@ pub mod Moments
 pub mod Sharers
 pub mod Spoken
 pub mod Shorts
+pub mod Greetings

@@ -1,5 +1,5 @@
 //! A login, from the greeting to the peer's password or its word.
-ghost use Rattle.std.specs.Prelude.{◌≡◌, ◌++◌, map, filter, codes, IfOk, OnOk, OnErr};
+ghost use Rattle.std.specs.Prelude.{◌≡◌, ◌+◌, ◌≤◌, ◌++◌, length, map, filter, codes, IfOk, OnOk, OnErr};
 ghost use Rattle.binkp_args.specs.Command.{command_text, Error};
 ghost use Rattle.binkp_args.specs.Limits.{AreAddresses, HasAddresses};
 ghost use Rattle.cram_md5.specs.Answer.{answer};
@@ -58,7 +58,8 @@ impl Auth {
         &self.side
     }
 
-    /// Says the greeting at the end of `out`, at a moment in seconds since 1970. The settings have an own address.
+    /// Says the greeting at the end of `out`, in 40,000 bytes at the most, at a moment in seconds since 1970. The settings have
+    /// an own address.
     ///
     /// # Errors
     /// `NoMemory`: `out` holds what it held.
@@ -72,6 +73,7 @@ impl Auth {
         requires { AreAddresses (conf_text conf.now).addresses }
         ensures said { OnOk result (out.new.list ≡ out.old.list ++ said_bytes (greeting (side_of self.now.side) (conf_text conf.now) self.now.challenge now)) }
         ensures err { OnErr result (out.new.list ≡ out.old.list) }
+        ensures short { OnOk result (length out.new.list ≤ length out.old.list + 40000) }
     {
         let mut text = Bytes::new(alloc);
         say_greeting(alloc, &self.side, conf, &self.challenge, now, &mut text)?;

@@ -1,5 +1,5 @@
 //! The greeting.
-ghost use Rattle.std.specs.Prelude.{◌≡◌, ◌≤◌, [], ◌∷◌, ◌++◌, map, length, IfOk, OnOk};
+ghost use Rattle.std.specs.Prelude.{◌≡◌, ◌+◌, ◌≤◌, [], ◌∷◌, ◌++◌, map, length, IfOk, OnOk};
 ghost use Rattle.binkp_args.specs.Command.{Adr};
 ghost use Rattle.binkp_args.specs.Limits.{AreAddresses};
 ghost use Rattle.ftn_addr.specs.Address.{address};
@@ -120,7 +120,8 @@ pub(crate) fn say_greeting(
     out: &mut Bytes,
 ) -> Result<(), NoMemory>
     requires { AreAddresses (map address conf.now.addresses.items) }
-    ensures { OnOk result (out.new.list ≡ out.old.list ++ said_bytes (greeting (side_of side.now) (conf_text conf.now) challenge.now now)) }
+    ensures said { OnOk result (out.new.list ≡ out.old.list ++ said_bytes (greeting (side_of side.now) (conf_text conf.now) challenge.now now)) }
+    ensures short { OnOk result (length out.new.list ≤ length out.old.list + 40000) }
 {
     say_offer(alloc, side, challenge, out)?;
     say_setting(alloc, b"SYS ", &conf.sysname, out)?;

@@ -4,3 +4,5 @@ pub mod Early
 pub mod Heard
 pub mod Gives
 pub mod Logins
+pub mod Bounds
+pub mod TurnBounds

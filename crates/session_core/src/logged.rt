@@ -1,5 +1,5 @@
 //! A session after login: the messages of the peer's, and the own turn.
-ghost use Rattle.std.specs.Prelude.{◌≡◌, ◌<◌, ◌≤◌, ◌||◌, None, length};
+ghost use Rattle.std.specs.Prelude.{◌≡◌, ◌+◌, ◌<◌, ◌≤◌, ◌||◌, None, length};
 ghost use Rattle.binkp_args.specs.Command.{command_text};
 ghost use Rattle.binkp_args.specs.Limits.{HasFile};
 ghost use Rattle.ftn_addr.specs.Key.{key_of};
@@ -176,6 +176,7 @@ impl Talking {
         ensures tally { tally_of self.new ≡ tally_of self.old }
         ensures block { self.new.sender.block ≡ self.old.sender.block }
         ensures sent { gave_text result ≡ G.Sent → 0 < length out.new.list }
+        ensures short { length out.new.list ≤ length out.old.list + 32800 }
     {
         if self.is_done() {
             return Gave::Ended(End::Finished);

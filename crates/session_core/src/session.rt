@@ -76,10 +76,11 @@ impl Session {
         role_of(self.auth.side())
     }
 
-    /// Greets the peer.
+    /// Greets the peer, in 40,000 bytes at the most.
     pub fn greet(&self, alloc: Global, conf: &Conf, out: &mut Bytes) -> Took
         requires { AreAddresses (conf_text conf.now).addresses }
-        ensures { Writes out.old.list out.new.list (said_bytes (greeting (lent_in self.now).side (conf_text conf.now) (lent_in self.now).challenge (lent_in self.now).moment)) T.More (took_text result) }
+        ensures writes { Writes out.old.list out.new.list (said_bytes (greeting (lent_in self.now).side (conf_text conf.now) (lent_in self.now).challenge (lent_in self.now).moment)) T.More (took_text result) }
+        ensures short { length out.new.list ≤ length out.old.list + 40000 }
     {
         match self.auth.greet(alloc, conf, self.setting.moment, out) {
             Ok(()) => Took::More,
@@ -87,7 +88,7 @@ impl Session {
         }
     }
 
-    /// Takes the next frame of the peer's. After an end the session isn't used any more.
+    /// Takes the next frame of the peer's, and writes 1,100 bytes at the most. After an end the session isn't used any more.
     pub fn take<K: Desk>(
         &mut self,
         alloc: Global,
@@ -102,6 +103,7 @@ impl Session {
         ensures sits { SitsStill (K.ready desk.new) (K.part desk.new) (stage_in self.new) (took_text result) }
         ensures lent { lent_in self.new ≡ lent_in self.old }
         ensures frames { self.new.frames ≡ min (self.old.frames + 1) (2 ^ 64 - 1) }
+        ensures short { length out.new.list ≤ length out.old.list + 1100 }
     {
         self.frames = self.frames.saturating_add(1);
         match frame {
@@ -112,7 +114,7 @@ impl Session {
         }
     }
 
-    /// Makes the own turn. After an end the session isn't used any more.
+    /// Makes the own turn, and writes 32,800 bytes at the most. After an end the session isn't used any more.
     pub fn give<K: Desk>(&mut self, alloc: Global, desk: &mut K, out: &mut Bytes) -> Gave
         requires sits { Sits (K.ready desk.old) (K.part desk.old) (stage_in self.old) }
         ensures row { MadeTurn (GiveRow self.old.setting.block (stage_in self.old)) K.alone (K.stand desk.old) (K.stand desk.new) (stage_in self.old) (stage_in self.new) out.old.list out.new.list (gave_text result) }
@@ -120,6 +122,7 @@ impl Session {
         ensures keeps { Keeps self.old self.new }
         ensures told { told_of self.new ≡ told_of self.old }
         ensures sent { gave_text result ≡ G.Sent → 0 < length out.new.list }
+        ensures short { length out.new.list ≤ length out.old.list + 32800 }
     {
         match &mut self.stage {
             Stage::LogsIn => Gave::Waits,

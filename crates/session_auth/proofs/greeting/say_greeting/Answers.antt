@@ -1,13 +1,15 @@
-use Rattle.std.proofs.Common.{List, [], ◌∷◌, ◌++◌, codes}
+use Rattle.std.proofs.Common.{List, [], ◌∷◌, ◌++◌, codes, length, ap, arith, length-append}
 use Rattle.mail_conf.specs.ConfView.{conf_text}
 use Rattle.binkp_args.specs.Command.{CommandText, Adr}
-use Rattle.session_auth.specs.Greeting.{announced, offer_line, setting_line, time_line, version}
+use Rattle.session_auth.specs.Greeting.{announced, greeting, offer_line, setting_line, time_line, version}
+use Rattle.session_auth.specs.Says.{said_bytes}
 use Rattle.session_auth.specs.Sides.{side_of}
+use Rattle.session_auth.proofs.Greetings.{greeting_short}
 use Rattle.session_auth.proofs.Spoken.{said_then, said_one_then, on_ok}
 use Rattle.session_auth.proofs.greeting.say_greeting.Goals as goal
 
-pub returns : goal.returns
-returns c =
+pub returns-clause-said : goal.returns-clause-said
+returns-clause-said c =
     let conf = conf_text c.args.conf.now in
     let adr : List CommandText = Adr (announced conf.addresses) ∷ [] in
     let time = time_line c.args.now in
@@ -24,3 +26,9 @@ returns c =
     on_ok c.say_addresses.result _ _
     (λ last. said_then _ _ _ (offer ++ sys ++ zyz ++ loc ++ ndl ++ time) (version ∷ adr) with_time (said_one_then _ _ _ version adr c.in_ok-say_version.ensures (rw c.as_slice.ensures.value at last)))
     c.say_addresses.ensures
+
+pub returns-clause-short : goal.returns-clause-short
+returns-clause-short c =
+    let said = said_bytes (greeting (side_of c.args.side.now) (conf_text c.args.conf.now) c.args.challenge.now c.args.now) in
+    let short = greeting_short (side_of c.args.side.now) (conf_text c.args.conf.now) c.args.challenge.now c.args.now (omega arith) in
+    on_ok c.say_addresses.result _ _ (λ all. omega (arith, short, ap length all, length-append c.args.out.now.list said)) (returns-clause-said c)
