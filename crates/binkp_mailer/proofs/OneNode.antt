@@ -17,7 +17,7 @@ use Rattle.session_core.specs.Sessions.{Reply, Turn, TalkTurn, GiveRow, AfterKno
 use Rattle.session_core.specs.Stages.{role_of, Setting, Stage, Logs_in, Talks}
 use Rattle.session_core.specs.Takings as T
 use Rattle.session_core.specs.Takings.{Took}
-use Rattle.session_run.specs.Machine.{World, Phase, Starting, Taking, Writing, Reading, Over, Draining, Closed, after_took, after_gave, after_drain, Greets, TakesFrame, MakesTurn, Leaves as LeavesDesk, Step, greets, takes_frame, makes_turn, writes, passes_write, reads, gives_up, leaves, drains, closes, Reach, here, next, opening}
+use Rattle.session_run.specs.Machine.{World, Phase, Starting, Taking, Writing, Reading, Over, Draining, Closed, after_took, after_gave, after_drain, Greets, TakesFrame, MakesTurn, Leaves as LeavesDesk, Step, greets, takes_frame, makes_turn, passes_turn, writes, passes_write, reads, passes_read, gives_up, leaves, drains, closes, Reach, here, next, opening}
 use Rattle.session_run.proofs.Settings.{reach_setting}
 use Rattle.world_pair.specs.Course.{StaysOpen}
 use Rattle.world_pair.specs.FromDesk.{at_desk}
@@ -275,9 +275,11 @@ step_is : (alone : Bool) (seat : ℕ) (n : Node) (w v : World) → 0 < w.setting
 step_is alone seat n w v some at calm (greets s) = greets_it alone seat n w v at s
 step_is alone seat n w v some at calm (takes_frame s) = takes_it alone seat n w v at calm s
 step_is alone seat n w v some at calm (makes_turn s) = makes_it alone seat n w v some at calm s
+step_is alone seat n w v some at calm (passes_turn s) = silent seat n w v Taking s.phase refl (ap (λ (x : World). x.desk) s.is) (record { stage = ap (λ (x : World). x.stage) s.is; output = ap (λ (x : World). x.output) s.is; frames = ap (λ (x : World). x.frames) s.is }) at
 step_is alone seat n w v some at calm (writes s) = silent seat n w v (Writing s.waits) s.phase refl (ap (λ (x : World). x.desk) s.is) (record { stage = ap (λ (x : World). x.stage) s.is; output = ap (λ (x : World). x.output) s.is; frames = ap (λ (x : World). x.frames) s.is }) at
 step_is alone seat n w v some at calm (passes_write s) = silent seat n w v (Writing s.waits) s.phase refl (ap (λ (x : World). x.desk) s.is) (record { stage = ap (λ (x : World). x.stage) s.is; output = ap (λ (x : World). x.output) s.is; frames = ap (λ (x : World). x.frames) s.is }) at
 step_is alone seat n w v some at calm (reads s) = silent seat n w v (Reading s.waits) s.phase refl (ap (λ (x : World). x.desk) s.is) (record { stage = ap (λ (x : World). x.stage) s.is; output = ap (λ (x : World). x.output) s.is; frames = ap (λ (x : World). x.frames) s.is }) at
+step_is alone seat n w v some at calm (passes_read s) = silent seat n w v (Reading s.waits) s.phase refl (ap (λ (x : World). x.desk) s.is) (record { stage = ap (λ (x : World). x.stage) s.is; output = ap (λ (x : World). x.output) s.is; frames = ap (λ (x : World). x.frames) s.is }) at
 step_is alone seat n w v some at calm (gives_up s) = subst (Stepped seat n w) (sym s.is) (n, record { desk = at.desk; held = tt }, Asks_nothing (talks_any w.stage _ (inl (record { stage = refl; output = refl; frames = refl }))) refl)
 step_is alone seat n w v some at calm (leaves s) = leaves_it alone seat n w v at s
 step_is alone seat n w v some at calm (drains s) = subst (Stepped seat n w) (sym s.is) (n, record { desk = at.desk; held = drained s.answer s.end s.line.calm _ }, Asks_nothing (talks_any w.stage _ (inl (record { stage = refl; output = refl; frames = refl }))) refl)
@@ -289,9 +291,11 @@ step_calm : (alone : Bool) (w v : World) → Step alone w v → NoneBroke v.even
 step_calm alone w v (greets s) calm = calls_left w.events _ (subst NoneBroke (ap (λ (x : World). x.events) s.is) calm)
 step_calm alone w v (takes_frame s) calm = calls_left w.events _ (subst NoneBroke (ap (λ (x : World). x.events) s.is) calm)
 step_calm alone w v (makes_turn s) calm = calls_left w.events _ (subst NoneBroke (ap (λ (x : World). x.events) s.is) calm)
+step_calm alone w v (passes_turn s) calm = subst NoneBroke (ap (λ (x : World). x.events) s.is) calm
 step_calm alone w v (writes s) calm = subst NoneBroke (ap (λ (x : World). x.events) s.is) calm
 step_calm alone w v (passes_write s) calm = subst NoneBroke (ap (λ (x : World). x.events) s.is) calm
 step_calm alone w v (reads s) calm = subst NoneBroke (ap (λ (x : World). x.events) s.is) calm
+step_calm alone w v (passes_read s) calm = subst NoneBroke (ap (λ (x : World). x.events) s.is) calm
 step_calm alone w v (gives_up s) calm = subst NoneBroke (ap (λ (x : World). x.events) s.is) calm
 step_calm alone w v (leaves s) calm = calls_left w.events _ (subst NoneBroke (ap (λ (x : World). x.events) s.is) calm)
 step_calm alone w v (drains s) calm = subst NoneBroke (ap (λ (x : World). x.events) s.is) calm

@@ -95,8 +95,8 @@ seat_rests s t h g i j es apart first last given old new ran =
 
 may_turn : (ready ready' : Type 0) (p q : DeskPart) (broken broken' : Option ℕ) (calm : ℕ) (run : Run) (going : Going) → ready' → q ≡ p → broken ≡ None → MayTurn ready p broken calm run going → MayTurn ready' q broken' calm run going
 may_turn ready ready' p q broken broken' calm run G.Starting new same unbroken may = (may.0, same ∙ may.1, may.2, may.3)
-may_turn ready ready' p q broken broken' calm run G.Talking new same unbroken may = (record { is_ready = new; part_is = same ∙ may.0.part_is }, may.1)
-may_turn ready ready' p q broken broken' calm run (G.Draining mute end) new same unbroken may = λ still. ap (λ (x : DeskPart). x.open_now) same ∙ may unbroken
+may_turn ready ready' p q broken broken' calm run G.Talking new same unbroken may = (record { is_ready = new; part_is = same ∙ may.0.part_is }, may.1, may.2)
+may_turn ready ready' p q broken broken' calm run (G.Draining mute end) new same unbroken may = (λ still. ap (λ (x : DeskPart). x.open_now) same ∙ may.0 unbroken, may.1)
 may_turn ready ready' p q broken broken' calm run G.Closed new same unbroken may = may
 
 -- A session may go on where its seat is ready again with the same part.

@@ -27,7 +27,7 @@ use Rattle.session_core.specs.Stages.{Setting, Stage}
 use Rattle.session_core.specs.Sessions.{Said, Gives, frame_number}
 use Rattle.session_run.specs.Acknowledged.{MayStand, Written, CutAt}
 use Rattle.session_run.specs.Settled.{BatchEnded, OffersNone}
-use Rattle.session_run.specs.Machine.{World, Phase, Starting, Taking, Writing, Reading, Over, Draining, Closed, Step, greets, takes_frame, makes_turn, writes, passes_write, reads, gives_up, leaves, drains, closes, Reach, here, next, Throughout, opening, after_took, after_gave, after_write, after_read, after_drain}
+use Rattle.session_run.specs.Machine.{World, Phase, Starting, Taking, Writing, Reading, Over, Draining, Closed, Step, greets, takes_frame, makes_turn, passes_turn, writes, passes_write, reads, passes_read, gives_up, leaves, drains, closes, Reach, here, next, Throughout, opening, after_took, after_gave, after_write, after_read, after_drain}
 use Rattle.session_run.proofs.HeldKeys.{key_held, HoldsKnown, chain_key}
 use Rattle.session_run.proofs.Acks.{acknowledged, acknowledged_on}
 use Rattle.session_run.proofs.FrameWritings.{AllQuiet, EndsBatch, IsOwed, Framed, own_end_at}
@@ -265,6 +265,8 @@ step_acked alone desk w v a (makes_turn s) =
       leads = (joined alone desk w.events w.desk s.events s.desk a.leads s.chain).chain;
       holds = gave_holds s.gave s.desk (stage_key s.turn.stage) (subst (HoldsKnown s.desk.seat s.desk.knows) (sym b.holds) (chain_key alone w.desk s.desk s.events (stage_key w.stage) s.chain held));
     })
+step_acked alone desk w v a (passes_turn s) =
+    subst (Acked alone desk) (sym s.is) (record { small = a.small; wrote = goes_on alone desk w.events w.output w.phase (Writing false) _ a.wrote (uncut alone desk w Taking a s.phase (λ x. x)); leads = a.leads; holds = held_as alone desk w Taking a s.phase })
 step_acked alone desk w v a (writes s) =
     subst (Acked alone desk) (sym s.is) (record {
       small = a.small;
@@ -281,6 +283,8 @@ step_acked alone desk w v a (reads s) =
       leads = a.leads;
       holds = read_holds s.answer w.setting.limit _ s.line.calm w.desk (stage_key w.stage) (held_as alone desk w (Reading s.waits) a s.phase);
     })
+step_acked alone desk w v a (passes_read s) =
+    subst (Acked alone desk) (sym s.is) (record { small = a.small; wrote = goes_on alone desk w.events w.output w.phase Taking _ a.wrote (uncut alone desk w (Reading s.waits) a s.phase (λ x. x)); leads = a.leads; holds = held_as alone desk w (Reading s.waits) a s.phase })
 step_acked alone desk w v a (gives_up s) =
     subst (Acked alone desk) (sym s.is) (record { small = a.small; wrote = goes_on alone desk w.events w.output w.phase (Over E.NoMemory) _ a.wrote tt; leads = a.leads; holds = tt })
 step_acked alone desk w v a (leaves s) =

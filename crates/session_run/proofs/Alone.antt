@@ -12,7 +12,7 @@ use Rattle.node_model.proofs.Alone.{call_shared, chain_shared, drifted_shared, r
 use Rattle.node_model.specs.Calls.{Call, Answer, Drifts, DeskState, Turned, turned, Knock_call, Leave_call}
 use Rattle.session_core.specs.Stages.{Setting}
 use Rattle.binkp_link.specs.Lines.{LineState}
-use Rattle.session_run.specs.Machine.{World, Phase, Starting, Taking, Writing, Reading, Over, Draining, Closed, Step, greets, takes_frame, makes_turn, writes, passes_write, reads, gives_up, leaves, drains, closes, Reach, here, next, Throughout, opening}
+use Rattle.session_run.specs.Machine.{World, Phase, Starting, Taking, Writing, Reading, Over, Draining, Closed, Step, greets, takes_frame, makes_turn, passes_turn, writes, passes_write, reads, passes_read, gives_up, leaves, drains, closes, Reach, here, next, Throughout, opening}
 use Rattle.std.proofs.Common.{◌≡◌}
 use Rattle.session_run.specs.Laws.{Facts, IsSession}
 use Rattle.session_run.specs.Acknowledged.{Acknowledged, MayStand, Written}
@@ -26,10 +26,12 @@ use Rattle.session_run.proofs.Marked.{all_marked}
 step_shared : (w v : World) → Step true w v → Step false w v
 step_shared w v (greets s) = greets (record { phase = s.phase; new = s.new; role = s.role; side = s.side; answer = s.answer; desk = s.desk; rows_before = s.rows_before; rows_after = s.rows_after; call = call_shared w.desk (turned (Knock_call s.role) s.answer s.rows_before s.rows_after) s.desk s.call; reply = s.reply; follows = s.follows; output = s.output; took = s.took; said = s.said; is = s.is })
 step_shared w v (takes_frame s) = takes_frame (record { phase = s.phase; frame = s.frame; rest = s.rest; next = s.next; events = s.events; reply = s.reply; row = s.row; desk = s.desk; chain = chain_shared w.desk s.events s.desk s.chain; output = s.output; took = s.took; said = s.said; is = s.is })
-step_shared w v (makes_turn s) = makes_turn (record { phase = s.phase; rest = s.rest; none = s.none; events = s.events; turn = s.turn; row = s.row; desk = s.desk; chain = chain_shared w.desk s.events s.desk s.chain; output = s.output; gave = s.gave; said = s.said; is = s.is })
+step_shared w v (makes_turn s) = makes_turn (record { phase = s.phase; rest = s.rest; none = s.none; left = s.left; unsent = s.unsent; few = s.few; events = s.events; turn = s.turn; row = s.row; desk = s.desk; chain = chain_shared w.desk s.events s.desk s.chain; output = s.output; gave = s.gave; said = s.said; is = s.is })
+step_shared w v (passes_turn s) = passes_turn s
 step_shared w v (writes s) = writes s
 step_shared w v (passes_write s) = passes_write s
 step_shared w v (reads s) = reads s
+step_shared w v (passes_read s) = passes_read s
 step_shared w v (gives_up s) = gives_up s
 step_shared w v (leaves s) = leaves (record { end = s.end; phase = s.phase; answer = s.answer; desk = s.desk; rows_before = s.rows_before; rows_after = s.rows_after; call = call_shared w.desk (turned Leave_call s.answer s.rows_before s.rows_after) s.desk s.call; is = s.is })
 step_shared w v (drains s) = drains s
@@ -136,12 +138,14 @@ replay w v d t (makes_turn s) =
     let z = absorbed false d w.desk t s.events s.desk (chain_shared w.desk s.events s.desk s.chain) s.desk (drifted_none false s.desk) in
     record {
       desk = z.last;
-      step = makes_turn (record { phase = s.phase; rest = s.rest; none = s.none; events = s.events; turn = s.turn; row = s.row; desk = z.last; chain = z.chain; output = s.output; gave = s.gave; said = s.said; is = ap (λ (x : World). record x { desk = z.last }) s.is });
+      step = makes_turn (record { phase = s.phase; rest = s.rest; none = s.none; left = s.left; unsent = s.unsent; few = s.few; events = s.events; turn = s.turn; row = s.row; desk = z.last; chain = z.chain; output = s.output; gave = s.gave; said = s.said; is = ap (λ (x : World). record x { desk = z.last }) s.is });
       drifted = subst (λ (x : World). Drifted false z.last x.desk) (sym s.is) z.tail;
     }
+replay w v d t (passes_turn s) = still w v d t (ap (λ (x : World). x.desk) s.is) (passes_turn (record { phase = s.phase; rest = s.rest; none = s.none; left = s.left; unsent = s.unsent; many = s.many; is = ap (λ (x : World). record x { desk = d }) s.is }))
 replay w v d t (writes s) = still w v d t (ap (λ (x : World). x.desk) s.is) (writes (record { waits = s.waits; phase = s.phase; left = s.left; unsent = s.unsent; some = s.some; answer = s.answer; line = s.line; step = s.step; is = ap (λ (x : World). record x { desk = d }) s.is }))
 replay w v d t (passes_write s) = still w v d t (ap (λ (x : World). x.desk) s.is) (passes_write (record { waits = s.waits; phase = s.phase; unsent = s.unsent; is = ap (λ (x : World). record x { desk = d }) s.is }))
-replay w v d t (reads s) = still w v d t (ap (λ (x : World). x.desk) s.is) (reads (record { waits = s.waits; phase = s.phase; left = s.left; unsent = s.unsent; answer = s.answer; buffer = s.buffer; room = s.room; line = s.line; step = s.step; is = ap (λ (x : World). record x { desk = d }) s.is }))
+replay w v d t (reads s) = still w v d t (ap (λ (x : World). x.desk) s.is) (reads (record { waits = s.waits; phase = s.phase; left = s.left; unsent = s.unsent; few = s.few; answer = s.answer; buffer = s.buffer; room = s.room; line = s.line; step = s.step; is = ap (λ (x : World). record x { desk = d }) s.is }))
+replay w v d t (passes_read s) = still w v d t (ap (λ (x : World). x.desk) s.is) (passes_read (record { waits = s.waits; phase = s.phase; left = s.left; unsent = s.unsent; many = s.many; is = ap (λ (x : World). record x { desk = d }) s.is }))
 replay w v d t (gives_up s) = still w v d t (ap (λ (x : World). x.desk) s.is) (gives_up (record { phase = s.phase; is = ap (λ (x : World). record x { desk = d }) s.is }))
 replay w v d t (drains s) = still w v d t (ap (λ (x : World). x.desk) s.is) (drains (record { end = s.end; phase = s.phase; left = s.left; unsent = s.unsent; some = s.some; answer = s.answer; line = s.line; step = s.step; is = ap (λ (x : World). record x { desk = d }) s.is }))
 replay w v d t (closes s) = still w v d t (ap (λ (x : World). x.desk) s.is) (closes (record { mute = s.mute; end = s.end; phase = s.phase; done = s.done; is = ap (λ (x : World). record x { desk = d }) s.is }))

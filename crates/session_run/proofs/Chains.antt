@@ -5,7 +5,7 @@ use Rattle.node_model.proofs.Rans.{joined}
 use Rattle.binkp_link.specs.Lines.{LineState}
 use Rattle.session_core.specs.Stages.{Setting}
 use Rattle.session_run.specs.Reports.{ReportText}
-use Rattle.session_run.specs.Machine.{World, Step, greets, takes_frame, makes_turn, writes, passes_write, reads, gives_up, leaves, drains, closes, Reach, here, next, opening}
+use Rattle.session_run.specs.Machine.{World, Step, greets, takes_frame, makes_turn, passes_turn, writes, passes_write, reads, passes_read, gives_up, leaves, drains, closes, Reach, here, next, opening}
 use Rattle.session_run.specs.Laws.{WholeRun}
 
 abbrev pub Leads : Bool → DeskState → World → Type 0
@@ -18,9 +18,11 @@ step_leads alone desk w v c (takes_frame s) = subst (Leads alone desk) (sym s.is
 step_leads alone desk w v c (leaves s) =
     subst (Leads alone desk) (sym s.is) (joined alone desk w.events w.desk (turned Leave_call s.answer s.rows_before s.rows_after ∷ []) s.desk c (s.desk, s.call, refl)).chain
 step_leads alone desk w v c (makes_turn s) = subst (Leads alone desk) (sym s.is) (joined alone desk w.events w.desk s.events s.desk c s.chain).chain
+step_leads alone desk w v c (passes_turn s) = subst (Leads alone desk) (sym s.is) c
 step_leads alone desk w v c (writes s) = subst (Leads alone desk) (sym s.is) c
 step_leads alone desk w v c (passes_write s) = subst (Leads alone desk) (sym s.is) c
 step_leads alone desk w v c (reads s) = subst (Leads alone desk) (sym s.is) c
+step_leads alone desk w v c (passes_read s) = subst (Leads alone desk) (sym s.is) c
 step_leads alone desk w v c (gives_up s) = subst (Leads alone desk) (sym s.is) c
 step_leads alone desk w v c (drains s) = subst (Leads alone desk) (sym s.is) c
 step_leads alone desk w v c (closes s) = subst (Leads alone desk) (sym s.is) c

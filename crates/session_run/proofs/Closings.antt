@@ -25,7 +25,7 @@ use Rattle.session_run.proofs.Runs.{ends_at, goes_then, starts_at, tells_as, wen
 use Rattle.session_run.proofs.Streams.{is_nothing}
 
 -- nothing more is written, or nothing is left
-pub closes_it : (alone : Bool) (s : Setting) (run : Run) (line : LineState) (desk : DeskState) (mute : Bool) (end : End) → (mute ≡ true) ⊎ (run.out.list ≡ []) → Goes alone s (spot run line desk [] (Draining mute end)) (spot run line desk [] (Closed end))
+pub closes_it : (alone : Bool) (s : Setting) (run : Run) (line : LineState) (desk : DeskState) (mute : Bool) (end : End) → (mute ≡ true) ⊎ (run.out ≡ []) → Goes alone s (spot run line desk [] (Draining mute end)) (spot run line desk [] (Closed end))
 closes_it alone s run line desk mute end why = record {
   goes = λ w at.
       let v : World = record w { phase = Closed end } in
@@ -33,7 +33,7 @@ closes_it alone s run line desk mute end why = record {
       (v, next here (closes step), record { setting_is = at.setting_is; line_is = at.line_is; desk_is = at.desk_is; phase_is = refl; unsent = at.unsent; taken = at.taken; wrote = λ unleft. absurd unleft; stood = at.stood; tells = at.tells; follows = tt }, sym (append-nil w.events));
 }
   where
-    done : (w : World) → At alone s (spot run line desk [] (Draining mute end)) w → (mute ≡ true) ⊎ (run.out.list ≡ []) → (mute ≡ true) ⊎ (w.output ≡ w.sent)
+    done : (w : World) → At alone s (spot run line desk [] (Draining mute end)) w → (mute ≡ true) ⊎ (run.out ≡ []) → (mute ≡ true) ⊎ (w.output ≡ w.sent)
     done w at (inl is) = inl is
     done w at (inr none) = inr (at.unsent ∙ ap (λ (x : List ℕ). w.sent ++ x) none ∙ append-nil w.sent)
 
@@ -59,13 +59,13 @@ stood_on : (sent gone all wrote wrote' : ℕ) → all ≡ sent + gone → min wr
 stood_on sent gone all wrote wrote' a b c = omega arith
 
 -- one write of what is left
-pub drains_it : (alone : Bool) (s : Setting) (run run' : Run) (l l' : LineState) (desk : DeskState) (end : End) (answer : WriteAnswer) (bytes : List ℕ) → bytes ≡ run.out.list → 0 < length run.out.list → IsWrite l answer bytes l' → run.out.list ≡ went answer run.out.list ++ run'.out.list → run'.taken ≡ run.taken → run'.session ≡ run.session → min run'.wrote (2 ^ 64 - 1) ≡ min (run.wrote + length (went answer run.out.list)) (2 ^ 64 - 1) → Goes alone s (spot run l desk [] (Draining false end)) (spot run' l' desk [] (after_drain answer l'.calm end))
+pub drains_it : (alone : Bool) (s : Setting) (run run' : Run) (l l' : LineState) (desk : DeskState) (end : End) (answer : WriteAnswer) (bytes : List ℕ) → bytes ≡ run.out → 0 < length run.out → IsWrite l answer bytes l' → run.out ≡ went answer run.out ++ run'.out → run'.taken ≡ run.taken → run'.session ≡ run.session → min run'.wrote (2 ^ 64 - 1) ≡ min (run.wrote + length (went answer run.out)) (2 ^ 64 - 1) → Goes alone s (spot run l desk [] (Draining false end)) (spot run' l' desk [] (after_drain answer l'.calm end))
 drains_it alone s run run' l l' desk end answer bytes offered some is parts taken session counted = record {
   goes = λ w at.
-      let gone = went answer run.out.list in
+      let gone = went answer run.out in
       let v : World = record w { line = l'; sent = w.sent ++ gone; phase = after_drain answer l'.calm end } in
-      let all : IsWrite l answer run.out.list l' = subst (λ (x : List ℕ). IsWrite l answer x l') offered is in
-      let step : Drains w v = record { end = end; phase = at.phase_is; left = run.out.list; unsent = at.unsent; some = some; answer = answer; line = l'; step = subst (λ (x : LineState). IsWrite x answer run.out.list l') (sym at.line_is) all; is = refl } in (
+      let all : IsWrite l answer run.out l' = subst (λ (x : List ℕ). IsWrite l answer x l') offered is in
+      let step : Drains w v = record { end = end; phase = at.phase_is; left = run.out; unsent = at.unsent; some = some; answer = answer; line = l'; step = subst (λ (x : LineState). IsWrite x answer run.out l') (sym at.line_is) all; is = refl } in (
         v,
         next here (drains step),
         record {
@@ -73,7 +73,7 @@ drains_it alone s run run' l l' desk end answer bytes offered some is parts take
           line_is = refl;
           desk_is = at.desk_is;
           phase_is = refl;
-          unsent = at.unsent ∙ ap (λ (x : List ℕ). w.sent ++ x) parts ∙ sym (append_assoc w.sent gone run'.out.list);
+          unsent = at.unsent ∙ ap (λ (x : List ℕ). w.sent ++ x) parts ∙ sym (append_assoc w.sent gone run'.out);
           taken = at.taken ∙ sym taken;
           wrote = λ u. absurd (drained_left answer l'.calm end u);
           stood = stood_on (length w.sent) (length gone) (length (w.sent ++ gone)) run.wrote run'.wrote (length-append w.sent gone) at.stood counted;
@@ -95,8 +95,8 @@ quiet_drained calm end = go (nat_le 60 calm)
     go false = refl
 
 -- where a write left nothing, the session is closed at once
-pub wrote_drained : (alone : Bool) (s : Setting) (a : Spot) (run : Run) (line : LineState) (desk : DeskState) (end : End) (b : Bool) → b ≡ (length run.out.list == 0) → Goes alone s a (spot run line desk [] (Draining false end)) → Goes alone s a (spot run line desk [] (drained b end))
-wrote_drained alone s a run line desk end true e g = goes_then g (closes_it alone s run line desk false end (inr (is_nothing run.out.list (eqb-true (length run.out.list) 0 (sym e)))))
+pub wrote_drained : (alone : Bool) (s : Setting) (a : Spot) (run : Run) (line : LineState) (desk : DeskState) (end : End) (b : Bool) → b ≡ (length run.out == 0) → Goes alone s a (spot run line desk [] (Draining false end)) → Goes alone s a (spot run line desk [] (drained b end))
+wrote_drained alone s a run line desk end true e g = goes_then g (closes_it alone s run line desk false end (inr (is_nothing run.out (eqb-true (length run.out) 0 (sym e)))))
 wrote_drained alone s a run line desk end false e g = g
 
 pub goes_from : {alone : Bool} {s : Setting} {b : Spot} {run : Run} {line : LineState} {desk : DeskState} {p q : Phase} → p ≡ q → Goes alone s (spot run line desk [] p) b → Goes alone s (spot run line desk [] q) b

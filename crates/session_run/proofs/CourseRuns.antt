@@ -19,7 +19,8 @@ use Rattle.session_core.specs.Replies.{Sits, setting_in, stage_in}
 use Rattle.session_run.specs.Courses.{IsFree, IsLeft, MayTurn, Nearer, TurnWent, phase_of, talks, talk_room}
 use Rattle.session_run.specs.Laws.{IsSession}
 use Rattle.session_run.specs.Machine.{World, Starting, opening}
-use Rattle.session_run.specs.Runs.{InLimit, IsNew, Went, drain_room, spot}
+use Rattle.session_run.specs.Runs.{InLimit, IsBounded, IsNew, Went, drain_room, spot}
+use Rattle.session_run.specs.declared.unsent.TheConstants.{MOST_LEFT}
 use Rattle.session_run.proofs.Acknowledging.{all_written, acked_open}
 use Rattle.session_run.proofs.Settling.{all_settled, settling_open}
 use Rattle.session_run.proofs.Endings.{run_brought}
@@ -95,13 +96,14 @@ new_may ready part broken course calm conf s new going lent none some still =
     subst (MayTurn ready part broken calm course.run) (sym going) (new, none, subst (λ (x : Setting). 0 < x.limit) (sym lent) some, still)
 
 -- and of one whose turn was settled
-pub settled_may : (end : Option EndCode) (ready old : Type 0) (part was : DeskPart) (broken : Option ℕ) (calm limit : ℕ) (run before : Run) (going : Going) → ready → run ≡ before → IfNone end (going ≡ G.Talking) → IfNone end (part ≡ was) → (IsSome end → IsLeft going) → (IsSome end → IsFree broken part) → IfNone end (Sits old was (stage_in before.session)) → before.session.setting.limit ≡ limit → IfNone end (InLimit limit before calm) → MayTurn ready part broken calm run going
-settled_may None ready old part was broken calm limit run before going is same on still left free sits lent within =
+pub settled_may : (end : Option EndCode) (ready old : Type 0) (part was : DeskPart) (broken : Option ℕ) (calm limit : ℕ) (run before : Run) (going : Going) → ready → run ≡ before → IfNone end (going ≡ G.Talking) → IfNone end (part ≡ was) → (IsSome end → IsLeft going) → (IsSome end → IsFree broken part) → IfNone end (Sits old was (stage_in before.session)) → before.session.setting.limit ≡ limit → IfNone end (InLimit limit before calm) → IfNone end (IsBounded before) → length before.out ≤ MOST_LEFT → MayTurn ready part broken calm run going
+settled_may None ready old part was broken calm limit run before going is same on still left free sits lent within bounded few =
     subst (MayTurn ready part broken calm run) (sym on) (
       record { is_ready = is; part_is = still ∙ sits.part_is ∙ ap (λ (r : Run). desk_part (stage_in r.session)) (sym same) },
       subst (λ (r : Run). InLimit r.session.setting.limit r calm) (sym same) (subst (λ (n : ℕ). InLimit n before calm) (sym lent) within),
+      subst IsBounded (sym same) bounded,
     )
-settled_may (Some end) ready old part was broken calm limit run before G.Starting is same on still left free sits lent within = absurd (left refl)
-settled_may (Some end) ready old part was broken calm limit run before G.Talking is same on still left free sits lent within = absurd (left refl)
-settled_may (Some end) ready old part was broken calm limit run before (G.Draining mute e) is same on still left free sits lent within = free refl
-settled_may (Some end) ready old part was broken calm limit run before G.Closed is same on still left free sits lent within = absurd (left refl)
+settled_may (Some end) ready old part was broken calm limit run before G.Starting is same on still left free sits lent within bounded few = absurd (left refl)
+settled_may (Some end) ready old part was broken calm limit run before G.Talking is same on still left free sits lent within bounded few = absurd (left refl)
+settled_may (Some end) ready old part was broken calm limit run before (G.Draining mute e) is same on still left free sits lent within bounded few = (free refl, subst (λ (r : Run). length r.out ≤ MOST_LEFT) (sym same) few)
+settled_may (Some end) ready old part was broken calm limit run before G.Closed is same on still left free sits lent within bounded few = absurd (left refl)

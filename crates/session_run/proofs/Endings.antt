@@ -18,7 +18,7 @@ use Rattle.session_core.specs.Givings as G
 use Rattle.session_core.specs.Stages.{Setting}
 use Rattle.session_core.specs.Sessions.{Reply, Said, Gives, fault_end, frame_number}
 use Rattle.session_run.specs.Laws.{LastAnswered, AnswerBrings, AnswerCauseAt, Facts, WordBrings, LastSaid, IsBrought, WasBrought, IsBroughtAt}
-use Rattle.session_run.specs.Machine.{World, Phase, Starting, Taking, Writing, Reading, Over, Draining, Closed, MayGiveUp, Step, greets, takes_frame, makes_turn, writes, passes_write, reads, gives_up, leaves, drains, closes, Reach, here, next, opening, after_took, after_gave, after_drain}
+use Rattle.session_run.specs.Machine.{World, Phase, Starting, Taking, Writing, Reading, Over, Draining, Closed, MayGiveUp, Step, greets, takes_frame, makes_turn, passes_turn, writes, passes_write, reads, passes_read, gives_up, leaves, drains, closes, Reach, here, next, opening, after_took, after_gave, after_drain}
 use Rattle.session_run.proofs.Causes.{read_as, said_by}
 use Rattle.session_run.proofs.Laws.{Is_on, facts_on, facts_open, read_on, write_on}
 use Rattle.session_run.proofs.RowEnds.{took_end, gave_end, AnswerGives, CallGives, WordGives, row_gives, row_words, knock_gives, turn_gives}
@@ -177,11 +177,13 @@ step_brought alone line desk w v facts b (makes_turn s) =
       answer = answers_on w.events s.events (gave_end s.turn.gave) end (before end).answer (turn_gives w.setting.block w.stage (asked_of s.events) s.turn s.row) (gave_meets s.turn.output s.turn.gave s.output s.gave end s.said f);
       word = (before end).word;
     }))
+step_brought alone line desk w v facts b (passes_turn s) = subst Brought (sym s.is) (brought_as w Taking b s.phase)
 step_brought alone line desk w v facts b (writes s) =
     subst Brought (sym s.is) (on_brought _ w.events w.setting.home w.frames (write_on s.answer w.setting.limit _ s.line.calm s.waits) (brought_as w (Writing s.waits) b s.phase))
 step_brought alone line desk w v facts b (passes_write s) = subst Brought (sym s.is) (brought_as w (Writing s.waits) b s.phase)
 step_brought alone line desk w v facts b (reads s) =
     subst Brought (sym s.is) (on_brought _ w.events w.setting.home w.frames (read_on s.answer w.setting.limit _ s.line.calm) (brought_as w (Reading s.waits) b s.phase))
+step_brought alone line desk w v facts b (passes_read s) = subst Brought (sym s.is) (brought_as w (Reading s.waits) b s.phase)
 step_brought alone line desk w v facts b (gives_up s) = subst Brought (sym s.is) (early_brought w.phase w.events w.setting.home w.frames s.phase b E.NoMemory)
 step_brought alone line desk w v facts b (leaves s) =
     subst Brought (sym s.is) (record { first = s.end; earlier = w.events; cause = subst (λ p. AnswerCauseAt p w.events) s.phase facts.answer_cause; last = turned Leave_call s.answer s.rows_before s.rows_after; is = refl; leaves = refl; turned = refl }, brought_as w (Over s.end) b s.phase)

@@ -16,8 +16,8 @@ use Rattle.std.specs.Prelude.{nat_le, if◌then◌else◌}
 use Rattle.binkp_link.specs.Lines.{LineState, Moves, came, went}
 use Rattle.session_core.specs.Stages.{Setting}
 use Rattle.session_core.specs.Sessions.{frame_number}
-use Rattle.session_run.specs.Machine.{World, Phase, Starting, Taking, Writing, Reading, Over, Draining, Closed, MayGiveUp, Step, greets, takes_frame, makes_turn, writes, passes_write, reads, gives_up, leaves, drains, closes, Reach, here, next, opening, after_took, after_gave, after_read, after_write, after_drain}
-use Rattle.session_run.specs.Laws.{Facts, OwnCauseAt, EndCountAt, LineCauseAt, WholeAt, AnswerCauseAt, DeskCause, DeskCauseAt, Since}
+use Rattle.session_run.specs.Machine.{World, Phase, Starting, Taking, Writing, Reading, Over, Draining, Closed, MayGiveUp, Step, greets, takes_frame, makes_turn, passes_turn, writes, passes_write, reads, passes_read, gives_up, leaves, drains, closes, Reach, here, next, opening, after_took, after_gave, after_read, after_write, after_drain}
+use Rattle.session_run.specs.Laws.{joined, Facts, OwnCauseAt, EndCountAt, LineCauseAt, WholeAt, AnswerCauseAt, DeskCause, DeskCauseAt, Since}
 use Rattle.session_run.proofs.Causes.{Met, RowCause, TurnCause, no_frame, own_turn, met_by, said_by, row_cause, said_cause, knock_cause, turn_cause, gives_cause}
 use Rattle.session_run.proofs.SinceCounts.{since_same, since_chain, row_desk}
 use Rattle.session_run.proofs.AnswerCauses.{took_answer, gave_answer, drain_answer}
@@ -191,6 +191,20 @@ keeps alone line desk w v f (makes_turn s) =
       answer_cause = gave_answer m s.gave w.events s.events cause;
       own_cause = gave_own w.setting s.turn.stage s.gave (asked_of s.events) w.frames w.last_stage w.last_calls w.taken w.sent cause;
     })
+keeps alone line desk w v f (passes_turn s) = subst (Facts alone line desk) (sym s.is) (record {
+  pieces = f.pieces;
+  moves = f.moves;
+  left = f.left;
+  front = f.front;
+  whole = tt;
+  faults = f.faults;
+  ends = subst (λ p. EndCountAt p line.ends w.line.ends) s.phase f.ends;
+  line_cause = tt;
+  counts = f.counts;
+  desk_cause = tt;
+  answer_cause = tt;
+  own_cause = tt;
+})
 keeps alone line desk w v f (writes s) = subst (Facts alone line desk) (sym s.is) (record {
   pieces = f.pieces;
   moves = subst (λ x. Moves x (w.sent ++ went s.answer s.left) line.bytes s.line.bytes) (append-nil w.taken) (moves_on w.taken [] w.sent (went s.answer s.left) line.bytes w.line.bytes s.line.bytes f.moves s.step.moves);
@@ -232,6 +246,20 @@ keeps alone line desk w v f (reads s) = subst (Facts alone line desk) (sym s.is)
   desk_cause = on_desk _ _ _ (read_on s.answer w.setting.limit _ s.line.calm);
   answer_cause = on_answer _ _ (read_on s.answer w.setting.limit _ s.line.calm);
   own_cause = read_own s.answer s.line.calm w.setting w.stage w.frames w.last_stage w.last_calls (w.taken ++ came s.answer s.buffer) w.sent;
+})
+keeps alone line desk w v f (passes_read s) = subst (Facts alone line desk) (sym s.is) (record {
+  pieces = joined-last w.pieces [] ∙ append-nil (joined w.pieces) ∙ f.pieces;
+  moves = f.moves;
+  left = f.left;
+  front = f.front;
+  whole = tt;
+  faults = f.faults;
+  ends = subst (λ p. EndCountAt p line.ends w.line.ends) s.phase f.ends;
+  line_cause = tt;
+  counts = f.counts;
+  desk_cause = tt;
+  answer_cause = tt;
+  own_cause = tt;
 })
 keeps alone line desk w v f (gives_up s) = subst (Facts alone line desk) (sym s.is) (record {
   pieces = f.pieces;

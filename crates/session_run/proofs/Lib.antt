@@ -3,6 +3,7 @@ pub mod Acks
 pub mod Alone
 pub mod AnswerCauses
 pub mod AskedCalls
+pub mod Bounds
 pub mod Causes
 pub mod Chains
 pub mod Closings
@@ -15,8 +16,8 @@ pub mod Leavings
 pub mod LineLaws
 pub mod LineRuns
 pub mod LoginSteps
-pub mod Openings
 pub mod Marked
+pub mod Openings
 pub mod OwnCauses
 pub mod RanPast
 pub mod Room
@@ -30,3 +31,4 @@ pub mod Settling
 pub mod SinceCounts
 pub mod StepCounts
 pub mod Streams
+pub mod Unsents

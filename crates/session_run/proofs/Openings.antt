@@ -28,7 +28,7 @@ follows_took T.More run pending v st = st
 follows_took (T.Ended end) run pending v st = tt
 
 -- the first turn
-pub greeted_it : (alone : Bool) (s : Setting) (run run' : Run) (line : LineState) (old new : Stand) (answer : Answer) (reply : Reply) (took : Took) → Kept alone old (Knock_call (role_of s.side)) answer new → AfterKnock s answer reply → IsNew run → run'.session ≡ run.session → run'.decoder ≡ run.decoder → run'.piece.list ≡ run.piece.list → run'.taken ≡ run.taken → run'.wrote ≡ run.wrote → reply.stage ≡ at_first → Grows run.out.list run'.out.list reply.output reply.took took → Went alone s old (spot run line old.state [] Starting) new (spot run' line new.state [] (after_took took))
+pub greeted_it : (alone : Bool) (s : Setting) (run run' : Run) (line : LineState) (old new : Stand) (answer : Answer) (reply : Reply) (took : Took) → Kept alone old (Knock_call (role_of s.side)) answer new → AfterKnock s answer reply → IsNew run → run'.session ≡ run.session → run'.decoder ≡ run.decoder → run'.piece.list ≡ run.piece.list → run'.taken ≡ run.taken → run'.wrote ≡ run.wrote → reply.stage ≡ at_first → Grows run.out run'.out reply.output reply.took took → Went alone s old (spot run line old.state [] Starting) new (spot run' line new.state [] (after_took took))
 greeted_it alone s run run' line old new answer reply took kept after is_new session decoder piece taken wrote stage grows = record {
   events = turned (Knock_call (role_of s.side)) answer kept.rows_before kept.rows_after ∷ [];
   ran = ran_one alone old (Knock_call (role_of s.side)) answer new kept;
@@ -67,7 +67,7 @@ greeted_it alone s run run' line old new answer reply took kept after is_new ses
             line_is = at.line_is;
             desk_is = drifted_none alone new.state;
             phase_is = refl;
-            unsent = ap (λ (x : List ℕ). x ++ grows.written) at.unsent ∙ append_assoc w.sent run.out.list grows.written ∙ ap (λ (x : List ℕ). w.sent ++ x) (sym grows.grew);
+            unsent = ap (λ (x : List ℕ). x ++ grows.written) at.unsent ∙ append_assoc w.sent run.out grows.written ∙ ap (λ (x : List ℕ). w.sent ++ x) (sym grows.grew);
             taken = at.taken ∙ sym taken;
             wrote = λ _. at.wrote tt ∙ sym wrote;
             stood = stood_same _ _ _ wrote at.stood;

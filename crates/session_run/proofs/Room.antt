@@ -23,10 +23,10 @@ went_on limit bytes end goal never e = go (nat_le limit bytes) refl e
     go true t e = absurd (never end e)
     go false t e = leb-false limit bytes t
 
-writes_advance : (limit : ℕ) (run run' : Run) (l l' : LineState) (waits : Bool) (answer : WriteAnswer) → InLimit limit run l.calm → IsWrite l answer run.out.list l' → Wrote run run' (went answer run.out.list) → Reading waits ≡ after_write answer limit (run.taken + run'.wrote) l'.calm (Reading waits) → Advances limit run run' l.calm l'.calm (0 < length run.out.list)
+writes_advance : (limit : ℕ) (run run' : Run) (l l' : LineState) (waits : Bool) (answer : WriteAnswer) → InLimit limit run l.calm → IsWrite l answer run.out l' → Wrote run run' (went answer run.out) → Reading waits ≡ after_write answer limit (run.taken + run'.wrote) l'.calm (Reading waits) → Advances limit run run' l.calm l'.calm (0 < length run.out)
 writes_advance limit run run' l l' waits (W.Wrote n) within is did to =
     let on = went_on limit (run.taken + run'.wrote) E.Endless (Reading waits) (λ e h. cc) to in
-    let moved_on = length-take-le n run.out.list is.may.1 in
+    let moved_on = length-take-le n run.out is.may.1 in
     record {
       within = record { below = omega (arith, on, did.taken); quiet = omega (arith, is.calm) };
       no_more = omega (arith, is.calm, did.taken, did.wrote, moved_on, is.may.0, on, within.below);
@@ -42,7 +42,7 @@ writes_advance limit run run' l l' waits W.Quiet within is did to =
     }
 writes_advance limit run run' l l' waits W.Failed within is did to = absurd (let clash : Reading waits ≡ Over E.LineFault = to in cc)
 
-pub write_advanced : (limit : ℕ) (run run' : Run) (l l' : LineState) (waits : Bool) (answer : WriteAnswer) (result : Option EndCode) → InLimit limit run l.calm → IsWrite l answer run.out.list l' → Wrote run run' (went answer run.out.list) → over_or result (Reading waits) ≡ after_write answer limit (run.taken + run'.wrote) l'.calm (Reading waits) → IfNone result (Advances limit run run' l.calm l'.calm (0 < length run.out.list))
+pub write_advanced : (limit : ℕ) (run run' : Run) (l l' : LineState) (waits : Bool) (answer : WriteAnswer) (result : Option EndCode) → InLimit limit run l.calm → IsWrite l answer run.out l' → Wrote run run' (went answer run.out) → over_or result (Reading waits) ≡ after_write answer limit (run.taken + run'.wrote) l'.calm (Reading waits) → IfNone result (Advances limit run run' l.calm l'.calm (0 < length run.out))
 write_advanced limit run run' l l' waits answer None within is did to = writes_advance limit run run' l l' waits answer within is did to
 write_advanced limit run run' l l' waits answer (Some end) within is did to = tt
 
@@ -73,8 +73,8 @@ reads_advance limit run run' l l' wait R.NotYet buffer within is did to =
 reads_advance limit run run' l l' wait R.End buffer within is did to = absurd (let clash : Taking ≡ Over E.Dropped = to in cc)
 reads_advance limit run run' l l' wait R.Failed buffer within is did to = absurd (let clash : Taking ≡ Over E.LineFault = to in cc)
 
-pub read_advanced : (limit : ℕ) (run run' : Run) (l l' : LineState) (waits : Bool) (answer : ReadAnswer) (buffer : List ℕ) (result : Option EndCode) → InLimit limit run l.calm → IsRead (waits && (length run.out.list == 0)) l answer buffer l' → Came run run' (came answer buffer) → over_or result Taking ≡ after_read answer limit (run'.taken + run.wrote) l'.calm → IfNone result (Advances limit run run' l.calm l'.calm ((waits ≡ true) × (run.out.list ≡ [])))
+pub read_advanced : (limit : ℕ) (run run' : Run) (l l' : LineState) (waits : Bool) (answer : ReadAnswer) (buffer : List ℕ) (result : Option EndCode) → InLimit limit run l.calm → IsRead (waits && (length run.out == 0)) l answer buffer l' → Came run run' (came answer buffer) → over_or result Taking ≡ after_read answer limit (run'.taken + run.wrote) l'.calm → IfNone result (Advances limit run run' l.calm l'.calm ((waits ≡ true) × (run.out ≡ [])))
 read_advanced limit run run' l l' waits answer buffer None within is did to =
-    let a = reads_advance limit run run' l l' (waits && (length run.out.list == 0)) answer buffer within is did to in
-    record { within = a.within; no_more = a.no_more; less = λ h. a.less (ap (λ (b : Bool). b && (length run.out.list == 0)) h.0 ∙ ap (λ (xs : List ℕ). true && (length xs == 0)) h.1) }
+    let a = reads_advance limit run run' l l' (waits && (length run.out == 0)) answer buffer within is did to in
+    record { within = a.within; no_more = a.no_more; less = λ h. a.less (ap (λ (b : Bool). b && (length run.out == 0)) h.0 ∙ ap (λ (xs : List ℕ). true && (length xs == 0)) h.1) }
 read_advanced limit run run' l l' waits answer buffer (Some end) within is did to = tt

@@ -98,7 +98,7 @@ may_open Taking may = tt
 may_open (Reading waits) may = tt
 may_open _ may = absurd may
 
-pub gave_up_at : (alone : Bool) (s : Setting) (run run' : Run) (line : LineState) (desk : DeskState) (pending pending' : List FrameText) (p : Phase) → MayGiveUp p → told_of run'.session ≡ told_of run.session → run'.out.list ≡ run.out.list → run'.taken ≡ run.taken → run'.wrote ≡ run.wrote → Goes alone s (spot run line desk pending p) (spot run' line desk pending' (Over E.NoMemory))
+pub gave_up_at : (alone : Bool) (s : Setting) (run run' : Run) (line : LineState) (desk : DeskState) (pending pending' : List FrameText) (p : Phase) → MayGiveUp p → told_of run'.session ≡ told_of run.session → run'.out ≡ run.out → run'.taken ≡ run.taken → run'.wrote ≡ run.wrote → Goes alone s (spot run line desk pending p) (spot run' line desk pending' (Over E.NoMemory))
 gave_up_at alone s run run' line desk pending pending' p may login out taken wrote = record {
   goes = λ w at.
       let v : World = record w { phase = Over E.NoMemory } in

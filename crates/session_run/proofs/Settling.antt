@@ -12,7 +12,7 @@ use Rattle.node_model.proofs.Rans.{joined}
 use Rattle.binkp_link.specs.Lines.{LineState}
 use Rattle.session_core.specs.Stages.{Setting}
 use Rattle.session_core.specs.Sessions.{frame_number}
-use Rattle.session_run.specs.Machine.{World, Step, greets, takes_frame, makes_turn, writes, passes_write, reads, gives_up, leaves, drains, closes, Reach, here, next, Throughout, opening}
+use Rattle.session_run.specs.Machine.{World, Step, greets, takes_frame, makes_turn, passes_turn, writes, passes_write, reads, passes_read, gives_up, leaves, drains, closes, Reach, here, next, Throughout, opening}
 use Rattle.session_run.specs.Settled.{Asked, Heard, MaySettle, SettledBy}
 use Rattle.session_run.proofs.AskedCalls.{asked_by, asked_on}
 use Rattle.session_run.proofs.Causes.{read_as, said_by}
@@ -126,9 +126,11 @@ step_settling alone desk w v f (leaves s) =
       each = quiet_each alone desk w.events (e ∷ []) w.setting.home w.frames tt (no_got _ Leave_call s.answer (λ number h. cc) refl) f.each;
       offered = offered_on alone desk w.events (e ∷ []) (sending_at w.stage) f.offered;
     })
+step_settling alone desk w v f (passes_turn s) = subst (Settling alone desk) (sym s.is) (record { leads = f.leads; each = f.each; offered = f.offered })
 step_settling alone desk w v f (writes s) = subst (Settling alone desk) (sym s.is) (record { leads = f.leads; each = f.each; offered = f.offered })
 step_settling alone desk w v f (passes_write s) = subst (Settling alone desk) (sym s.is) (record { leads = f.leads; each = f.each; offered = f.offered })
 step_settling alone desk w v f (reads s) = subst (Settling alone desk) (sym s.is) (record { leads = f.leads; each = f.each; offered = f.offered })
+step_settling alone desk w v f (passes_read s) = subst (Settling alone desk) (sym s.is) (record { leads = f.leads; each = f.each; offered = f.offered })
 step_settling alone desk w v f (gives_up s) = subst (Settling alone desk) (sym s.is) (record { leads = f.leads; each = f.each; offered = f.offered })
 step_settling alone desk w v f (drains s) = subst (Settling alone desk) (sym s.is) (record { leads = f.leads; each = f.each; offered = f.offered })
 step_settling alone desk w v f (closes s) = subst (Settling alone desk) (sym s.is) (record { leads = f.leads; each = f.each; offered = f.offered })

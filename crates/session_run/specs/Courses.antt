@@ -1,5 +1,5 @@
 -- A session turn by turn, from its first words to its close.
-use Rattle.std.specs.Prelude.{◌≡◌, ℕ, ◌+◌, ◌*◌, ◌^◌, ◌<◌, Bool, true, false, [], Option, None}
+use Rattle.std.specs.Prelude.{◌≡◌, ℕ, ◌+◌, ◌*◌, ◌^◌, ◌<◌, ◌≤◌, Bool, true, false, [], length, Option, None}
 use Rattle.node_model.specs.Desks.{DeskPart}
 use Rattle.node_model.specs.Images.{Stand}
 use Rattle.binkp_link.specs.Lines.{LineState, shut}
@@ -12,10 +12,11 @@ use Rattle.session_run.specs.declared.turns.Going.TheVariants as G
 use Rattle.session_run.specs.declared.turns.Turn.{Turn}
 use Rattle.session_run.specs.declared.turns.Turn.TheVariants as T
 use Rattle.session_run.specs.declared.turns.Course.{Course}
+use Rattle.session_run.specs.declared.unsent.TheConstants.{MOST_LEFT}
 use Rattle.session_run.specs.Machine.{Phase, Starting, Taking, Draining, Closed}
 use Rattle.session_run.specs.Reports.{Reports_told, report_text}
 use Rattle.session_run.specs.declared.report.Report.{Report}
-use Rattle.session_run.specs.Runs.{Spot, spot, Goes, Went, IsNew, InLimit, room, drain_room}
+use Rattle.session_run.specs.Runs.{Spot, spot, Goes, Went, IsNew, InLimit, IsBounded, room, drain_room}
 
 abbrev pub phase_of : Going → Phase
 phase_of G.Starting = Starting
@@ -43,8 +44,8 @@ IsFree broken part = broken ≡ None → part.open_now ≡ false
 abbrev pub MayTurn : (ready : Type 0) (part : DeskPart) (broken : Option ℕ) (calm : ℕ) (run : Run) → Going → Type 0
 MayTurn ready part broken calm run G.Starting =
     IsNew run × (part ≡ record { open_now = false; claim = None; held = None }) × (0 < run.session.setting.limit) × (calm ≡ 0)
-MayTurn ready part broken calm run G.Talking = Sits ready part (stage_in run.session) × InLimit run.session.setting.limit run calm
-MayTurn ready part broken calm run (G.Draining mute end) = IsFree broken part
+MayTurn ready part broken calm run G.Talking = Sits ready part (stage_in run.session) × InLimit run.session.setting.limit run calm × IsBounded run
+MayTurn ready part broken calm run (G.Draining mute end) = IsFree broken part × (length run.out ≤ MOST_LEFT)
 MayTurn ready part broken calm run G.Closed = ⊥
 
 abbrev pub IfMore : Turn → Type 0 → Type 0

@@ -1,5 +1,5 @@
 -- A session over bytes: what has happened so far, and what may happen next (own, after FTS-1026).
-use Rattle.std.specs.Prelude.{◌≡◌, ◌⊎◌, ℕ, ◌+◌, ◌<◌, Bool, true, false, ◌&&◌, nat_le, ◌==◌, if◌then◌else◌, List, [], ◌∷◌, ◌++◌, length}
+use Rattle.std.specs.Prelude.{◌≡◌, ◌⊎◌, ℕ, ◌+◌, ◌<◌, ◌≤◌, Bool, true, false, ◌&&◌, nat_le, ◌==◌, if◌then◌else◌, List, [], ◌∷◌, ◌++◌, length}
 use Rattle.ftn_addr.specs.Frames.{FrameText}
 use Rattle.binkp_frame.specs.Stream.{Begins, Splits}
 use Rattle.node_model.specs.declared.words.Role.{Role}
@@ -17,6 +17,7 @@ use Rattle.session_core.specs.Givings as G
 use Rattle.binkp_link.specs.Lines.{LineState, IsRead, IsWrite, came, went}
 use Rattle.session_core.specs.Stages.{Setting, role_of, Stage, at_first}
 use Rattle.session_core.specs.Sessions.{Reply, Row, AfterKnock, Turn, GiveRow, Said, Gives, frame_number}
+use Rattle.session_run.specs.declared.unsent.TheConstants.{MOST_TO_READ, MOST_TO_TURN}
 
 -- where a session is: before its first turn; taking the frames that are whole, and then making the own turn; writing,
 -- where the own turn waits or not; reading; over; writing what is left, unless its own end was mute; closed
@@ -115,11 +116,14 @@ pub record TakesFrame (alone : Bool) (w v : World) : Type 0 where
   pub said : Said reply.output reply.took output took
   pub is : v ≡ record w { desk = desk; stage = reply.stage; phase = after_took took; frames = w.frames ++ frame ∷ []; last_stage = w.stage; last_calls = events; output = w.output ++ output; events = w.events ++ events }
 
--- no further frame is whole, and the own turn is made
+-- no further frame is whole, few bytes are left to write, and the own turn is made
 pub record MakesTurn (alone : Bool) (w v : World) : Type 0 where
   pub phase : w.phase ≡ Taking
   pub rest : List ℕ
   pub none : Splits w.taken w.frames rest
+  pub left : List ℕ
+  pub unsent : w.output ≡ w.sent ++ left
+  pub few : length left ≤ MOST_TO_TURN
   pub events : List Turned
   pub turn : Turn
   pub row : GiveRow w.setting.block w.stage (asked_of events) turn
@@ -129,6 +133,16 @@ pub record MakesTurn (alone : Bool) (w v : World) : Type 0 where
   pub gave : Gave
   pub said : Gives turn.output turn.gave output gave
   pub is : v ≡ record w { desk = desk; stage = turn.stage; phase = after_gave gave; output = w.output ++ output; events = w.events ++ events }
+
+-- no further frame is whole, and too many bytes are left to write for an own turn
+pub record PassesTurn (w v : World) : Type 0 where
+  pub phase : w.phase ≡ Taking
+  pub rest : List ℕ
+  pub none : Splits w.taken w.frames rest
+  pub left : List ℕ
+  pub unsent : w.output ≡ w.sent ++ left
+  pub many : MOST_TO_TURN < length left
+  pub is : v ≡ record w { phase = Writing false }
 
 -- a write of all that is left
 pub record Writes (w v : World) : Type 0 where
@@ -149,18 +163,29 @@ pub record PassesWrite (w v : World) : Type 0 where
   pub unsent : w.output ≡ w.sent
   pub is : v ≡ record w { phase = Reading waits }
 
--- a read of at most 4096 bytes, which waits exactly where nothing is left to write and the own turn waits
+-- few enough bytes are left to write: a read of at most 4096 bytes, which waits exactly where none is left and the own turn
+-- waits
 pub record Reads (w v : World) : Type 0 where
   pub waits : Bool
   pub phase : w.phase ≡ Reading waits
   pub left : List ℕ
   pub unsent : w.output ≡ w.sent ++ left
+  pub few : length left ≤ MOST_TO_READ
   pub answer : ReadAnswer
   pub buffer : List ℕ
   pub room : length buffer ≡ 4096
   pub line : LineState
   pub step : IsRead (waits && (length left == 0)) w.line answer buffer line
   pub is : v ≡ record w { line = line; pieces = w.pieces ++ came answer buffer ∷ []; taken = w.taken ++ came answer buffer; phase = after_read answer w.setting.limit (length (w.taken ++ came answer buffer) + length w.sent) line.calm }
+
+-- too many bytes are left to write for a read: the next piece is empty
+pub record PassesRead (w v : World) : Type 0 where
+  pub waits : Bool
+  pub phase : w.phase ≡ Reading waits
+  pub left : List ℕ
+  pub unsent : w.output ≡ w.sent ++ left
+  pub many : MOST_TO_READ < length left
+  pub is : v ≡ record w { pieces = w.pieces ++ [] ∷ []; phase = Taking }
 
 -- after these ends nothing more is written, also where `leave` turns them
 abbrev pub is_mute : End → Bool
@@ -219,9 +244,11 @@ pub data Step (alone : Bool) (w v : World) : Type 0 where
   greets : Greets alone w v → Step alone w v
   takes_frame : TakesFrame alone w v → Step alone w v
   makes_turn : MakesTurn alone w v → Step alone w v
+  passes_turn : PassesTurn w v → Step alone w v
   writes : Writes w v → Step alone w v
   passes_write : PassesWrite w v → Step alone w v
   reads : Reads w v → Step alone w v
+  passes_read : PassesRead w v → Step alone w v
   gives_up : GivesUp w v → Step alone w v
   leaves : Leaves alone w v → Step alone w v
   drains : Drains w v → Step alone w v

@@ -1,5 +1,5 @@
 -- Where the code of a session stands in the run of its machine.
-use Rattle.std.specs.Prelude.{◌≡◌, ℕ, ◌+◌, ◌-◌, ◌*◌, ◌^◌, ◌<◌, ◌≤◌, min, Bool, true, false, List, [], ◌++◌, length, Option, Some, None}
+use Rattle.std.specs.Prelude.{◌≡◌, ℕ, ◌+◌, ◌-◌, ◌*◌, ◌^◌, ◌<◌, ◌≤◌, ◌⊎◌, min, Bool, true, false, List, [], ◌++◌, length, Option, Some, None}
 use Rattle.ftn_addr.specs.Frames.{FrameText}
 use Rattle.binkp_frame.specs.Stream.{Splits}
 use Rattle.node_model.specs.Calls.{DeskState, Event, Turned, asked_of}
@@ -12,6 +12,7 @@ use Rattle.session_core.specs.declared.session.Session.{Session}
 use Rattle.session_core.specs.Stages.{Setting, at_first, untold, told_along}
 use Rattle.session_core.specs.Sessions.{frame_number}
 use Rattle.session_core.specs.Replies.{told_of, stage_in}
+use Rattle.session_run.specs.declared.unsent.TheConstants.{MOST_LEFT, MOST_TO_READ}
 use Rattle.session_run.specs.Machine.{World, Phase, Over, Draining, Closed, Reach}
 
 -- the code's run, where its line and its desk stand, the frames that were read and not yet taken, and the phase
@@ -56,7 +57,7 @@ pub record At (alone : Bool) (setting : Setting) (s : Spot) (w : World) : Type 0
   pub line_is : w.line ≡ s.line
   pub desk_is : Drifted alone w.desk s.desk
   pub phase_is : w.phase ≡ s.phase
-  pub unsent : w.output ≡ w.sent ++ s.run.out.list
+  pub unsent : w.output ≡ w.sent ++ s.run.out
   pub taken : length w.taken ≡ s.run.taken
   pub wrote : IsUnleft s.phase → length w.sent ≡ s.run.wrote
   -- a count stands at its type's end
@@ -86,7 +87,7 @@ pub record IsNew (run : Run) : Type 0 where
   pub frames : run.session.frames ≡ 0
   pub decoder : run.decoder ≡ []
   pub piece : run.piece.list ≡ []
-  pub out : run.out.list ≡ []
+  pub out : run.out ≡ []
   pub taken : run.taken ≡ 0
   pub wrote : run.wrote ≡ 0
 
@@ -96,7 +97,7 @@ pub record Wrote (run run' : Run) (gone : List ℕ) : Type 0 where
   pub decoder : run'.decoder ≡ run.decoder
   pub piece : run'.piece.list ≡ run.piece.list
   pub taken : run'.taken ≡ run.taken
-  pub out : run.out.list ≡ gone ++ run'.out.list
+  pub out : run.out ≡ gone ++ run'.out
   pub wrote : run'.wrote ≡ run.wrote + length gone
 
 -- what a read leaves of a run
@@ -104,7 +105,7 @@ pub record Came (run run' : Run) (piece : List ℕ) : Type 0 where
   pub session : run'.session ≡ run.session
   pub decoder : run'.decoder ≡ run.decoder
   pub piece_is : run'.piece.list ≡ run.piece.list ++ piece
-  pub out : run'.out.list ≡ run.out.list
+  pub out : run'.out ≡ run.out
   pub wrote : run'.wrote ≡ run.wrote
   pub taken : run'.taken ≡ run.taken + length piece
 
@@ -128,12 +129,19 @@ drained false end = Draining false end
 
 -- how much may still come of what is left: each write moves a byte or is one Quiet more
 abbrev pub drain_room : Run → ℕ → ℕ
-drain_room run calm = 64 * length run.out.list + (63 - calm)
+drain_room run calm = 64 * length run.out + (63 - calm)
 
 -- the run may go on
 pub record InLimit (limit : ℕ) (run : Run) (calm : ℕ) : Type 0 where
   pub below : run.taken + run.wrote < limit
   pub quiet : calm < 60
+
+-- what a run that goes on holds between two turns: the rest of a frame, one piece that wasn't taken yet, which was read only where
+-- few bytes were left to write, and those that are left
+pub record IsBounded (run : Run) : Type 0 where
+  pub short : length run.piece.list ≤ 4096
+  pub fed : (run.piece.list ≡ []) ⊎ (length run.out ≤ MOST_TO_READ)
+  pub left : length run.out ≤ MOST_LEFT
 
 -- the run may go on, and there is less room, at least where strict holds
 pub record Advances (limit : ℕ) (run run' : Run) (calm calm' : ℕ) (strict : Type 0) : Type 0 where

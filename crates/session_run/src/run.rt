@@ -1,5 +1,5 @@
 //! A session over a line, turn by turn.
-ghost use Rattle.std.specs.Prelude.{◌≡◌, ◌+◌, ◌^◌, ◌<◌, ◌≤◌, ◌&&◌, Bool, true, false, None, drop, length, [], IfNone, IfOk, OnErr, Option};
+ghost use Rattle.std.specs.Prelude.{◌≡◌, ◌+◌, ◌*◌, ◌^◌, ◌<◌, ◌≤◌, ◌&&◌, Bool, true, false, None, drop, length, [], IfNone, IfOk, OnErr, Option};
 ghost use Rattle.binkp_frame.specs.Views.{frame_texts};
 ghost use Rattle.node_model.specs.Calls.{DeskState};
 ghost use Rattle.binkp_link.specs.Lines.{LineState, LineBytes, MayRead, MayWrite, came, went};
@@ -18,12 +18,13 @@ ghost use Rattle.session_core.specs.Ends as E;
 ghost use Rattle.session_core.specs.Takings as T;
 ghost use Rattle.session_core.specs.Givings as G;
 
+use crate::unsent::{MOST_LEFT, MOST_TO_READ, MOST_TO_TURN, Unsent};
 use binkp_frame::{Decoder, Frame, pieces_add_up};
 use binkp_link::{Line, ReadAnswer, WriteAnswer};
 use ftn_addr::{Bytes, NoMemory};
 use mail_conf::Conf;
-use node_model::{Desk, Knock};
-use session_core::{End, Gave, Session, Side, Took, refuse, turn_away};
+use node_model::Desk;
+use session_core::{End, Gave, Session, Side, Took};
 use std::alloc::Global;
 
 /// A session that goes on: what it knows, the bytes of a frame that isn't whole, the piece that was read and
@@ -33,25 +34,13 @@ pub struct Run {
     pub session: Session,
     pub decoder: Decoder,
     pub piece: Bytes,
-    pub out: Bytes,
+    pub out: Unsent,
     pub taken: u64,
     pub wrote: u64,
 }
 
-/// Removes the first `n` bytes. Where these are all, none is moved.
-fn drop_written(out: &mut Bytes, n: usize)
-    requires { n ≤ length out.old.list }
-    ensures { out.new.list ≡ drop n out.old.list }
-{
-    if n == out.len() {
-        out.clear();
-    } else {
-        out.drop_front(n);
-    }
-}
-
 impl Run {
-    ghost use Rattle.session_run.specs.Runs.{Goes, Went, IsNew, Wrote, Came, SameCounts, Advances, InLimit, drain_room, drained, room, spot};
+    ghost use Rattle.session_run.specs.Runs.{Goes, Went, IsNew, Wrote, Came, SameCounts, Advances, InLimit, IsBounded, drain_room, drained, room, spot};
 
     /// Before the first turn. This takes no memory.
     pub fn new(alloc: Global, side: Side, conf: &Conf, challenge: [u8; 16], now: u64) -> Run
@@ -64,10 +53,17 @@ impl Run {
             session: Session::new(side, conf, challenge, now),
             decoder: Decoder::new(alloc),
             piece: Bytes::new(alloc),
-            out: Bytes::new(alloc),
+            out: Unsent::new(alloc),
             taken: 0,
             wrote: 0,
         }
+    }
+
+    /// The number of bytes that are left to write. This takes no memory.
+    pub fn left(&self) -> usize
+        ensures { result ≡ length self.now.out }
+    {
+        self.out.len()
     }
 
     /// The frames that the piece makes whole.
@@ -79,6 +75,8 @@ impl Run {
         ensures stage { self.new.session ≡ self.old.session }
         ensures piece { IfOk result (λ frames. self.new.piece.list ≡ []) }
         ensures counts { SameCounts self.old self.new }
+        ensures out { self.new.out ≡ self.old.out }
+        ensures few { IfOk result (λ frames. 3 * length frames.items ≤ length self.old.piece.list + 2) }
     {
         pieces_add_up();
         let mut frames = Vec::new(alloc);
@@ -107,9 +105,10 @@ impl Run {
         ensures piece { self.new.piece.list ≡ [] }
         ensures lent { lent_in self.new.session ≡ lent_in self.old.session }
         ensures counts { SameCounts self.old self.new }
+        ensures short { length self.new.out ≤ length self.old.out + 1100 * length frames.now }
     {
         for frame in frames {
-            match self.session.take(alloc, frame, conf, desk, &mut self.out) {
+            match self.out.take(alloc, &mut self.session, frame, conf, desk) {
                 Took::More => {}
                 Took::Ended(end) => return Took::Ended(end),
             }
@@ -121,11 +120,13 @@ impl Run {
     fn take_all<K: Desk>(&mut self, alloc: Global, conf: &Conf, desk: &mut K) -> Took
         requires own { AreAddresses (conf_text conf.now).addresses }
         requires sits { Sits (K.ready desk.old) (K.part desk.old) (stage_in self.old.session) }
+        requires bounded { IsBounded self.old }
         ensures went { (line : LineState) → Went K.alone (setting_in self.old.session (conf_text conf.now)) (K.stand desk.old) (spot self.old line (K.stand desk.old).state [] Taking) (K.stand desk.new) (spot self.new line (K.stand desk.new).state [] (after_took (took_text result))) }
         ensures sits { SitsStill (K.ready desk.new) (K.part desk.new) (stage_in self.new.session) (took_text result) }
         ensures piece { took_text result ≡ T.More → self.new.piece.list ≡ [] }
         ensures lent { lent_in self.new.session ≡ lent_in self.old.session }
         ensures counts { SameCounts self.old self.new }
+        ensures bounded { length self.new.out ≤ MOST_LEFT }
     {
         match self.feed(alloc) {
             Ok(frames) => self.take_each(alloc, frames.as_slice(), conf, desk),
@@ -137,29 +138,50 @@ impl Run {
     fn give<K: Desk>(&mut self, alloc: Global, desk: &mut K) -> Gave
         requires sits { Sits (K.ready desk.old) (K.part desk.old) (stage_in self.old.session) }
         requires piece { self.old.piece.list ≡ [] }
+        requires few { length self.old.out ≤ MOST_TO_TURN }
         ensures went { (conf : ConfText) (line : LineState) → Went K.alone (setting_in self.old.session conf) (K.stand desk.old) (spot self.old line (K.stand desk.old).state [] Taking) (K.stand desk.new) (spot self.new line (K.stand desk.new).state [] (after_gave (gave_text result))) }
         ensures sits { SitsOn (K.ready desk.new) (K.part desk.new) (stage_in self.new.session) (gave_text result) }
-        ensures sent { gave_text result ≡ G.Sent → 0 < length self.new.out.list }
+        ensures sent { gave_text result ≡ G.Sent → 0 < length self.new.out }
         ensures piece { self.new.piece.list ≡ self.old.piece.list }
         ensures lent { lent_in self.new.session ≡ lent_in self.old.session }
         ensures counts { SameCounts self.old self.new }
+        ensures short { length self.new.out ≤ length self.old.out + 32800 }
     {
-        self.session.give(alloc, desk, &mut self.out)
+        self.out.give(alloc, &mut self.session, desk)
+    }
+
+    /// The own turn, where few enough bytes are left to write. One that isn't made doesn't wait.
+    fn give_if_few<K: Desk>(&mut self, alloc: Global, desk: &mut K) -> Gave
+        requires sits { Sits (K.ready desk.old) (K.part desk.old) (stage_in self.old.session) }
+        requires piece { self.old.piece.list ≡ [] }
+        requires bounded { length self.old.out ≤ MOST_LEFT }
+        ensures went { (conf : ConfText) (line : LineState) → Went K.alone (setting_in self.old.session conf) (K.stand desk.old) (spot self.old line (K.stand desk.old).state [] Taking) (K.stand desk.new) (spot self.new line (K.stand desk.new).state [] (after_gave (gave_text result))) }
+        ensures sits { SitsOn (K.ready desk.new) (K.part desk.new) (stage_in self.new.session) (gave_text result) }
+        ensures sent { gave_text result ≡ G.Sent → 0 < length self.new.out }
+        ensures piece { self.new.piece.list ≡ self.old.piece.list }
+        ensures lent { lent_in self.new.session ≡ lent_in self.old.session }
+        ensures counts { SameCounts self.old self.new }
+        ensures bounded { length self.new.out ≤ MOST_LEFT }
+    {
+        if MOST_TO_TURN < self.left() {
+            return Gave::Sent;
+        }
+        self.give(alloc, desk)
     }
 
     /// What an answer to a write leaves.
     fn wrote(&mut self, answer: WriteAnswer, calm: u64, limit: u64) -> Option<End>
-        requires may { MayWrite answer self.old.out.list }
+        requires may { MayWrite answer self.old.out }
         requires below { self.old.taken + self.old.wrote < limit }
         requires limit { limit ≤ 2 ^ 62 }
-        ensures did { Wrote self.old self.new (went answer self.old.out.list) }
+        ensures did { Wrote self.old self.new (went answer self.old.out) }
         ensures to { (goal : Phase) → over_or result goal ≡ after_write answer limit (self.old.taken + self.new.wrote) calm goal }
     {
         match answer {
             WriteAnswer::Wrote(n) => {
                 let left = self.out.as_slice().len();
                 prove!(n <= left);
-                drop_written(&mut self.out, n);
+                self.out.drop_front(n);
                 self.wrote += n as u64;
                 endless(self.taken, self.wrote, limit)
             }
@@ -177,9 +199,10 @@ impl Run {
             Goes alone s (spot self.old (L.state line.old) desk [] (Writing waits)) (spot self.new (L.state line.new) desk [] (over_or result (Reading waits))) }
         ensures session { self.new.session ≡ self.old.session }
         ensures piece { self.new.piece.list ≡ self.old.piece.list }
-        ensures idle { self.old.out.list ≡ [] → self.new.out.list ≡ [] }
+        ensures idle { self.old.out ≡ [] → self.new.out ≡ [] }
+        ensures bounded { length self.new.out ≤ length self.old.out }
         ensures open { (L.state line.new).closed ≡ false }
-        ensures advances { IfNone result (Advances limit self.old self.new (L.state line.old).calm (L.state line.new).calm (0 < length self.old.out.list)) }
+        ensures advances { IfNone result (Advances limit self.old self.new (L.state line.old).calm (L.state line.new).calm (0 < length self.old.out)) }
     {
         if self.out.is_empty() {
             return None;
@@ -213,8 +236,10 @@ impl Run {
         }
     }
 
-    /// One read, which waits exactly where nothing is left to write and the own turn waits.
+    /// One read, where few enough bytes are left to write. It waits exactly where nothing is left and the own turn waits.
     fn read_once<L: Line>(&mut self, line: &mut L, waits: bool, limit: u64) -> Option<End>
+        requires piece { self.old.piece.list ≡ [] }
+        requires bounded { length self.old.out ≤ MOST_LEFT }
         requires within { InLimit limit self.old (L.state line.old).calm }
         requires limit { limit ≤ 2 ^ 62 }
         requires open { (L.state line.old).closed ≡ false }
@@ -222,8 +247,13 @@ impl Run {
             Goes alone s (spot self.old (L.state line.old) desk [] (Reading waits)) (spot self.new (L.state line.new) desk [] (over_or result Taking)) }
         ensures session { self.new.session ≡ self.old.session }
         ensures open { (L.state line.new).closed ≡ false }
-        ensures advances { IfNone result (Advances limit self.old self.new (L.state line.old).calm (L.state line.new).calm ((waits ≡ true) × (self.old.out.list ≡ []))) }
+        ensures advances { IfNone result (Advances limit self.old self.new (L.state line.old).calm (L.state line.new).calm ((waits ≡ true) × (self.old.out ≡ []))) }
+        ensures out { self.new.out ≡ self.old.out }
+        ensures bounded { IfNone result (IsBounded self.new) }
     {
+        if MOST_TO_READ < self.left() {
+            return None;
+        }
         if self.piece.reserve(4096).is_err() {
             return Some(End::NoMemory);
         }
@@ -244,6 +274,7 @@ impl Run {
         requires own { AreAddresses (conf_text conf.now).addresses }
         requires sits { Sits (K.ready desk.old) (K.part desk.old) (stage_in self.old.session) }
         requires within { InLimit self.old.session.setting.limit self.old (L.state line.old).calm }
+        requires bounded { IsBounded self.old }
         requires limit { self.old.session.setting.limit ≤ 2 ^ 62 }
         requires open { (L.state line.old).closed ≡ false }
         ensures went { Went K.alone (setting_in self.old.session (conf_text conf.now)) (K.stand desk.old) (spot self.old (L.state line.old) (K.stand desk.old).state [] Taking) (K.stand desk.new) (spot self.new (L.state line.new) (K.stand desk.new).state [] (over_or result Taking)) }
@@ -252,6 +283,8 @@ impl Run {
         ensures open { (L.state line.new).closed ≡ false }
         ensures lent { lent_in self.new.session ≡ lent_in self.old.session }
         ensures goes_on { IfNone result (InLimit self.old.session.setting.limit self.new (L.state line.new).calm) }
+        ensures bounded { IfNone result (IsBounded self.new) }
+        ensures left { length self.new.out ≤ MOST_LEFT }
         ensures progress { IfNone result (room self.old.session.setting.limit self.new (L.state line.new).calm < room self.old.session.setting.limit self.old (L.state line.old).calm) }
     {
         let limit = self.session.setting.limit;
@@ -259,7 +292,7 @@ impl Run {
             Took::More => {}
             Took::Ended(end) => return Some(end),
         }
-        let waits = match self.give(alloc, desk) {
+        let waits = match self.give_if_few(alloc, desk) {
             Gave::Sent => false,
             Gave::Waits => true,
             Gave::Ended(end) => return Some(end),
@@ -271,54 +304,6 @@ impl Run {
         self.read_once(line, waits, limit)
     }
 
-    /// The first turn: this side knocks at its desk, and greets its peer or turns it away.
-    fn greet<K: Desk>(&mut self, alloc: Global, conf: &Conf, desk: &mut K) -> Took
-        requires own { AreAddresses (conf_text conf.now).addresses }
-        requires new { IsNew self.old }
-        requires ready { K.ready desk.old }
-        requires part { K.part desk.old ≡ record { open_now = false; claim = None; held = None } }
-        ensures went { (line : LineState) → Went K.alone (setting_in self.old.session (conf_text conf.now)) (K.stand desk.old) (spot self.old line (K.stand desk.old).state [] Starting) (K.stand desk.new) (spot self.new line (K.stand desk.new).state [] (after_took (took_text result))) }
-        ensures sits { SitsStill (K.ready desk.new) (K.part desk.new) (stage_in self.new.session) (took_text result) }
-        ensures lent { lent_in self.new.session ≡ lent_in self.old.session }
-        ensures counts { SameCounts self.old self.new }
-    {
-        let session = &self.session;
-        match desk.knock(session.role()) {
-            Ok(Knock::Come) => session.greet(alloc, conf, &mut self.out),
-            Ok(Knock::Busy) => turn_away(alloc, &mut self.out),
-            Err(fault) => refuse(alloc, fault, &mut self.out),
-        }
-    }
-
-    /// The first turn: this side knocks at its desk and greets its peer, and the session goes on from there.
-    pub(crate) fn open<L: Line, K: Desk>(
-        &mut self,
-        alloc: Global,
-        line: &mut L,
-        conf: &Conf,
-        desk: &mut K,
-    ) -> Option<End>
-        requires own { AreAddresses (conf_text conf.now).addresses }
-        requires new { IsNew self.old }
-        requires ready { K.ready desk.old }
-        requires part { K.part desk.old ≡ record { open_now = false; claim = None; held = None } }
-        requires some { 0 < self.old.session.setting.limit }
-        requires limit { self.old.session.setting.limit ≤ 2 ^ 62 }
-        requires calm { (L.state line.old).calm ≡ 0 }
-        requires open { (L.state line.old).closed ≡ false }
-        ensures went { Went K.alone (setting_in self.old.session (conf_text conf.now)) (K.stand desk.old) (spot self.old (L.state line.old) (K.stand desk.old).state [] Starting) (K.stand desk.new) (spot self.new (L.state line.new) (K.stand desk.new).state [] (over_or result Taking)) }
-        ensures ready { K.ready desk.new }
-        ensures sits { IfNone result (Sits (K.ready desk.new) (K.part desk.new) (stage_in self.new.session)) }
-        ensures open { (L.state line.new).closed ≡ false }
-        ensures lent { lent_in self.new.session ≡ lent_in self.old.session }
-        ensures goes_on { IfNone result (InLimit self.old.session.setting.limit self.new (L.state line.new).calm) }
-    {
-        match self.greet(alloc, conf, desk) {
-            Took::More => self.go_on(alloc, line, conf, desk),
-            Took::Ended(end) => Some(end),
-        }
-    }
-
     /// One write of what is left once the session is over; whether no more is to be written.
     pub(crate) fn drain<L: Line>(&mut self, line: &mut L) -> bool
         requires { (L.state line.old).closed ≡ false }
@@ -326,6 +311,7 @@ impl Run {
             Goes alone s (spot self.old (L.state line.old) desk [] (Draining false end)) (spot self.new (L.state line.new) desk [] (drained result end)) }
         ensures open { (L.state line.new).closed ≡ false }
         ensures session { self.new.session ≡ self.old.session }
+        ensures bounded { length self.new.out ≤ length self.old.out }
         ensures less { result ≡ false → drain_room self.new (L.state line.new).calm < drain_room self.old (L.state line.old).calm }
     {
         if self.out.is_empty() {

@@ -1,5 +1,5 @@
 //! A session turn by turn, from its first words to its close.
-ghost use Rattle.std.specs.Prelude.{◌≡◌, ◌^◌, ◌<◌, ◌≤◌, Bool, false, None, [], IfNone, IsSome};
+ghost use Rattle.std.specs.Prelude.{◌≡◌, ◌^◌, ◌<◌, ◌≤◌, Bool, false, None, [], length, IfNone, IsSome};
 ghost use Rattle.node_model.specs.Calls.{DeskState, counts_of};
 ghost use Rattle.node_model.specs.Desks.{settled_answer};
 ghost use Rattle.binkp_link.specs.Lines.{LineState, shut};
@@ -18,7 +18,7 @@ ghost use Rattle.session_run.specs.declared.report.Report.{Report};
 ghost use Rattle.session_run.specs.declared.turns.Going.TheVariants as G;
 ghost use Rattle.session_run.specs.declared.turns.Turn.TheVariants as T;
 
-use crate::{Report, Run};
+use crate::{MOST_LEFT, Report, Run};
 use binkp_link::Line;
 use mail_conf::Conf;
 use node_model::{Desk, DeskFault};
@@ -101,6 +101,13 @@ impl Course {
         }
     }
 
+    /// The number of bytes that are left to write. This takes no memory.
+    pub fn left(&self) -> usize
+        ensures { result ≡ length self.now.run.out }
+    {
+        self.run.left()
+    }
+
     /// The desk is left where the end is there.
     fn settle<K: Desk>(&mut self, end: Option<End>, desk: &mut K)
         requires { K.ready desk.old }
@@ -127,6 +134,7 @@ impl Course {
     fn shut<L: Line>(&mut self, line: &mut L, end: End) -> Turn
         ensures turn { (report : Report) × (result ≡ T.Ended report) × Tells_run report self.old.run × (report.end ≡ end) }
         ensures line { L.state line.new ≡ shut (L.state line.old) }
+        ensures out { self.new.run.out ≡ self.old.run.out }
     {
         line.close();
         self.going = Going::Closed;
@@ -143,6 +151,7 @@ impl Course {
         ensures going { IfMore result (self.new.going ≡ G.Draining mute end) }
         ensures lent { IfMore result (lent_in self.new.run.session ≡ lent_in self.old.run.session) }
         ensures open { IfMore result ((L.state line.new).closed ≡ false) }
+        ensures bounded { length self.new.run.out ≤ length self.old.run.out }
         ensures less { IfMore result (drain_room self.new.run (L.state line.new).calm < drain_room self.old.run (L.state line.old).calm) }
     {
         if mute {
@@ -158,7 +167,7 @@ impl Course {
     /// A turn. At its first one the caller knocks. Once the end is there, the desk is left in that same turn, and each
     /// turn that follows makes one write of what is left; the line is closed in the one that leaves nothing to write.
     ///
-    /// The settings are the same at each turn.
+    /// The settings are the same at each turn. Whatever the peer does, no more than [`MOST_LEFT`] bytes are left to write.
     pub fn turn<L: Line, K: Desk>(
         &mut self,
         alloc: Global,
@@ -178,6 +187,7 @@ impl Course {
         ensures open { IfMore result ((L.state line.new).closed ≡ false) }
         ensures nearer { IfMore result (Nearer self.old.run.session.setting.limit self.old (L.state line.old).calm self.new (L.state line.new).calm self.old.going) }
         ensures left { IfEnded result (IsFree (counts_of (K.stand desk.new).state.knows).broken (K.part desk.new)) }
+        ensures bounded { length self.new.run.out ≤ MOST_LEFT }
     {
         match mem::replace(&mut self.going, Going::Closed) {
             Going::Starting => {

@@ -23,21 +23,21 @@ wrote_within l l' n bytes list same is = subst (λ (x : List ℕ). n ≤ length 
 
 pub returns-then-is_empty-clause-went : goal.returns-then-is_empty-clause-went
 returns-then-is_empty-clause-went g c = λ alone s desk end.
-    closes_it alone s _ _ desk _ end (inr (is_nothing _ (eqb-true (length c.args.self.now.out.list) 0 (sym c.if-is_empty.ensures))))
+    closes_it alone s _ _ desk _ end (inr (is_nothing _ (eqb-true (length c.args.self.now.out) 0 (sym c.if-is_empty.ensures))))
 
 pub returns-in-Wrote-clause-went : goal.returns-in-Wrote-clause-went
 returns-in-Wrote-clause-went g c = λ alone s desk end.
     wrote_drained alone s _ _ _ desk end _ c.is_empty-in-Wrote.ensures
-    (drains_it alone s _ _ _ _ desk end _ _ c.as_slice.ensures (some_left _ (eqb-false (length c.args.self.now.out.list) 0 (sym c.if-is_empty.ensures))) c.in-Wrote.ensures
-    (sym (take-append-drop c.in-Wrote.n c.args.self.now.out.list) ∙ ap (λ rest. take c.in-Wrote.n c.args.self.now.out.list ++ rest) (sym c.drop_front.ensures)) refl refl
-    (counted_more c.args.self.now.wrote c.in-Wrote.n (length (take c.in-Wrote.n c.args.self.now.out.list)) _ c.saturating_add-self.ensures
-    (length-take-le c.in-Wrote.n c.args.self.now.out.list (wrote_within (g.L.Line.state c.args.line.now) (g.L.Line.state c.write.new.self) c.in-Wrote.n _ c.args.self.now.out.list c.as_slice.ensures c.in-Wrote.ensures))))
+    (drains_it alone s _ _ _ _ desk end _ _ c.as_slice.ensures (some_left _ (eqb-false (length c.args.self.now.out) 0 (sym c.if-is_empty.ensures))) c.in-Wrote.ensures
+    (sym (take-append-drop c.in-Wrote.n c.args.self.now.out) ∙ ap (λ rest. take c.in-Wrote.n c.args.self.now.out ++ rest) (sym c.drop_front.ensures)) refl refl
+    (counted_more c.args.self.now.wrote c.in-Wrote.n (length (take c.in-Wrote.n c.args.self.now.out)) _ c.saturating_add-self.ensures
+    (length-take-le c.in-Wrote.n c.args.self.now.out (wrote_within (g.L.Line.state c.args.line.now) (g.L.Line.state c.write.new.self) c.in-Wrote.n _ c.args.self.now.out c.as_slice.ensures c.in-Wrote.ensures))))
 
 pub returns-in-Quiet-clause-went : goal.returns-in-Quiet-clause-went
 returns-in-Quiet-clause-went g c = λ alone s desk end.
-    goes_at (drains_it alone s _ _ _ _ desk end _ _ c.as_slice.ensures (some_left _ (eqb-false (length c.args.self.now.out.list) 0 (sym c.if-is_empty.ensures))) c.in-Quiet.ensures refl refl refl (counted_none c.args.self.now.wrote))
+    goes_at (drains_it alone s _ _ _ _ desk end _ _ c.as_slice.ensures (some_left _ (eqb-false (length c.args.self.now.out) 0 (sym c.if-is_empty.ensures))) c.in-Quiet.ensures refl refl refl (counted_none c.args.self.now.wrote))
     (quiet_drained _ end ∙ ap (λ (calm : ℕ). drained (nat_le 60 calm) end) (sym c.calm.ensures))
 
 pub returns-in-Failed-clause-went : goal.returns-in-Failed-clause-went
 returns-in-Failed-clause-went g c = λ alone s desk end.
-    drains_it alone s _ _ _ _ desk end _ _ c.as_slice.ensures (some_left _ (eqb-false (length c.args.self.now.out.list) 0 (sym c.if-is_empty.ensures))) c.in-Failed.ensures refl refl refl (counted_none c.args.self.now.wrote)
+    drains_it alone s _ _ _ _ desk end _ _ c.as_slice.ensures (some_left _ (eqb-false (length c.args.self.now.out) 0 (sym c.if-is_empty.ensures))) c.in-Failed.ensures refl refl refl (counted_none c.args.self.now.wrote)

@@ -1,4 +1,4 @@
-use Rattle.std.proofs.Common.{◌∙◌, refl}
+use Rattle.std.proofs.Common.{◌∙◌, refl, arith}
 use Rattle.mail_conf.specs.ConfView.{conf_text}
 use Rattle.session_core.specs.Ends.{end_text}
 use Rattle.session_core.specs.Takings as T
@@ -14,6 +14,7 @@ loop-frame-init g c = record {
   piece = c.requires.piece;
   lent = refl;
   counts = record { taken = refl; wrote = refl };
+  short = omega arith;
 }
 
 pub loop-frame-preserved : goal.loop-frame-preserved
@@ -25,6 +26,7 @@ loop-frame-preserved g c =
       piece = c.loop-frame.invariant.piece;
       lent = c.in-More.ensures.lent ∙ c.loop-frame.invariant.lent;
       counts = record { taken = c.loop-frame.invariant.counts.taken; wrote = c.loop-frame.invariant.counts.wrote };
+      short = omega (arith, c.loop-frame.invariant.short, c.in-More.ensures.short);
     }
 
 pub returns-in-Ended-clause-went : goal.returns-in-Ended-clause-went

@@ -1,4 +1,4 @@
-use Rattle.std.proofs.Common.{◌≡◌, [], drop}
+use Rattle.std.proofs.Common.{◌≡◌, ◌≤◌, ◌+◌, ◌*◌, [], drop, length}
 use Rattle.binkp_frame.specs.Views.{frame_texts}
 use Rattle.binkp_link.specs.Lines.{LineState}
 use Rattle.mail_conf.specs.ConfView.{conf_text}
@@ -14,4 +14,5 @@ invariant-loop-frame g l = record {
   piece : l.self.piece.list ≡ [];
   lent : lent_in l.self.session ≡ lent_in l.fn.self.session;
   counts : SameCounts l.fn.self l.self;
+  short : length l.self.out ≤ length l.fn.self.out + 1100 * l.frame-index;
 }

@@ -9,11 +9,11 @@ use Rattle.session_run.proofs.Room.{write_advanced}
 use Rattle.session_run.proofs.run.Run.write_once.Goals as goal
 
 pub returns-then-is_empty-clause-went : goal.returns-then-is_empty-clause-went
-returns-then-is_empty-clause-went g c = λ alone s desk e. passes_it alone s _ _ desk c.args.waits (is_nothing _ (eqb-true (length c.args.self.now.out.list) 0 (sym c.if-is_empty.ensures)))
+returns-then-is_empty-clause-went g c = λ alone s desk e. passes_it alone s _ _ desk c.args.waits (is_nothing _ (eqb-true (length c.args.self.now.out) 0 (sym c.if-is_empty.ensures)))
 
 pub returns-clause-went : goal.returns-clause-went
 returns-clause-went g c = λ alone s desk e.
-    let some = eqb-false (length c.args.self.now.out.list) 0 (sym c.if-is_empty.ensures) in
+    let some = eqb-false (length c.args.self.now.out) 0 (sym c.if-is_empty.ensures) in
     let base = c.wrote.ensures.to (Reading c.args.waits) ∙ ap (λ (calm : ℕ). after_write c.write-answer.result c.args.limit (c.args.self.now.taken + c.wrote.new.self.wrote) calm (Reading c.args.waits)) c.calm.ensures in
     wrote_it alone s _ _ _ _ desk c.args.waits c.write-answer.result _ (omega (arith, some))
     (subst (λ (bytes : List ℕ). IsWrite (g.L.Line.state c.args.line.now) c.write-answer.result bytes (g.L.Line.state c.write-answer.new.self)) c.as_slice.ensures c.write-answer.ensures)

@@ -22,8 +22,8 @@ returns-in-Draining-clause-went g c =
 
 pub returns-in-Starting-clause-may : goal.returns-in-Starting-clause-may
 returns-in-Starting-clause-may g c =
-    settled_may c.open-end.result _ (g.K.Desk.ready c.open-end.new.desk) _ (g.K.Desk.part c.open-end.new.desk) _ _ _ c.settle.new.self.run c.open-end.new.self c.settle.new.self.going c.settle.ensures.ready c.settle.ensures.run c.settle.ensures.on c.settle.ensures.part c.settle.ensures.leaves c.settle.ensures.left c.open-end.ensures.sits (ap (λ (l : Lent). l.limit) c.open-end.ensures.lent) c.open-end.ensures.goes_on
+    settled_may c.open-end.result _ (g.K.Desk.ready c.open-end.new.desk) _ (g.K.Desk.part c.open-end.new.desk) _ _ _ c.settle.new.self.run c.open-end.new.self c.settle.new.self.going c.settle.ensures.ready c.settle.ensures.run c.settle.ensures.on c.settle.ensures.part c.settle.ensures.leaves c.settle.ensures.left c.open-end.ensures.sits (ap (λ (l : Lent). l.limit) c.open-end.ensures.lent) c.open-end.ensures.goes_on c.open-end.ensures.bounded c.open-end.ensures.left
 
 pub returns-in-Talking-clause-may : goal.returns-in-Talking-clause-may
 returns-in-Talking-clause-may g c =
-    settled_may c.go_on-end.result _ (g.K.Desk.ready c.go_on-end.new.desk) _ (g.K.Desk.part c.go_on-end.new.desk) _ _ _ c.settle-in-Talking.new.self.run c.go_on-end.new.self c.settle-in-Talking.new.self.going c.settle-in-Talking.ensures.ready c.settle-in-Talking.ensures.run c.settle-in-Talking.ensures.on c.settle-in-Talking.ensures.part c.settle-in-Talking.ensures.leaves c.settle-in-Talking.ensures.left c.go_on-end.ensures.sits (ap (λ (l : Lent). l.limit) c.go_on-end.ensures.lent) c.go_on-end.ensures.goes_on
+    settled_may c.go_on-end.result _ (g.K.Desk.ready c.go_on-end.new.desk) _ (g.K.Desk.part c.go_on-end.new.desk) _ _ _ c.settle-in-Talking.new.self.run c.go_on-end.new.self c.settle-in-Talking.new.self.going c.settle-in-Talking.ensures.ready c.settle-in-Talking.ensures.run c.settle-in-Talking.ensures.on c.settle-in-Talking.ensures.part c.settle-in-Talking.ensures.leaves c.settle-in-Talking.ensures.left c.go_on-end.ensures.sits (ap (λ (l : Lent). l.limit) c.go_on-end.ensures.lent) c.go_on-end.ensures.goes_on c.go_on-end.ensures.bounded c.go_on-end.ensures.left

@@ -1,0 +1,6 @@
+use Rattle.std.proofs.Common.{sym}
+use Rattle.session_run.proofs.Unsents.{given_left}
+use Rattle.session_run.proofs.unsent.Unsent.give.Goals as goal
+
+pub returns-clause-row : goal.returns-clause-row
+returns-clause-row g c = given_left _ c.self.inside.start _ _ _ _ _ _ _ _ _ (sym c.self.view_is) c.self.invariant c.give.ensures.row
