@@ -15,26 +15,22 @@ use binkp_link::Dice;
 use binkp_mailer::{Ended, refuse_for_memory, run_program};
 use ftn_addr::{Bytes, NoMemory};
 use lock::lock;
-use real_edge::{RealFolder, StdLine, StdSink, SystemClock, SystemDice};
-use std::io::BufReader;
+use real_edge::{RealFolder, StdSink, SystemClock, SystemDice, standard_line};
+use std::env;
 use std::process::ExitCode;
 use std::rt::Env;
-use std::{env, io};
 use told::tell;
 
 /// What the exit status is where nothing was done, since the system gives no random bytes for a challenge.
 const NO_CHALLENGE: u8 = 100;
 
-/// What the exit status is where nothing was done, since the folder is another program's or the system refused it.
+/// What the exit status is where nothing was done, since the folder is another program's, or the system refused it or the line.
 const NOT_STARTED: u8 = 101;
 
 /// What the exit status is where the program was told, and where standard output refused it.
 const TOLD: u8 = 0;
 
 const OUT_FAULT: u8 = 16;
-
-/// How many bytes of standard input are read at once, at most. A session takes them in smaller pieces.
-const READ_AHEAD: usize = 65_536;
 
 /// The folder, and the words behind it.
 #[derive(Drop)]
@@ -65,10 +61,16 @@ fn call(
     words: &[Bytes],
     challenge: [u8; 16],
 ) -> Ended {
-    let Ok(input) = BufReader::with_capacity(rt.alloc(), READ_AHEAD, rt.reader()) else {
-        return refuse_for_memory(rt.alloc(), &mut StdSink::new(rt.stderr()));
+    let mut line = match standard_line(rt, rt.stdin(), rt.stdout()) {
+        Ok(line) => line,
+        Err(error) => {
+            let _ = eprintln!(rt; "binkp: {error}");
+            return Ended {
+                exit: NOT_STARTED,
+                told: None,
+            };
+        }
     };
-    let mut line = StdLine::new(input, io::writer(rt));
     let mut out = StdSink::new(rt.stderr());
     let mut clock = SystemClock::new(rt);
     let moment = clock.seconds();

@@ -10,7 +10,7 @@ consumes_more (Some a) None c xs ys first second = absurd first
 consumes_more (Some a) (Some b) None xs ys first second = absurd second
 consumes_more (Some a) (Some b) (Some c) xs ys first second = first ∙ ap (λ (l : List ℕ). xs ++ l) second ∙ sym (append_assoc xs ys c)
 
-appends_more : (a b c : Option (List ℕ)) (xs ys : List ℕ) → Appends a b xs → Appends b c ys → Appends a c (xs ++ ys)
+pub appends_more : (a b c : Option (List ℕ)) (xs ys : List ℕ) → Appends a b xs → Appends b c ys → Appends a c (xs ++ ys)
 appends_more None b c xs ys first second = tt
 appends_more (Some a) None c xs ys first second = absurd first
 appends_more (Some a) (Some b) None xs ys first second = absurd second

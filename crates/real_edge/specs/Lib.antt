@@ -1,5 +1,6 @@
 pub mod Copying
 pub mod Names
-pub mod StdLines
+pub mod WaitingLines
 pub mod StdSinks
 pub mod SystemDices
+pub mod SystemLines

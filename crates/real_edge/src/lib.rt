@@ -44,16 +44,27 @@
 //! Left out: lines over the network, which come with the server.
 #![tactic(auto)]
 
+mod dialling;
 mod error;
+mod line_streams;
+mod poller;
+mod ready_streams;
 mod real_folder;
-mod std_line;
 mod std_sink;
 mod system_clock;
 mod system_dice;
+mod system_lines;
+mod waiting_line;
+mod waits;
 
 pub use error::{SystemCall, SystemError};
+pub use line_streams::{LineInput, LineOutput, SystemLine, standard_line};
+pub use poller::Poller;
+pub use ready_streams::{ReadyReader, ReadyWriter};
 pub use real_folder::RealFolder;
-pub use std_line::StdLine;
 pub use std_sink::StdSink;
 pub use system_clock::SystemClock;
 pub use system_dice::SystemDice;
+pub use system_lines::SystemLines;
+pub use waiting_line::WaitingLine;
+pub use waits::{Ends, Ready, Waits};

@@ -1,5 +1,5 @@
-//! Tests of what the system sees and what a sysop reads: the system's clock, the challenges that its random bytes give, the standard
-//! streams as a line and a sink, and a source of lines; and the line of each status.
+//! Tests of what the system sees and what a sysop reads: the system's clock, the challenges that its random bytes give, standard error
+//! as a sink, and a source of lines; and the line of each status.
 #![tactic(auto)]
 
 #[cfg(test)]
@@ -12,7 +12,5 @@ mod line_sources;
 mod sheets;
 #[cfg(test)]
 mod statuses;
-#[cfg(test)]
-mod std_lines;
 #[cfg(test)]
 mod std_sinks;
