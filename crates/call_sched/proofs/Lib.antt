@@ -1,0 +1,4 @@
+pub mod Joining
+pub mod LastTry
+pub mod Orders
+pub mod Searching

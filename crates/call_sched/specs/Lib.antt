@@ -1,0 +1,2 @@
+pub mod NextCall
+pub mod Tries
