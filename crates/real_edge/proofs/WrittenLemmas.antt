@@ -1,5 +1,5 @@
 -- A piece after another is written.
-use Rattle.std.proofs.Common.{◌≡◌, ℕ, ◌+◌, ◌-◌, ◌≤◌, List, [], ◌++◌, arith, drop, length, take, Option, Some, None, sym, ◌∙◌, refl, subst}
+use Rattle.std.proofs.Common.{◌≡◌, ℕ, ◌+◌, ◌-◌, List, [], arith, drop, length, take, Option, Some, None, sym, ◌∙◌, refl, subst}
 use Rattle.std.proofs.Math.Seq.{take-add}
 use Rattle.std.proofs.lemmas.List.{append-nil, length-drop, take_all}
 use Rattle.std.specs.Io.KnownBytes.{Appends, Keeps}

@@ -1,5 +1,5 @@
 -- What the lines of the system tell (own).
-use Rattle.std.specs.Prelude.{Option, Some, None}
+use Rattle.std.specs.Prelude.{None}
 use Rattle.binkp_link.specs.Lines.{LineState}
 use Rattle.binkp_link.specs.LineSources.{IsUnused, LinesState}
 use Rattle.binkp_link.specs.declared.line_source.LineCounts.{LineCounts}

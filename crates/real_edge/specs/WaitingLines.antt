@@ -1,5 +1,5 @@
 -- What a line over a reader and a writer of the system tells (own).
-use Rattle.std.specs.Prelude.{◌≡◌, ℕ, ◌<◌, ◌≤◌, Bool, true, false, List, [], length, take, Option, None}
+use Rattle.std.specs.Prelude.{ℕ, ◌<◌, ◌≤◌, List, [], length, take, Option, None}
 use Rattle.std.specs.Io.KnownBytes.{Keeps, Appends, Consumes, IsAtEnd}
 use Rattle.binkp_link.specs.Lines.{LineState}
 use Rattle.binkp_link.specs.Tallies.{counted, nothing_counted}

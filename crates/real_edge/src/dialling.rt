@@ -1,6 +1,6 @@
 //! Calls to a host.
 use std::io;
-use std::net::{Net, SocketAddr, TcpStream, ToSocketAddrs};
+use std::net::{Net, TcpStream, ToSocketAddrs};
 use std::rt::Clock;
 use std::time::Duration;
 

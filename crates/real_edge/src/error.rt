@@ -93,7 +93,10 @@ pub enum ListError {
 
 impl From<SystemError> for ListError {
     fn from(e: SystemError) -> ListError {
-        ListError::System(e)
+        match e.error.kind() {
+            io::ErrorKind::OutOfMemory => ListError::NoMemory,
+            _ => ListError::System(e),
+        }
     }
 }
 

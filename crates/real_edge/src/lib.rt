@@ -1,4 +1,4 @@
-//! The adapters of the real outside: a folder of the file system, the standard streams, the clock and random bytes.
+//! The adapters of the real outside: a folder of the file system, lines and the streams, the clock and random bytes.
 //!
 //! [`RealFolder`] is a [`Disk`](disk_model::Disk) and a [`Yard`](disk_model::Yard) over the files of the
 //! runtime that it is given. It doesn't tell its content: no contract says what the operating system keeps
@@ -21,15 +21,19 @@
 //! if let Some(error) = folder.last_error() { .. }
 //! ```
 //!
-//! [`StdLine`] is the line over standard input and output, and [`StdSink`] the sink over standard error; they tell no bytes. Both
-//! stand over any reader and writer, and where these tell their bytes the contracts say which of them went through.
+//! [`WaitingLine`] is a line over a reader and a writer that never wait by themselves, and over what waits for them, which is
+//! [`Waits`]; [`StdSink`] is the sink over a writer, as standard error is. They tell no bytes, and where reader and writer tell theirs
+//! the contracts say which of them went through. [`standard_line`] is the line over the standard streams. [`SystemLines`] gives that
+//! one, where it has it, the lines of callers in its place once it listens, and those of dials. What a socket or a pipe does and how
+//! long a wait lasts no contract says.
 //!
 //! ```text
-//! let mut line = StdLine::new(rt.reader(), io::writer(&rt));
-//! match line.read(&mut piece, true) {          // it waits
-//!     ReadAnswer::Came(n) => take(&piece[..n]),
-//!     ReadAnswer::End => done(),
-//!     ReadAnswer::NotYet | ReadAnswer::Quiet | ReadAnswer::Failed => {}
+//! let standard = standard_line(&rt, rt.stdin(), rt.stdout())?;
+//! let mut lines = SystemLines::new(rt, Some(standard), stop_file);
+//! match lines.next() {                         // a caller, once it listens: it waits for one
+//!     NextLine::Came(line) => talk(line),
+//!     NextLine::Nothing => {}
+//!     NextLine::Stop | NextLine::Failed => done(),
 //! }
 //! ```
 //!
@@ -41,7 +45,7 @@
 //! let challenge = SystemDice::new(&rt)?.sixteen();
 //! ```
 //!
-//! Left out: lines over the network, which come with the server.
+//! Left out: who listens and dials, and when.
 #![tactic(auto)]
 
 mod dialling;
@@ -67,4 +71,4 @@ pub use system_clock::SystemClock;
 pub use system_dice::SystemDice;
 pub use system_lines::SystemLines;
 pub use waiting_line::WaitingLine;
-pub use waits::{Ends, Ready, Waits};
+pub use waits::{Ends, ReadsAhead, Ready, Waits};

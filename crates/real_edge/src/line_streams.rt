@@ -4,18 +4,25 @@ ghost use Rattle.binkp_link.specs.Tallies.{nothing_counted};
 
 use crate::poller::Poller;
 use crate::ready_streams::{ReadyReader, ReadyWriter};
-use crate::waiting_line::WaitingLine;
-use crate::waits::Ends;
+use crate::waiting_line::{WaitingLine, is_not_yet};
+use crate::waits::{Ends, ReadsAhead, Waits};
 use std::io;
 use std::io::{BufReader, Read, Write};
 use std::net::{Net, OpenStream, Shutdown};
 use std::os::fd::AsRawFd;
 use std::time::Duration;
 
-// How long an ended socket waits for more of its peer, in milliseconds, and how many reads it makes at most.
-const LINGER: u64 = 250;
+// How often an ended socket is looked at, at most, and how many milliseconds lie between two looks, at most. These two bound the time, to
+// 2 seconds in all, however the peer's bytes come.
+const MOST_LOOKS: u32 = 40;
 
-const MOST_DISCARDED: u32 = 1024;
+const BETWEEN_LOOKS: u64 = 50;
+
+// How many looks on end may find nothing: they bound a silence, to 250 milliseconds.
+const MOST_QUIET: u32 = 5;
+
+// How many reads of 4,096 bytes a look makes at most. They bound a look where bytes come without end, to a mebibyte.
+const MOST_READS: u32 = 256;
 
 // How many bytes are read from the system at once, at most. A session takes them in smaller pieces.
 const READ_AHEAD: usize = 65_536;
@@ -36,7 +43,16 @@ impl<S: Read, I: Read> Read for LineInput<S, I> {
     }
 }
 
-/// Where they go to.
+impl<S: Read, I: Read> ReadsAhead for LineInput<S, I> {
+    fn holds_bytes(&self) -> bool {
+        match self {
+            LineInput::Socket(socket) => !socket.buffer().is_empty(),
+            LineInput::Standard(input) => !input.buffer().is_empty(),
+        }
+    }
+}
+
+/// Where they go to. The calls of the socket answer `WouldBlock` where they would wait.
 #[derive(Drop)]
 pub enum LineOutput<S, O> {
     Socket(S),
@@ -59,29 +75,63 @@ impl<S: Write, O: Write> Write for LineOutput<S, O> {
     }
 }
 
+/// What a look at an ended socket found.
+#[derive(Clone, Copy)]
+enum Look {
+    Nothing,
+    Bytes,
+    End,
+}
+
+/// Passes over what has come.
+fn pass_over<S: Read>(socket: &mut S) -> io::Result<Look> {
+    let mut passed_over = [0; 4096];
+    let mut found = Look::Nothing;
+    for _ in 0..MOST_READS {
+        match socket.read(&mut passed_over) {
+            Ok(0) => return Ok(Look::End),
+            Ok(_) => found = Look::Bytes,
+            Err(error) if is_not_yet(error.kind()) => return Ok(found),
+            Err(error) => return Err(error),
+        }
+    }
+    Ok(found)
+}
+
 /// Tells the peer that no more comes, and passes over what it still sends, for a while: where some of it were left, the system would
 /// take back what the peer hasn't read yet.
-fn end_socket<S: Read + OpenStream>(socket: &mut S) -> io::Result<()> {
+///
+/// Behind a look that found bytes the whole time to the next one is waited: so many small pieces cost one look, and a megabyte under way
+/// is passed over wherever it comes within the time.
+fn end_socket<S: Read + OpenStream, W: Waits>(socket: &mut S, waits: &mut W) -> io::Result<()> {
     socket.shutdown(Shutdown::Write)?;
-    socket.set_nonblocking(false)?;
-    socket.set_read_timeout(Some(Duration::from_millis(LINGER)))?;
-    let mut passed_over = [0; 4096];
-    for _ in 0..MOST_DISCARDED {
-        if socket.read(&mut passed_over)? == 0 {
-            return Ok(());
+    let time = Duration::from_millis(BETWEEN_LOOKS);
+    let mut quiet: u32 = 0;
+    for _ in 0..MOST_LOOKS {
+        match pass_over(socket)? {
+            Look::End => return Ok(()),
+            Look::Bytes => {
+                quiet = 0;
+                waits.pause(time)?;
+            }
+            Look::Nothing if quiet >= MOST_QUIET => return Ok(()),
+            Look::Nothing => {
+                quiet = quiet.saturating_add(1);
+                waits.for_input(time)?;
+            }
         }
     }
     Ok(())
 }
 
 impl<S: Read + OpenStream, O> Ends for LineOutput<S, O> {
-    fn end(&mut self) {
+    fn end<W: Waits>(&mut self, waits: &mut W) {
         match self {
             // Where it can't be told, the peer sees the end of the line alone.
             LineOutput::Socket(socket) => {
-                let _ = end_socket(socket);
+                let _ = end_socket(socket, waits);
             }
-            LineOutput::Standard(output) => output.end(),
+            LineOutput::Standard(output) => output.end(waits),
         }
     }
 }

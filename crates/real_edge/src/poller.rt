@@ -177,6 +177,15 @@ impl Poller {
         Ok(Waited::Nothing(READY_INPUT))
     }
 
+    /// Has nothing watched.
+    fn watch_nothing(&mut self) -> io::Result<()> {
+        let registry = self.poll.registry();
+        if let Some(output) = &mut self.output {
+            output.pass_over(registry)?;
+        }
+        self.input.pass_over(registry)
+    }
+
     /// Waits for what is watched.
     fn wait(&mut self, waited: Waited) -> io::Result<Ready> {
         let most = match waited {
@@ -201,5 +210,10 @@ impl Waits for Poller {
     fn for_output(&mut self, most: Duration, heeds_input: bool) -> io::Result<Ready> {
         let waited = self.watch_output(most, heeds_input)?;
         self.wait(waited)
+    }
+
+    fn pause(&mut self, time: Duration) -> io::Result<()> {
+        self.watch_nothing()?;
+        self.poll.poll(&mut self.events, Some(time))
     }
 }

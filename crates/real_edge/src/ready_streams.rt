@@ -70,5 +70,5 @@ impl<O: Write, W: Waits> Write for ReadyWriter<O, W> {
 
 /// The system ends such a stream with the program.
 impl<O, W> Ends for ReadyWriter<O, W> {
-    fn end(&mut self) {}
+    fn end<V: Waits>(&mut self, _waits: &mut V) {}
 }

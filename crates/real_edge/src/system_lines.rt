@@ -2,8 +2,6 @@
 ghost use Rattle.std.specs.Prelude.{◌≡◌, IfOk, IfSome};
 ghost use Rattle.std.specs.Option.{ForSome};
 ghost use Rattle.binkp_link.specs.Tallies.{nothing_counted};
-ghost use Rattle.ftn_addr.specs.Counts.{next_count};
-ghost use Rattle.binkp_link.specs.LineSources.{IsDialled, IsNext, IsUnused, listening};
 ghost use Rattle.real_edge.specs.SystemLines.{ComesUnused, none_counted, system_lines};
 ghost use Rattle.real_edge.specs.WaitingLines.{system_line};
 
@@ -60,7 +58,7 @@ impl<L: OpenListener> Listening<L> {
 /// The lines of the system. They tell nothing of their bytes.
 ///
 /// Once it listens, callers come from its port, until the stop file stands, which it takes away; before, the standard streams are the
-/// one line that comes. Each failure is told on standard error, with its reason.
+/// one line that comes, where it has them. Each failure is told on standard error, with its reason.
 #[derive(Drop)]
 pub struct SystemLines<R: Net, I, O> {
     runtime: R,
@@ -76,18 +74,19 @@ impl<R: Net + Files + Clock + Eprint + AllocGlobal, I: Read + Drop, O: Write + D
     I,
     O,
 > {
-    /// The lines of a runtime: that of the standard streams, until they listen. The stop file is that of a path.
+    /// The lines of a runtime: that of the standard streams, until they listen; none until then where there is no such line, as in a
+    /// program that dials alone. The stop file is that of a path.
     pub fn new(
         runtime: R,
-        standard: SystemLine<R::Stream, I, O>,
+        standard: Option<SystemLine<R::Stream, I, O>>,
         stop_file: String,
     ) -> SystemLines<R, I, O>
-        requires { standard.tally ≡ nothing_counted }
+        requires { ForSome standard (λ line. line.tally ≡ nothing_counted) }
         ensures { system_lines result.counts ≡ system_lines none_counted }
     {
         SystemLines {
             runtime,
-            standard: Some(standard),
+            standard,
             listening: None,
             stop_file,
             counts: LineCounts {
@@ -119,9 +118,19 @@ impl<R: Net + Files + Clock + Eprint + AllocGlobal, I: Read + Drop, O: Write + D
         Ok(Listening { listener, waits })
     }
 
-    // Whether the stop file stood, which is gone then.
+    // Whether the stop file stood, which is gone then. One that can't be taken away stands too, and that is told.
     fn is_stopped(&self) -> bool {
-        fs::remove_file(&self.runtime, self.stop_file.as_str()).is_ok()
+        let path = self.stop_file.as_str();
+        match fs::remove_file(&self.runtime, path) {
+            Ok(()) => true,
+            Err(error) if error.kind() == ErrorKind::NotFound => false,
+            Err(error) => {
+                let _ = eprintln!(self.runtime;
+                    "binkp: the stop file {path} can't be taken away: {error}"
+                );
+                true
+            }
+        }
     }
 
     // The line of a caller who waits already, of one who comes in time, or none.
@@ -212,7 +221,7 @@ where
         self.counts
     }
 
-    /// A stop file that stands already is one of before, and is taken away.
+    /// A stop file that stands already is one of before, and is taken away. Where it can't be, that is told, and the next line is Stop.
     fn listen(&mut self, port: u16) -> Result<(), Failed> {
         self.is_stopped();
         match self.listen_on(port) {

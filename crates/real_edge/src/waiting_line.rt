@@ -3,7 +3,7 @@ ghost use Rattle.std.specs.Prelude.{◌≡◌, ◌<◌, true, false, length};
 ghost use Rattle.binkp_link.specs.Lines.{IsRead, IsWrite, MayRead, MayWrite};
 ghost use Rattle.real_edge.specs.WaitingLines.{HasCome, HasRead, HasWritten, new_system_line, system_line};
 
-use crate::waits::{Ends, Ready, Waits};
+use crate::waits::{Ends, ReadsAhead, Ready, Waits};
 use binkp_link::{Line, ReadAnswer, Tally, WriteAnswer};
 use std::io::{ErrorKind, Read, Write};
 use std::time::Duration;
@@ -18,8 +18,8 @@ const MOST_TO_READ: usize = 1_048_576;
 /// for them. It doesn't tell its bytes.
 ///
 /// A read that waits, and a write that can't go on, answer Quiet after five seconds without a byte. A write gives up at once where the
-/// peer's bytes have come meanwhile, so that two sides that both send never wait for one another. The end is told to a read that waits
-/// alone: a peer that said all that it had may still listen.
+/// peer's bytes have come meanwhile, so that two sides that both send never wait for one another; behind
+/// a Quiet it waits until a byte moved, since then nobody reads them. The end is told to a read that waits alone: a peer that said all that it had may still listen.
 #[derive(Drop)]
 pub struct WaitingLine<I, O, W> {
     input: I,
@@ -47,12 +47,12 @@ impl<I, O, W> WaitingLine<I, O, W> {
     }
 }
 
-// Whether an error says that nothing can be read or written yet.
-fn is_not_yet(kind: ErrorKind) -> bool {
+/// Whether an error says that nothing can be read or written yet.
+pub fn is_not_yet(kind: ErrorKind) -> bool {
     matches!(kind, ErrorKind::WouldBlock | ErrorKind::Interrupted)
 }
 
-impl<I: Read, O: Write, W: Waits> WaitingLine<I, O, W> {
+impl<I: Read + ReadsAhead, O: Write, W: Waits> WaitingLine<I, O, W> {
     /// A read of what has come.
     fn read_now(&mut self, out: &mut [u8]) -> ReadAnswer
         requires { 0 < length out.old }
@@ -129,6 +129,10 @@ impl<I: Read, O: Write, W: Waits> WaitingLine<I, O, W> {
         ensures input { self.new.input ≡ self.old.input }
         ensures tally { self.new.tally ≡ self.old.tally }
     {
+        // The system tells nothing of bytes that are held.
+        if heeds_input && self.input.holds_bytes() {
+            return WriteAnswer::Quiet;
+        }
         match self
             .waits
             .for_output(Duration::from_secs(PATIENCE), heeds_input)
@@ -161,7 +165,8 @@ impl<I: Read, O: Write, W: Waits> WaitingLine<I, O, W> {
         ensures input { self.new.input ≡ self.old.input }
         ensures tally { self.new.tally ≡ self.old.tally }
     {
-        let heeds_input = !self.is_over && bytes.len() <= MOST_TO_READ;
+        // Where the line was Quiet and no byte moved since, nobody reads what has come.
+        let heeds_input = !self.is_over && self.tally.calm == 0 && bytes.len() <= MOST_TO_READ;
         let mut sent = 0;
         while sent < bytes.len() {
             match self.write_some(&bytes[sent..], heeds_input) {
@@ -174,7 +179,7 @@ impl<I: Read, O: Write, W: Waits> WaitingLine<I, O, W> {
     }
 }
 
-impl<I: Read, O: Write + Ends, W: Waits> Line for WaitingLine<I, O, W> {
+impl<I: Read + ReadsAhead, O: Write + Ends, W: Waits> Line for WaitingLine<I, O, W> {
     ghost state = { λ line. system_line line.tally };
 
     fn faults(&self) -> u64 {
@@ -218,7 +223,7 @@ impl<I: Read, O: Write + Ends, W: Waits> Line for WaitingLine<I, O, W> {
     }
 
     fn close(&mut self) {
-        self.output.end();
+        self.output.end(&mut self.waits);
         self.tally.closed = true;
     }
 }

@@ -18,10 +18,19 @@ pub trait Waits {
 
     /// Waits until the output is ready, or, where that is heeded, the input; at most so long.
     fn for_output(&mut self, most: Duration, heeds_input: bool) -> io::Result<Ready>;
+
+    /// Waits so long, whatever comes.
+    fn pause(&mut self, time: Duration) -> io::Result<()>;
+}
+
+/// The input of a line, which may have read more than was asked of it.
+pub trait ReadsAhead {
+    /// Whether bytes are held that no read has given yet.
+    fn holds_bytes(&self) -> bool;
 }
 
 /// The output of a line, which may be ended before it is dropped.
 pub trait Ends {
-    /// Tells the peer that no more comes.
-    fn end(&mut self);
+    /// Tells the peer that no more comes. The waits are those of the line.
+    fn end<W: Waits>(&mut self, waits: &mut W);
 }

@@ -221,7 +221,10 @@ impl<'a, 't> Files for Front<'a, 't> {
     fn remove_file(&self, path: &str) -> io::Result<()> {
         let text = format!(in self.rt.alloc(); "remove {path}")?;
         self.note(text.as_str())?;
-        self.rt.remove_file(path)
+        match fault(next(&self.seen.removes, "real")) {
+            Some(kind) => Err(io::Error::from(kind)),
+            None => self.rt.remove_file(path),
+        }
     }
 
     fn create_dir(&self, path: &str) -> io::Result<()> {

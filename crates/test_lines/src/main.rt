@@ -10,6 +10,7 @@
 //! line                                   a new line over what the script says
 //! reads hello block end                  what the next reads below it find: bytes, nothing yet, the end; also `interrupted` and
 //!                                        `broken`; nothing yet where no word is left
+//! holds bytes nothing                    whether bytes are held that were read ahead, where a write asks; none where no word is left
 //! writes 2 block                         what the next writes take: two bytes, nothing yet; all where no word is left
 //! waits input                            what the next waits find: `input`, `output`, `both`, `nothing` or `broken`
 //! read                                   a read that doesn't wait, of at most 16 bytes; `wait` is one that does: prints
@@ -19,12 +20,14 @@
 //! counts                                 what the line counts, and whether its last call moved bytes
 //! close                                  closes the line, which is gone then: prints its faults, calm and ends
 //! ready read                             a read of a stream that doesn't wait, over the same; also `ready write 4097` and `ready end`
+//! socket end                             ends a socket over the same: prints how many milliseconds went by on its clock, which moves
+//!                                        with what waits and finds nothing; `socket time` prints that alone, without the calls
 //! # Lines of the system
 //! lines pipes                            new ones, whose standard streams are pipes; with `lines files hello` they are a file of these
-//!                                        bytes and an empty one
+//!                                        bytes and an empty one, and with `lines none` there are none
 //! says hello                             the other end of the pipes says that; `ends`: it says no more
 //! hears                                  it reads a piece of what was written; `leaves`: it reads no more
-//! put stop                               makes an empty file; `show sent` prints one
+//! put stop                               makes an empty file, `folder stop` a folder; `show sent` prints a file
 //! listen 0                               listens on a port; `P` is the port that they listen on
 //! dial 127.0.0.1                         calls a host at the port P, or at that which stands behind; its line is `near` from then on
 //! next                                   the next line, which is `far` from then on
@@ -35,10 +38,12 @@
 //! free                                   P is a port that nobody listens on
 //! binds denied                           what the next listening answers; what the system does where no word is left. Also `refused`
 //! accepts aborted                        the same of taking in a caller
+//! removes denied                         the same of removing a file
 //! hosts 192.0.2.1 127.0.0.1              the addresses of each host, or why they can't be told
 //! dials silent                           what the next addresses do, or what the system does: a `silent` one takes all its time, a
 //!                                        `hanging` one a minute, and a `late` one answers when its time is over
-//! clock fails                            the clock can't be read; `clock 0` says what it reads. It moves with those addresses alone
+//! clock fails                            the clock can't be read; `clock 0` says what it reads. It moves with those addresses, and with
+//!                                        waits over what the script says
 //! ```
 #![tactic(auto)]
 

@@ -5,7 +5,7 @@ use crate::scripted::Scripted;
 use crate::steps::{plain, said, step};
 use anyhow::Result;
 use binkp_link::Line;
-use real_edge::{Ends, ReadyReader, ReadyWriter, WaitingLine};
+use real_edge::{Ends, LineOutput, ReadyReader, ReadyWriter, WaitingLine};
 use std::alloc::Global;
 use std::io::{Read, Write};
 use std::{io, str};
@@ -68,8 +68,27 @@ fn write(alloc: Global, over: Scripted<'_, '_>, words: &[&str]) -> Result<String
 
 fn end(alloc: Global, over: Scripted<'_, '_>) -> Result<String> {
     let mut writer = ReadyWriter::new(over, over);
-    writer.end();
+    let mut waits = over;
+    writer.end(&mut waits);
     moved(alloc, writer.flush().map(|()| 0))
+}
+
+// Ends a socket: how many milliseconds went by.
+fn end_socket(mut over: Scripted<'_, '_>) -> u64 {
+    let start = over.seen.clock.get().unwrap_or(0);
+    let mut output: LineOutput<Scripted<'_, '_>, Scripted<'_, '_>> = LineOutput::Socket(over);
+    output.end(&mut over);
+    let now = over.seen.clock.get().unwrap_or(0);
+    now.saturating_sub(start)
+}
+
+/// Makes the call of these words on a socket: what it answers.
+pub fn socket(alloc: Global, over: Scripted<'_, '_>, words: &[&str]) -> Result<String> {
+    let time = end_socket(over);
+    if word(words, 0) == "time" {
+        over.seen.take();
+    }
+    said(alloc, time)
 }
 
 /// Makes the call of these words on a stream that doesn't wait: what it answers.

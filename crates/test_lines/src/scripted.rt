@@ -2,9 +2,10 @@
 ghost use Rattle.std.specs.Prelude.{◌≤◌, length};
 
 use crate::seen::{Seen, fault, next};
-use real_edge::{Ends, Ready, Waits};
+use real_edge::{Ends, ReadsAhead, Ready, Waits};
 use std::alloc::Global;
 use std::io::{Read, Write};
+use std::net::{OpenStream, Shutdown};
 use std::time::Duration;
 use std::{io, str};
 
@@ -45,11 +46,14 @@ impl<'a, 't> Scripted<'a, 't> {
         Ok(())
     }
 
-    // What the next wait finds.
-    fn found(&self) -> io::Result<Ready> {
+    // What the next wait finds. One that finds nothing takes all its time.
+    fn found(&self, most: Duration) -> io::Result<Ready> {
         let word = next(&self.seen.waits, "nothing");
         if let Some(kind) = fault(word) {
             return Err(io::Error::from(kind));
+        }
+        if word == "nothing" {
+            self.seen.pass(milliseconds(most));
         }
         Ok(Ready {
             input: word == "input" || word == "both",
@@ -76,6 +80,12 @@ impl<'a, 't> Read for Scripted<'a, 't> {
     }
 }
 
+impl<'a, 't> ReadsAhead for Scripted<'a, 't> {
+    fn holds_bytes(&self) -> bool {
+        next(&self.seen.holds, "nothing") == "bytes"
+    }
+}
+
 impl<'a, 't> Write for Scripted<'a, 't> {
     fn write(&mut self, buf: &[u8]) -> io::Result<usize> {
         self.note_write(buf)?;
@@ -93,15 +103,26 @@ impl<'a, 't> Write for Scripted<'a, 't> {
 }
 
 impl<'a, 't> Ends for Scripted<'a, 't> {
-    fn end(&mut self) {
+    fn end<W: Waits>(&mut self, _waits: &mut W) {
         self.seen.note("end");
+    }
+}
+
+impl<'a, 't> OpenStream for Scripted<'a, 't> {
+    fn shutdown(&self, how: Shutdown) -> io::Result<()> {
+        self.seen.note(match how {
+            Shutdown::Read => "shut reads",
+            Shutdown::Write => "shut writes",
+            Shutdown::Both => "shut both",
+        });
+        Ok(())
     }
 }
 
 impl<'a, 't> Waits for Scripted<'a, 't> {
     fn for_input(&mut self, most: Duration) -> io::Result<bool> {
         self.note_number("await input", milliseconds(most))?;
-        let ready = self.found()?;
+        let ready = self.found(most)?;
         Ok(ready.input)
     }
 
@@ -112,6 +133,12 @@ impl<'a, 't> Waits for Scripted<'a, 't> {
             "await output"
         };
         self.note_number(call, milliseconds(most))?;
-        self.found()
+        self.found(most)
+    }
+
+    fn pause(&mut self, time: Duration) -> io::Result<()> {
+        self.note_number("pause", milliseconds(time))?;
+        self.seen.pass(milliseconds(time));
+        Ok(())
     }
 }

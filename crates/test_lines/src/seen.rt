@@ -8,11 +8,13 @@ use test_files::Journal;
 pub struct Seen<'t> {
     journal: Cell<Journal>,
     pub reads: Cell<&'t str>,
+    pub holds: Cell<&'t str>,
     pub writes: Cell<&'t str>,
     pub waits: Cell<&'t str>,
     pub binds: Cell<&'t str>,
     pub accepts: Cell<&'t str>,
     pub dials: Cell<&'t str>,
+    pub removes: Cell<&'t str>,
     /// The addresses of any host, all at once.
     pub hosts: Cell<&'t str>,
     /// The clock, in milliseconds, where it can be read.
@@ -26,11 +28,13 @@ impl<'t> Seen<'t> {
         Seen {
             journal: Cell::new(Journal::new()),
             reads: Cell::new(""),
+            holds: Cell::new(""),
             writes: Cell::new(""),
             waits: Cell::new(""),
             binds: Cell::new(""),
             accepts: Cell::new(""),
             dials: Cell::new(""),
+            removes: Cell::new(""),
             hosts: Cell::new(""),
             clock: Cell::new(Some(0)),
             port: Cell::new(0),
@@ -41,11 +45,13 @@ impl<'t> Seen<'t> {
     pub fn answers_of(&self, kind: &str) -> Option<&Cell<&'t str>> {
         match kind {
             "reads" => Some(&self.reads),
+            "holds" => Some(&self.holds),
             "writes" => Some(&self.writes),
             "waits" => Some(&self.waits),
             "binds" => Some(&self.binds),
             "accepts" => Some(&self.accepts),
             "dials" => Some(&self.dials),
+            "removes" => Some(&self.removes),
             "hosts" => Some(&self.hosts),
             _ => None,
         }

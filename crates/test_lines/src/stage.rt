@@ -1,9 +1,9 @@
 //! What a script plays over.
 use crate::front::Front;
-use crate::script::{Script, ready};
+use crate::script::{Script, ready, socket};
 use crate::scripted::Scripted;
 use crate::seen::Seen;
-use crate::standard::{Peer, over_files, over_pipes, show};
+use crate::standard::{Peer, over_files, over_nothing, over_pipes, show};
 use crate::steps::{plain, said};
 use crate::wires::{Source, Wire, dial, exchange, next, pour, tally};
 use anyhow::{Context, Result};
@@ -34,6 +34,11 @@ pub struct Stage<'a, 't> {
 // An empty file.
 fn put(rt: &HostRuntime, path: &str) -> Result<bool> {
     fs::write(rt, path, "")?;
+    Ok(true)
+}
+
+fn put_folder(rt: &HostRuntime, path: &str) -> Result<bool> {
+    fs::create_dir(rt, path)?;
     Ok(true)
 }
 
@@ -152,10 +157,10 @@ impl<'a, 't> Stage<'a, 't> {
     fn make_lines(&mut self, words: &[&str]) -> Result<bool> {
         self.near = None;
         self.far = None;
-        let lines = if word(words, 1) == "pipes" {
-            over_pipes(self.front(), &mut self.peer)
-        } else {
-            over_files(self.front(), word(words, 2))
+        let lines = match word(words, 1) {
+            "pipes" => over_pipes(self.front(), &mut self.peer),
+            "files" => over_files(self.front(), word(words, 2)),
+            _ => over_nothing(self.front()),
         };
         self.lines = Some(lines?);
         Ok(true)
@@ -174,6 +179,7 @@ impl<'a, 't> Stage<'a, 't> {
             "lines" => self.make_lines(words),
             "free" => self.free_port(),
             "put" => put(&self.rt, word(words, 1)),
+            "folder" => put_folder(&self.rt, word(words, 1)),
             "says" => self.peer.say(word(words, 1).as_bytes()),
             "ends" => self.peer.end(),
             "leaves" => self.peer.leave(),
@@ -237,6 +243,7 @@ impl<'a, 't> Stage<'a, 't> {
         let rest = words_from(words, 1);
         match word(words, 0) {
             "ready" => ready(self.rt.alloc(), self.scripted(), rest),
+            "socket" => socket(self.rt.alloc(), self.scripted(), rest),
             "near" => self.near(rest),
             "far" => self.far(rest),
             "listen" => self.listen(words),

@@ -56,7 +56,13 @@ impl Peer {
 fn over<'a, 't>(front: Front<'a, 't>, input: Input, output: Output) -> io::Result<Source<'a, 't>> {
     let stop_file = String::from_str(front.rt.alloc(), "stop")?;
     let line = standard_line(&front, input, output)?;
-    Ok(SystemLines::new(front, line, stop_file))
+    Ok(SystemLines::new(front, Some(line), stop_file))
+}
+
+/// The lines without standard streams.
+pub fn over_nothing<'a, 't>(front: Front<'a, 't>) -> io::Result<Source<'a, 't>> {
+    let stop_file = String::from_str(front.rt.alloc(), "stop")?;
+    Ok(SystemLines::new(front, None, stop_file))
 }
 
 pub fn over_pipes<'a, 't>(front: Front<'a, 't>, peer: &mut Peer) -> io::Result<Source<'a, 't>> {

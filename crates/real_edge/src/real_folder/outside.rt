@@ -246,7 +246,7 @@ impl<R: Files + AllocGlobal + Clone + Drop> Folder<R> {
                     names.push(Bytes::from_slice(alloc, entry.file_name().as_bytes())?)?;
                 }
                 Err(e) if e.kind() == io::ErrorKind::InvalidFilename => {}
-                Err(error) => return Err(ListError::System(SystemError {
+                Err(error) => return Err(ListError::from(SystemError {
                     call: SystemCall::List,
                     error,
                 })),
