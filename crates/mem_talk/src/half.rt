@@ -128,7 +128,7 @@ impl Half {
 }
 
 // The desk of the one seat of a hub.
-fn one_desk(
+pub(crate) fn one_desk(
     alloc: Global,
     store: ListStore,
     conf: HubConf,

@@ -6,7 +6,8 @@
 //! what each wrote to the other. A [`Peer`] says to a session the [`Word`]s that a test tells it to say. A [`Post`] is a
 //! node that holds two sessions at a time, and [`cross`] lets two nodes hold two sessions with one another, each over a
 //! line of its own; at [`cross_and_cut`] one of them is cut. A [`Pair`] of nodes does whole calls, and answers what came
-//! of them.
+//! of them. [`talk_slowly`] is a session of one node over a line that takes one byte of each write, or nothing, and tells how
+//! much was left to write.
 //!
 //! ```
 //! let mut pair = Pair::new(Node::new(alloc, 1)?, Node::new(alloc, 2)?);
@@ -28,6 +29,7 @@ mod node;
 mod offered;
 mod pair;
 mod peer;
+mod slow;
 mod talking;
 mod told;
 mod who;
@@ -43,5 +45,6 @@ pub use node::Node;
 pub use offered::{Offered, address, side_of};
 pub use pair::{Cut, Pair};
 pub use peer::Peer;
+pub use slow::{Slow, Takes, talk_slowly};
 pub use talking::talk;
 pub use word::{Word, bytes_of};

@@ -24,6 +24,11 @@
 //! keeps 2 1:9000                          how many bytes of that file of the node 2 it keeps, where that isn't whole
 //! again                                   the next session of that node, which answers
 //! leave                                   the node as the session left it, for the next `peer`, `far` or `pair`
+//! # Lines of a node that nobody talks to
+//! slow 300000 login 2                     its session answers these phrases over a line that takes one byte of each write, in at most so
+//!                                         many turns. It prints how many it made up to its end, the most bytes that were left to write
+//!                                         behind one of them, what came of it, and the bytes that it took and wrote
+//! deaf 300000 login 2                     the same over a line that takes nothing
 //! # Lines of two nodes
 //! far                                     the node is to be the far one of two
 //! pair                                    the node is the near one, beside that one
@@ -47,7 +52,8 @@
 //! alone, for so many numbers, of which each stands for `N`. It prints what came of them, and again where that is other than
 //! for the number before.
 //!
-//! `phrases.rt` has what a peer says. A `\x` and two digits there are a byte, as in what is printed.
+//! `phrases.rt` has what a peer says. A `\x` and two digits there are a byte, as in what is printed. `times 5 PHRASE` says a phrase
+//! so often, `front 5 PHRASE` its first bytes alone.
 #![tactic(auto)]
 
 mod nodes;
@@ -55,6 +61,7 @@ mod pairs;
 mod peers;
 mod phrases;
 mod shown;
+mod slow;
 mod stage;
 mod words;
 

@@ -55,12 +55,39 @@ fn of_phrase(alloc: Global, phrase: &str, n: u64) -> Result<Bytes> {
     }
 }
 
+// Puts a phrase behind these bytes, as often as it is said.
+fn put_times(alloc: Global, times: u64, phrase: &str, n: u64, bytes: &mut Bytes) -> Result<()> {
+    let said = of_phrase(alloc, phrase, n)?;
+    for _ in 0..times {
+        bytes.push_slice(said.as_slice())?;
+    }
+    Ok(())
+}
+
+// Puts the first bytes of a phrase behind these.
+fn put_front(alloc: Global, most: u64, phrase: &str, n: u64, bytes: &mut Bytes) -> Result<()> {
+    let said = of_phrase(alloc, phrase, n)?;
+    let most = usize::try_from(most)?;
+    bytes.push_slice(&said.as_slice()[..most.min(said.len())])?;
+    Ok(())
+}
+
+// Puts a phrase behind these bytes: once and whole, unless its first words say otherwise.
+fn put(alloc: Global, phrase: &str, n: u64, bytes: &mut Bytes) -> Result<()> {
+    let words = words_of(alloc, phrase)?;
+    let count = number(words.as_slice(), 1, n).unwrap_or(0);
+    match word(words.as_slice(), 0) {
+        "times" => put_times(alloc, count, behind(behind(phrase)), n, bytes),
+        "front" => put_front(alloc, count, behind(behind(phrase)), n, bytes),
+        _ => put_times(alloc, 1, phrase, n, bytes),
+    }
+}
+
 /// The bytes of these phrases, between which `;` stands.
 pub fn said(alloc: Global, phrases: &str, n: u64) -> Result<Bytes> {
     let mut bytes = Bytes::new(alloc);
     for phrase in phrases.split(";") {
-        let said = of_phrase(alloc, phrase.trim(), n)?;
-        bytes.push_slice(said.as_slice())?;
+        put(alloc, phrase.trim(), n, &mut bytes)?;
     }
     Ok(bytes)
 }

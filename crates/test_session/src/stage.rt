@@ -2,6 +2,7 @@
 use crate::nodes::node_of;
 use crate::pairs::pair_call;
 use crate::peers::peer_call;
+use crate::slow::slow_call;
 use crate::words::{files, node_number, number};
 use anyhow::{Context, Result, bail};
 use mem_talk::{Node, Pair, Peer};
@@ -130,7 +131,7 @@ impl Stage {
         match &mut self.talk {
             Talk::Peer(peer) => peer_call(self.rt.alloc(), peer, line, n),
             Talk::Pair(pair) => pair_call(self.rt.alloc(), pair, line, n),
-            Talk::Nobody => bail!("no such call"),
+            Talk::Nobody => slow_call(self.rt.alloc(), &mut self.node, line),
         }
     }
 
