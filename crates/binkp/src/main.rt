@@ -1,24 +1,30 @@
 //! `binkp DIR WORDS` is the mailer over the folder DIR: it answers a caller on standard input and output, as under inetd, or calls
-//! the node whose line they are. What came of it goes to standard error.
+//! a node at its host. What came of it goes to standard error.
 //!
 //! `binkp --help` and `binkp --version` tell of the program itself.
 //!
-//! All else that it does is [`run_program`](binkp_mailer::run_program)'s, with the system's folder, line and clock, and a challenge of
+//! All else that it does is [`run_program`](binkp_mailer::run_program)'s, with the system's folder, lines and clock, and a challenge of
 //! the system's randomness. `main` hands them on, and holds the system's lock on the folder, so that one program at a time works
 //! on it.
 #![tactic(auto)]
 
+ghost use Rattle.std.specs.Prelude.{IfOk};
+ghost use Rattle.binkp_mailer.specs.OverLines.{IsFresh};
+ghost use Rattle.real_edge.specs.SystemLines.{system_lines};
+
+mod closed;
 mod lock;
 mod told;
 
 use binkp_link::Dice;
 use binkp_mailer::{Ended, refuse_for_memory, run_program};
+use closed::hold_closed;
 use ftn_addr::{Bytes, NoMemory};
 use lock::lock;
-use real_edge::{RealFolder, StdSink, SystemClock, SystemDice, standard_line};
-use std::env;
+use real_edge::{RealFolder, StdSink, SystemClock, SystemDice, SystemLines, standard_line};
 use std::process::ExitCode;
-use std::rt::Env;
+use std::rt::{Env, Stdin, Stdout};
+use std::{env, io};
 use told::tell;
 
 /// What the exit status is where nothing was done, since the system gives no random bytes for a challenge.
@@ -53,23 +59,48 @@ fn read_given<R: Env + AllocGlobal>(rt: &R) -> Result<Given, NoMemory> {
     Ok(Given { folder, words })
 }
 
-/// Makes the call over the folder of that path, and says why the system refused a call, where one was refused, also where that
+/// The lines of the system. The standard streams are one of them where a caller is answered there, and nobody else needs them.
+fn lines(
+    rt: &HostRuntime,
+    path: &str,
+    words: &[Bytes],
+) -> io::Result<SystemLines<HostRuntime, Stdin, Stdout>>
+    ensures { IfOk result (λ lines. IsFresh (system_lines lines.counts)) }
+{
+    let stop_file = format!(in rt.alloc(); "{path}/stop")?;
+    let standard = match words.first() {
+        Some(word) if word.as_slice() == b"answer".as_slice() => {
+            Some(standard_line(rt, rt.stdin(), rt.stdout())?)
+        }
+        _ => None,
+    };
+    Ok(SystemLines::new(rt.clone()?, standard, stop_file))
+}
+
+/// Says that the system refused what a call begins with, or that there is no memory for it.
+fn not_started(rt: &HostRuntime, error: io::Error) -> Ended {
+    if error.kind() == io::ErrorKind::OutOfMemory {
+        return refuse_for_memory(rt.alloc(), &mut StdSink::new(rt.stderr()));
+    }
+    let _ = eprintln!(rt; "binkp: {error}");
+    Ended {
+        exit: NOT_STARTED,
+        told: None,
+    }
+}
+
+/// Makes the call over the folder, and says why the system refused a call, where one was refused, also where that
 /// stopped nothing.
 fn call(
     rt: &HostRuntime,
     folder: RealFolder<HostRuntime>,
+    path: &str,
     words: &[Bytes],
     challenge: [u8; 16],
 ) -> Ended {
-    let mut line = match standard_line(rt, rt.stdin(), rt.stdout()) {
-        Ok(line) => line,
-        Err(error) => {
-            let _ = eprintln!(rt; "binkp: {error}");
-            return Ended {
-                exit: NOT_STARTED,
-                told: None,
-            };
-        }
+    let mut lines = match lines(rt, path, words) {
+        Ok(lines) => lines,
+        Err(error) => return not_started(rt, error),
     };
     let mut out = StdSink::new(rt.stderr());
     let mut clock = SystemClock::new(rt);
@@ -78,7 +109,7 @@ fn call(
         rt.alloc(),
         words,
         folder,
-        &mut line,
+        &mut lines,
         moment,
         challenge,
         &mut out,
@@ -96,7 +127,7 @@ fn call_in(rt: &HostRuntime, path: &str, words: &[Bytes], challenge: [u8; 16]) -
         return refuse_for_memory(rt.alloc(), &mut StdSink::new(rt.stderr()));
     };
     match RealFolder::new(runtime, path) {
-        Ok(folder) => call(rt, folder, words, challenge),
+        Ok(folder) => call(rt, folder, path, words, challenge),
         Err(NoMemory) => refuse_for_memory(rt.alloc(), &mut StdSink::new(rt.stderr())),
     }
 }
@@ -104,6 +135,10 @@ fn call_in(rt: &HostRuntime, path: &str, words: &[Bytes], challenge: [u8; 16]) -
 /// The exit status of a call over the folder, which is locked as long as that lasts. Where no folder is given there are no words
 /// either: they are refused before any folder is touched, and none is locked.
 fn program(rt: &HostRuntime, given: &Given) -> u8 {
+    let _streams = match hold_closed(rt) {
+        Ok(held) => held,
+        Err(error) => return not_started(rt, error).exit,
+    };
     let challenge = match SystemDice::new(rt) {
         Ok(mut dice) => dice.sixteen(),
         Err(error) => {

@@ -6,7 +6,7 @@ const VERSION: &str = "0.2.0";
 const HELP: &str = "binkp carries files between FidoNet nodes by binkp/1.0, and loses none.
 
     binkp DIR answer         answers the caller on standard input and output
-    binkp DIR call ADDR      calls the node whose line stands there
+    binkp DIR call ADDR      calls a node at its host
     binkp DIR take           takes the outbound in
     binkp DIR list           prints what waits to be sent, and what came in part
     binkp DIR compile FILE   puts a nodelist and its index into DIR

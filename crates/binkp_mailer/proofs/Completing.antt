@@ -1,8 +1,7 @@
 -- What a call that is Done says of its session, and the other way round.
-use Rattle.std.proofs.Common.{◌≡◌, ◌⊎◌, ◌∙◌, ℕ, List, Option, refl, sym, ap, subst, inl, inr}
+use Rattle.std.proofs.Common.{◌≡◌, ◌⊎◌, ◌∙◌, ℕ, Option, refl, sym, ap, inl, inr}
 use Rattle.ftn_addr.specs.Counts.{next_count}
-use Rattle.binkp_link.specs.Lines.{LineState, SinkState}
-use Rattle.node_model.specs.Stores.{StoreState}
+use Rattle.binkp_link.specs.Lines.{SinkState}
 use Rattle.session_core.specs.Ends.{End}
 use Rattle.session_core.specs.Ends as E
 use Rattle.session_run.specs.Reports.{ReportText, report_text}
@@ -10,7 +9,7 @@ use Rattle.binkp_mailer.specs.declared.report.Outcome.{Outcome}
 use Rattle.binkp_mailer.specs.declared.report.Outcome.TheVariants as O
 use Rattle.command_base.specs.declared.settings.SettingsFault.{SettingsFault}
 use Rattle.command_base.specs.declared.settings.SettingsFault.TheVariants as U
-use Rattle.binkp_mailer.specs.Completeness.{HasFinished, IsDoneWhere, IsDoneBehind}
+use Rattle.binkp_mailer.specs.Completeness.{HasFinished, IsDoneBehind}
 use Rattle.command_base.specs.Printing.{lines_put, no_room, all_put, put_failed}
 use Rattle.binkp_mailer.specs.Reports.{Prints, had_of, told_of}
 use Rattle.command_base.specs.Statuses as S
@@ -20,7 +19,6 @@ use Rattle.nodelist_files.specs.declared.fault.IndexFileFault.TheVariants as I
 use Rattle.node_store.specs.declared.opening.fault.StoreOpenFault.{StoreOpenFault}
 use Rattle.node_store.specs.declared.opening.fault.StoreOpenFault.TheVariants as F
 use Rattle.command_base.specs.Statuses.{Status, status_after, status_unindexed, status_unopened, status_unset}
-use Rattle.binkp_mailer.specs.TopCall.{Given, Declines, Asks_nothing, Has_no_host, Has_no_memory, Answers_line, Turned_away, Held_one}
 
 after_done : (end : End) → status_after end ≡ S.Done → end ≡ E.Finished
 after_done E.Finished is = refl
@@ -45,6 +43,10 @@ finished_had O.NotFound h = absurd h
 finished_had (O.Unindexed fault faults) h = absurd h
 finished_had (O.Unset fault faults) h = absurd h
 finished_had (O.Unopened fault faults) h = absurd h
+finished_had (O.Marked name) h = absurd h
+finished_had O.NoCaller h = absurd h
+finished_had O.NoLine h = absurd h
+finished_had (O.Unmarked faults) h = absurd h
 finished_had (O.Held report) h = inl (ap status_after h)
 finished_had (O.Ungiven report faults) h = inr (faults, refl)
 
@@ -71,23 +73,12 @@ had_finished O.NotFound is = absurd (let clash : S.NotFound ≡ S.Done = is in c
 had_finished (O.Unindexed fault faults) is = absurd (unindexed_not_done fault faults is)
 had_finished (O.Unset fault faults) is = absurd (unset_not_done fault faults is)
 had_finished (O.Unopened fault faults) is = absurd (unopened_not_done fault faults is)
+had_finished (O.Marked name) is = absurd (let clash : S.Marked name.list ≡ S.Done = is in cc)
+had_finished O.NoCaller is = absurd (let clash : S.Dropped ≡ S.Done = is in cc)
+had_finished O.NoLine is = absurd (let clash : S.LineFault ≡ S.Done = is in cc)
+had_finished (O.Unmarked faults) is = absurd (let clash : S.DiskFault faults ≡ S.Done = is in cc)
 had_finished (O.Held report) is = after_done (report_text report).end is
 had_finished (O.Ungiven report faults) is = absurd (let clash : S.DiskFault faults ≡ S.Done = is in cc)
-
--- The same of a call over a store.
-
-declines_not : (words : List (List ℕ)) (given : Given) (had : Status) → Declines words given had → had ≡ S.Done → ⊥
-declines_not words given had (Asks_nothing is none) done = let clash : S.Usage ≡ S.Done = sym is ∙ done in cc
-declines_not words given had (Has_no_host is side are none) done = let clash : S.NotFound ≡ S.Done = sym is ∙ done in cc
-declines_not words given had (Has_no_memory is) done = let clash : S.NoMemory ≡ S.Done = sym is ∙ done in cc
-
-pub answers_finished : (words : List (List ℕ)) (given : Given) (line : LineState) (store : StoreState) (told : Option ReportText) (had : Status) (line' : LineState) (store' : StoreState) → Answers_line words given line store told had line' store' → had ≡ S.Done → HasFinished told
-answers_finished words given line store told had line' store' (Turned_away none why line_is store_is) done = absurd (declines_not words given had why done)
-answers_finished words given line store told had line' store' (Held_one side are hosted held) done = subst HasFinished (sym held.told_is) (after_done held.report.end (sym held.status_is ∙ done))
-
-pub finished_answers : (words : List (List ℕ)) (given : Given) (line : LineState) (store : StoreState) (told : Option ReportText) (had : Status) (line' : LineState) (store' : StoreState) → Answers_line words given line store told had line' store' → HasFinished told → had ≡ S.Done
-finished_answers words given line store told had line' store' (Turned_away none why line_is store_is) finished = absurd (subst HasFinished none finished)
-finished_answers words given line store told had line' store' (Held_one side are hosted held) finished = held.status_is ∙ ap status_after (subst HasFinished held.told_is finished)
 
 -- Done is answered only where it was had.
 printed_only : (told : Option ReportText) (had status : Status) (out out' : SinkState) → Prints told had status out out' → status ≡ S.Done → had ≡ S.Done
@@ -106,16 +97,6 @@ printed_always told had status out out' (no_room (put_failed is puts)) = inr (in
 -- what may be answered in place of a status
 abbrev Turned : Status → SinkState → SinkState → Type 0
 Turned status out out' = (status ≡ S.NoMemory) ⊎ ((status ≡ S.OutFault) × (out'.faults ≡ next_count out.faults))
-
-pub printed_done : (told : Option ReportText) (had status : Status) (out out' : SinkState) → Prints told had status out out' → (had ≡ S.Done → HasFinished told) → (HasFinished told → had ≡ S.Done) → IsDoneWhere told status out out'
-printed_done told had status out out' p only always = record {
-  only = λ done. only (printed_only told had status out out' p done);
-  always = λ finished. go (always finished) (printed_always told had status out out' p);
-}
-  where
-    go : had ≡ S.Done → (status ≡ had) ⊎ Turned status out out' → (status ≡ S.Done) ⊎ Turned status out out'
-    go done (inl is) = inl (is ∙ done)
-    go done (inr other) = inr other
 
 pub printed_behind : (outcome : Outcome) (status : Status) (out out' : SinkState) → Prints (told_of outcome) (had_of outcome) status out out' → IsDoneBehind (told_of outcome) status out out'
 printed_behind outcome status out out' p = record {

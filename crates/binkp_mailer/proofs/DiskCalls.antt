@@ -1,7 +1,8 @@
 -- What a call over a disk says of the disk's images.
-use Rattle.std.proofs.Common.{◌≡◌, ◌⊎◌, ◌∙◌, ℕ, ◌≤◌, ◌<◌, arith, Bool, true, false, List, [], Option, Some, None, option_map, refl, sym, ap, subst, inl, inr, ⊎_elim}
+use Rattle.std.proofs.Common.{◌≡◌, ◌∙◌, ℕ, ◌≤◌, ◌<◌, arith, Bool, true, false, List, [], Option, Some, None, Ok, Err, option_map, refl, sym, ap, subst, ⊎_elim}
 use Rattle.std.specs.Prelude.{if◌then◌else◌}
 use Rattle.std.proofs.lemmas.Bool.{cases_lt}
+use Rattle.ftn_addr.specs.Address.{Address}
 use Rattle.disk_model.specs.Changes.{Every}
 use Rattle.disk_model.specs.Moments.{Now, Leaves}
 use Rattle.disk_model.specs.World.{World}
@@ -11,7 +12,7 @@ use Rattle.node_model.specs.Lists.{Member}
 use Rattle.node_model.specs.Node.{Settings}
 use Rattle.node_model.specs.Receipts.{HasOnce, SettledStays}
 use Rattle.node_model.specs.StoreStates.{Shelf, Stored, shelf_of, IfTold}
-use Rattle.node_model.specs.Stores.{IsShelf, OpensShelf}
+use Rattle.node_model.specs.Stores.{IsShelf, OpensShelf, StoreStand, TellsOn}
 use Rattle.inbound_files.specs.Giving.{StillHas, KeepsReceived}
 use Rattle.inbound_files.proofs.Kept.{none_keeps, round_keeps, still_same, still_then}
 use Rattle.hub_core.specs.Hubs.{state_of as durable_of, Fitted, IsSettled}
@@ -19,6 +20,10 @@ use Rattle.hub_core.specs.Opening.{no_seats, IsWhole}
 use Rattle.hub_core.proofs.Closing.{no_sitting, not_some}
 use Rattle.mail_conf.specs.Conf.{ConfText}
 use Rattle.binkp_link.specs.Lines.{LineState}
+use Rattle.binkp_link.specs.LineSources.{Dialling, LinesState}
+use Rattle.disk_model.specs.declared.answers.Marking.TheVariants.{Made, Exists}
+use Rattle.node_store.specs.OutboundMarks.{mark_gone, marked_so}
+use Rattle.session_auth.specs.Sides.{Side, Answers, Calls}
 use Rattle.node_store.specs.Finding.{IsNewMemory}
 use Rattle.node_store.specs.Opening.{Recovers}
 use Rattle.node_store.specs.Sounds.{KeepsSound}
@@ -27,11 +32,13 @@ use Rattle.node_store.specs.Worlds.{OpensAs, Opens}
 use Rattle.node_store.proofs.Openings.{one_shelf, opens_to}
 use Rattle.session_run.specs.Reports.{ReportText}
 use Rattle.command_base.specs.Opening.{HasOpened}
-use Rattle.binkp_mailer.specs.DiskCall.{OpensTo, KeepsReceipts, Serves, Over_disk, No_words, Not_asked, Not_set, No_call, Not_opened, No_index, Bad_index, Over_store}
+use Rattle.binkp_mailer.specs.DiskCall.{OpensTo, KeepsReceipts, Over_disk, No_words, Not_asked, Not_set, No_call, Not_opened, No_index, Bad_index, No_host, Answered, Called}
 use Rattle.binkp_mailer.specs.Inbound.{Gives_behind, Gives_none, Gives_round}
 use Rattle.command_base.specs.Settings.{OnlyRead}
 use Rattle.command_base.specs.Statuses.{Status}
+use Rattle.binkp_mailer.specs.OverLines.{Serves, Answers_next, None_came, One_came, Dials, No_line, A_line, Frees, Is_broken, Takes_away, Calls_node, No_room, Is_marked, Not_marked, Under_mark, call_mark, call_text}
 use Rattle.binkp_mailer.specs.TopCall.{Given, Answers_line, Turned_away, Held_one, StopsOf, IsCall, EachStop, OnceAfter, StaysTold}
+use Rattle.binkp_mailer.proofs.Marked.{takes_keep}
 
 -- A store that was just opened fits a hub without seats.
 
@@ -79,8 +86,10 @@ both_hold : (d : Durable) (e : Option Shelf) → OpensShelf (λ s. SettledStays 
 both_hold d None stays once = absurd stays
 both_hold d (Some s) stays once = record { stays = stays; once = λ before. once }
 
-either : (a b : ℕ) → (a ≤ b) ⊎ (b < a)
-either a b = ⊎_elim (λ (past : b < a). inr past) (λ (le : a ≤ b). inl le) (cases_lt b a)
+-- one behind another
+then_opens : (a b : Durable) (e : Option Shelf) → StillHas a b → OpensShelf (λ s. StillHas b s.state) e → OpensShelf (λ s. StillHas a s.state) e
+then_opens a b None still opens = absurd opens
+then_opens a b (Some s) still opens = still_then a b s.state still opens
 
 -- a world that opens to that state, and what recovers from it
 opens_still : (d : Durable) (w : World) (shelf : Shelf) → OpensAs w shelf → shelf.state ≡ d → (e : Option Shelf) → Opens w e → OpensShelf (λ s. StillHas d s.state) e
@@ -92,6 +101,12 @@ recovers_still d v w before recovers e op =
     opens_still d w after.0 after.1 (after.2.state ∙ before.2) e op
 
 module _ {D : Type 0} (tells : Bool) (content : D → World) (faults : D → ℕ) (moment : D → ℕ) (images : D → ℕ → World → Type 0) where
+  abbrev St : Holding D → StoreStand
+  St = stand_of tells content faults moment images
+
+  abbrev stock_of : Holding D → Durable
+  stock_of s = (stored_in (content s.disk) s.memory).stock.state
+
   -- at each moment of an opening
   leaves_still : (d : Durable) (disk disk' : D) → Leaves moment images Recovers disk disk' → Every (Now moment images disk) (OpensTo d)
       → (k : ℕ) (w : World) (e : Option Shelf) → moment disk ≤ k → k ≤ moment disk' → images disk' k w → Opens w e → OpensShelf (λ s. StillHas d s.state) e
@@ -99,68 +114,115 @@ module _ {D : Type 0} (tells : Bool) (content : D → World) (faults : D → ℕ
       let was = leaves.each k w from to image in
       recovers_still d was.0 w (all was.0 was.1) was.2 e op
 
-  -- a moment before a call over a store began, seen after it
-  earlier : (words : List (List ℕ)) (given : Given) (line : LineState) (opened left : Holding D) (told : Option ReportText) (had : Status) (line' : LineState)
-      → IsCall words given line (stand_of tells content faults moment images opened) told had line' (stand_of tells content faults moment images left)
-      → (k : ℕ) (e : Option Shelf) → k ≤ moment opened.disk → (stand_of tells content faults moment images left).images k e
-      → (o : Option Shelf) × (stand_of tells content faults moment images opened).images k o × (option_map durable_of e ≡ option_map durable_of o)
-  earlier words given line opened left told had line' call k e until image = go call.answers call.stops
+  -- A disk that opened to a state before, in an opened store: what that tells now has its receipts, and so has each image since.
+  record HasSince (d : Durable) (disk : D) (s : Holding D) : Type 0 where
+    state : StillHas d (stock_of s)
+    each : (k : ℕ) (e : Option Shelf) → moment disk ≤ k → k ≤ moment s.disk → (St s).images k e → OpensShelf (λ x. StillHas d x.state) e
+
+  opened_since : (d : Durable) (disk : D) (opened : Holding D) → tells ≡ true → HasOpened tells content faults moment images disk opened → OpensTo d (content disk) → Every (Now moment images disk) (OpensTo d) → HasSince d disk opened
+  opened_since d disk opened telling h before all = record {
+    state = let is = h.told telling in still_same d (stock_of opened) (is.tidied.state ∙ ap (λ (s : Shelf). s.state) (one_shelf (content disk) before.0 is.shelf before.1 is.opens) ∙ before.2);
+    each = λ k e from to image. leaves_still d disk opened.disk (h.stop telling) all k image.1 e from to image.2 image.3;
+  }
+
+  -- behind a call at which what is received stays so
+  kept_since : (d : Durable) (disk : D) (a b : Holding D) → tells ≡ true → KeepsReceived (St a) (St b) → HasSince d disk a → HasSince d disk b
+  kept_since d disk a b telling kept h = record { state = still_then d (stock_of a) (stock_of b) h.state stays; each = each }
     where
-      go : (a : Answers_line words given line (stand_of tells content faults moment images opened).state told had line' (stand_of tells content faults moment images left).state)
-          → StopsOf words given line (stand_of tells content faults moment images opened) told had line' (stand_of tells content faults moment images left) a
-          → (o : Option Shelf) × (stand_of tells content faults moment images opened).images k o × (option_map durable_of e ≡ option_map durable_of o)
-      go (Turned_away none why line_is store_is) same = (e, same.images k e image, refl)
-      go (Held_one side are hosted held) stops = stops.ran.before k (option_map durable_of e) until (e, image, refl)
+      old : Stored
+      old = stored_in (content a.disk) a.memory
 
-  -- what the store tells that was opened
-  opened_state : (d : Durable) (disk : D) (opened : Holding D) → tells ≡ true → HasOpened tells content faults moment images disk opened → OpensTo d (content disk) → (stored_in (content opened.disk) opened.memory).stock.state ≡ d
-  opened_state d disk opened telling h before =
-      let is = h.told telling in
-      is.tidied.state ∙ ap (λ (s : Shelf). s.state) (one_shelf (content disk) before.0 is.shelf before.1 is.opens) ∙ before.2
+      new : Stored
+      new = stored_in (content b.disk) b.memory
 
-  later : (d : Durable) (words : List (List ℕ)) (given : Given) (line : LineState) (opened left : Holding D) (told : Option ReportText) (had : Status) (line' : LineState)
-      → tells ≡ true → (stored_in (content opened.disk) opened.memory).stock.state ≡ d
-      → Serves words given line (stand_of tells content faults moment images opened) told had line' (stand_of tells content faults moment images left)
-      → (k : ℕ) (e : Option Shelf) → moment opened.disk < k → k ≤ moment left.disk → (stand_of tells content faults moment images left).images k e → OpensShelf (λ s. StillHas d s.state) e
-  later d words given line opened left told had line' telling is serves k e after until image =
-      let store = stand_of tells content faults moment images opened in
-      let store' = stand_of tells content faults moment images left in
-      let kept = stored_in (content opened.disk) opened.memory in
-      let stays : EachStop store store' (SettledStays kept.stock.state) = subst (λ (c : Option Stored). IfTold c (λ a. EachStop store store' (SettledStays a.stock.state))) (told_is tells kept telling) serves.stop_stays in
-      let once : EachStop store store' HasOnce = subst (λ (c : Option Stored). IfTold c (λ a. EachStop store store' HasOnce)) (told_is tells kept telling) serves.stop_once in
-      both_hold d e (subst (λ (x : Durable). OpensShelf (λ s. SettledStays x s.state) e) is (stays k e after until image)) (once k e after until image)
+      stays : StillHas old.stock.state new.stock.state
+      stays = subst (λ (c : Option Stored). TellsOn (λ x y. StillHas x.stock.state y.stock.state) (Some old) c) (told_is tells new telling)
+          (subst (λ (c : Option Stored). TellsOn (λ x y. StillHas x.stock.state y.stock.state) c (if tells then Some new else None)) (told_is tells old telling) kept.told)
 
-  -- what the store tells when the session is over
-  served_state : (d : Durable) (words : List (List ℕ)) (given : Given) (line : LineState) (opened held : Holding D) (told : Option ReportText) (had : Status) (line' : LineState)
-      → tells ≡ true → (stored_in (content opened.disk) opened.memory).stock.state ≡ d
-      → Serves words given line (stand_of tells content faults moment images opened) told had line' (stand_of tells content faults moment images held)
-      → StillHas d (stored_in (content held.disk) held.memory).stock.state
-  served_state d words given line opened held told had line' telling is serves =
-      let old = stored_in (content opened.disk) opened.memory in
-      let new = stored_in (content held.disk) held.memory in
-      let stays : SettledStays old.stock.state new.stock.state = subst (λ (c : Option Stored). StaysTold (Some old) c) (told_is tells new telling) (subst (λ (c : Option Stored). StaysTold c (if tells then Some new else None)) (told_is tells old telling) serves.stays) in
-      let once : HasOnce new.stock.state = subst (λ (c : Option Stored). OnceAfter (Some old) c) (told_is tells new telling) (subst (λ (c : Option Stored). OnceAfter c (if tells then Some new else None)) (told_is tells old telling) serves.once) in
-      subst (λ (x : Durable). StillHas x new.stock.state) is (record { stays = stays; once = λ before. once })
+      since : (k : ℕ) (e : Option Shelf) → moment a.disk < k → k ≤ moment b.disk → (St b).images k e → OpensShelf (λ s. StillHas old.stock.state s.state) e
+      since = subst (λ (c : Option Stored). IfTold c (λ x. (k : ℕ) (e : Option Shelf) → moment a.disk < k → k ≤ moment b.disk → (St b).images k e → OpensShelf (λ s. StillHas x.stock.state s.state) e)) (told_is tells old telling) kept.since
+
+      each : (k : ℕ) (e : Option Shelf) → moment disk ≤ k → k ≤ moment b.disk → (St b).images k e → OpensShelf (λ x. StillHas d x.state) e
+      each k e from to image = ⊎_elim
+          (λ (past : moment a.disk < k). then_opens d old.stock.state e h.state (since k e past to image))
+          (λ (within : k ≤ moment a.disk). h.each k e from within (kept.before k e within image))
+          (cases_lt (moment a.disk) k)
+
+  -- a moment before a call over a store began, seen after it
+  earlier : (side : Side) (given : Given) (line : LineState) (opened left : Holding D) (told : Option ReportText) (had : Status) (line' : LineState)
+      → IsCall side given line (St opened) told had line' (St left) → (k : ℕ) (e : Option Shelf) → k ≤ moment opened.disk → (St left).images k e
+      → (o : Option Shelf) × (St opened).images k o × (option_map durable_of e ≡ option_map durable_of o)
+  earlier side given line opened left told had line' call k e until image = go call.answers call.stops
+    where
+      go : (a : Answers_line side given line (St opened).state told had line' (St left).state) → StopsOf side given line (St opened) told had line' (St left) a
+          → (o : Option Shelf) × (St opened).images k o × (option_map durable_of e ≡ option_map durable_of o)
+      go (Turned_away none is line_is store_is) same = (e, same.images k e image, refl)
+      go (Held_one held) stops = stops.ran.before k (option_map durable_of e) until (e, image, refl)
+
+  -- behind a session
+  served_since : (d : Durable) (disk : D) (side : Side) (given : Given) (line : LineState) (a b : Holding D) (told : Option ReportText) (had : Status) (line' : LineState)
+      → tells ≡ true → Serves side given line (St a) told had line' (St b) → HasSince d disk a → HasSince d disk b
+  served_since d disk side given line a b told had line' telling serves h = record { state = still_then d (stock_of a) (stock_of b) h.state (record { stays = stays; once = λ before. once }); each = each }
+    where
+      old : Stored
+      old = stored_in (content a.disk) a.memory
+
+      new : Stored
+      new = stored_in (content b.disk) b.memory
+
+      stays : SettledStays old.stock.state new.stock.state
+      stays = subst (λ (c : Option Stored). StaysTold (Some old) c) (told_is tells new telling) (subst (λ (c : Option Stored). StaysTold c (if tells then Some new else None)) (told_is tells old telling) serves.stays)
+
+      once : HasOnce new.stock.state
+      once = subst (λ (c : Option Stored). OnceAfter (Some old) c) (told_is tells new telling) (subst (λ (c : Option Stored). OnceAfter c (if tells then Some new else None)) (told_is tells old telling) serves.once)
+
+      stop_stays : EachStop (St a) (St b) (SettledStays old.stock.state)
+      stop_stays = subst (λ (c : Option Stored). IfTold c (λ x. EachStop (St a) (St b) (SettledStays x.stock.state))) (told_is tells old telling) serves.stop_stays
+
+      stop_once : EachStop (St a) (St b) HasOnce
+      stop_once = subst (λ (c : Option Stored). IfTold c (λ x. EachStop (St a) (St b) HasOnce)) (told_is tells old telling) serves.stop_once
+
+      each : (k : ℕ) (e : Option Shelf) → moment disk ≤ k → k ≤ moment b.disk → (St b).images k e → OpensShelf (λ x. StillHas d x.state) e
+      each k e from to image = ⊎_elim
+          (λ (past : moment a.disk < k). then_opens d old.stock.state e h.state (both_hold old.stock.state e (stop_stays k e past to image) (stop_once k e past to image)))
+          (λ (within : k ≤ moment a.disk).
+          let was = earlier side given line a b told had line' serves.call k e within image in
+          same_state (StillHas d) e was.0 was.2 (h.each k was.0 from within was.1))
+          (cases_lt (moment a.disk) k)
+
+  same_since : (d : Durable) (disk : D) (a b : Holding D) → b ≡ a → HasSince d disk a → HasSince d disk b
+  same_since d disk a b is h = subst (λ (x : Holding D). HasSince d disk x) (sym is) h
+
+  -- behind a call over the lines
+
+  answered_since : (d : Durable) (disk : D) (given : Given) (lines : LinesState) (a b : Holding D) (told : Option ReportText) (had : Status) (lines' : LinesState)
+      → tells ≡ true → Answers_next tells content faults moment images given lines a told had lines' b → HasSince d disk a → HasSince d disk b
+  answered_since d disk given lines a b told had lines' telling (None_came none came is) h = same_since d disk a b is h
+  answered_since d disk given lines a b told had lines' telling (One_came x) h = served_since d disk Answers given x.line a b told had x.holds.line' telling x.holds.serves h
+
+  dialled_since : (d : Durable) (disk : D) (peer : Address) (given : Given) (host : Dialling) (lines : LinesState) (a b : Holding D) (told : Option ReportText) (had : Status) (lines' : LinesState)
+      → tells ≡ true → Dials tells content faults moment images peer given host lines a told had lines' b → HasSince d disk a → HasSince d disk b
+  dialled_since d disk peer given host lines a b told had lines' telling (No_line none had_is missed is) h = same_since d disk a b is h
+  dialled_since d disk peer given host lines a b told had lines' telling (A_line x) h = served_since d disk (Calls peer) given x.line a b told had x.holds.line' telling x.holds.serves h
+
+  freed_since : (d : Durable) (disk : D) (path text : List ℕ) (was had : Status) (a b : Holding D) → tells ≡ true → Frees tells content faults moment images path text was had a b → HasSince d disk a → HasSince d disk b
+  freed_since d disk path text was had a b telling (Is_broken broken had_is is) h = same_since d disk a b is h
+  freed_since d disk path text was had a b telling (Takes_away result takes had_is) h = kept_since d disk a b telling (takes_keep (mark_gone path text) result (St a) (St b) takes) h
+
+  called_since : (d : Durable) (disk : D) (peer : Address) (given : Given) (host : Dialling) (lines : LinesState) (a b : Holding D) (told : Option ReportText) (had : Status) (lines' : LinesState)
+      → tells ≡ true → Calls_node tells content faults moment images peer given host lines a told had lines' b → HasSince d disk a → HasSince d disk b
+  called_since d disk peer given host lines a b told had lines' telling (No_room none had_is lines_is is) h = same_since d disk a b is h
+  called_since d disk peer given host lines a b told had lines' telling (Is_marked none had_is lines_is time takes stood) h = kept_since d disk a b telling (takes_keep (marked_so (call_mark given.conf peer) (call_text given.conf) time) (Ok Exists) (St a) (St b) takes) h
+  called_since d disk peer given host lines a b told had lines' telling (Not_marked none had_is lines_is time fault takes) h = kept_since d disk a b telling (takes_keep (marked_so (call_mark given.conf peer) (call_text given.conf) time) (Err fault) (St a) (St b) takes) h
+  called_since d disk peer given host lines a b told had lines' telling (Under_mark marked talked was time takes dials frees) h =
+      freed_since d disk (call_mark given.conf peer) (call_text given.conf) was had talked b telling frees
+      (dialled_since d disk peer given host lines marked talked told was lines' telling dials
+      (kept_since d disk a marked telling (takes_keep (marked_so (call_mark given.conf peer) (call_text given.conf) time) (Ok Made) (St a) (St marked) takes) h))
 
   -- nothing, or a round of giving
-  behind_keeps : (conf : ConfText) (told : Option ReportText) (was had : Status) (held left : Holding D) → Gives_behind tells content faults moment images conf told was had held left
-      → KeepsReceived (stand_of tells content faults moment images held) (stand_of tells content faults moment images left)
-  behind_keeps conf told was had held left (Gives_none why had_is left_is) = subst (λ (x : Holding D). KeepsReceived (stand_of tells content faults moment images held) (stand_of tells content faults moment images x)) (sym left_is) (none_keeps (stand_of tells content faults moment images held))
-  behind_keeps conf told was had held left (Gives_round some result gives had_is) = round_keeps (stand_of tells content faults moment images) conf.inbound conf.inbound_nonsecure _ held result left gives
-
-  then_opens : (a b : Durable) (e : Option Shelf) → StillHas a b → OpensShelf (λ s. StillHas b s.state) e → OpensShelf (λ s. StillHas a s.state) e
-  then_opens a b None still opens = absurd opens
-  then_opens a b (Some s) still opens = still_then a b s.state still opens
-
-  given_later : (d : Durable) (held left : Holding D) → tells ≡ true → KeepsReceived (stand_of tells content faults moment images held) (stand_of tells content faults moment images left) → StillHas d (stored_in (content held.disk) held.memory).stock.state
-      → (k : ℕ) (e : Option Shelf) → moment held.disk < k → k ≤ moment left.disk → (stand_of tells content faults moment images left).images k e → OpensShelf (λ s. StillHas d s.state) e
-  given_later d held left telling kept still k e behind until image =
-      let old = stand_of tells content faults moment images held in
-      let new = stand_of tells content faults moment images left in
-      let told = stored_in (content held.disk) held.memory in
-      let since : (k : ℕ) (e : Option Shelf) → old.moment < k → k ≤ new.moment → new.images k e → OpensShelf (λ s. StillHas told.stock.state s.state) e
-      = subst (λ (c : Option Stored). IfTold c (λ a. (k : ℕ) (e : Option Shelf) → old.moment < k → k ≤ new.moment → new.images k e → OpensShelf (λ s. StillHas a.stock.state s.state) e)) (told_is tells told telling) kept.since in
-      then_opens d told.stock.state e still (since k e behind until image)
+  behind_keeps : (conf : ConfText) (told : Option ReportText) (was had : Status) (held left : Holding D) → Gives_behind tells content faults moment images conf told was had held left → KeepsReceived (St held) (St left)
+  behind_keeps conf told was had held left (Gives_none why had_is left_is) = subst (λ (x : Holding D). KeepsReceived (St held) (St x)) (sym left_is) (none_keeps (St held))
+  behind_keeps conf told was had held left (Gives_round some result gives had_is) = round_keeps St conf.inbound conf.inbound_nonsecure _ held result left gives
 
   -- a disk that was read only
   read_still : (disk disk' : D) → OnlyRead tells content faults moment images disk disk' → KeepsReceipts content moment images disk disk'
@@ -169,36 +231,37 @@ module _ {D : Type 0} (tells : Bool) (content : D → World) (faults : D → ℕ
       let opens = all was.0 was.1 in
       opens_still d w (opens.0) (subst (λ (x : World). OpensAs x opens.0) (sym was.2) opens.1) opens.2 e op
 
-  pub keeps_receipts : (words : List (List ℕ)) (challenge : List ℕ) (now : ℕ) (line : LineState) (disk : D) (told : Option ReportText) (had : Status) (line' : LineState) (disk' : D)
-      → tells ≡ true → Over_disk tells content faults moment images words challenge now line disk told had line' disk' → KeepsReceipts content moment images disk disk'
-  keeps_receipts words challenge now line disk told had line' disk' telling (Not_asked none why form line_is disk_is) = λ d reads all k w e from to image op.
+  -- one over which a store was opened, and no more
+  opened_still : (disk disk' : D) (opened : Holding D) → tells ≡ true → HasOpened tells content faults moment images disk opened → disk' ≡ opened.disk → KeepsReceipts content moment images disk disk'
+  opened_still disk disk' opened telling h disk_is = λ d reads all k w e from to image op.
+      leaves_still d disk opened.disk (h.stop telling) all k w e from (subst (λ (x : D). k ≤ moment x) disk_is to) (subst (λ (x : D). images x k w) disk_is image) op
+
+  -- that of a store
+  since_still : (disk disk' : D) (left : Holding D) → tells ≡ true → disk' ≡ left.disk → ((d : Durable) → OpensTo d (content disk) → Every (Now moment images disk) (OpensTo d) → HasSince d disk left) → KeepsReceipts content moment images disk disk'
+  since_still disk disk' left telling disk_is has = λ d reads all k w e from to image op.
+      (has d reads all).each k e from (subst (λ (x : D). k ≤ moment x) disk_is to) (telling, w, subst (λ (x : D). images x k w) disk_is image, op)
+
+  pub keeps_receipts : (words : List (List ℕ)) (challenge : List ℕ) (now : ℕ) (lines : LinesState) (disk : D) (told : Option ReportText) (had : Status) (lines' : LinesState) (disk' : D)
+      → tells ≡ true → Over_disk tells content faults moment images words challenge now lines disk told had lines' disk' → KeepsReceipts content moment images disk disk'
+  keeps_receipts words challenge now lines disk told had lines' disk' telling (Not_asked none why form lines_is disk_is) = λ d reads all k w e from to image op.
       let here : images disk k w = subst (λ (x : D). images x k w) disk_is image in
       let until : k ≤ moment disk = subst (λ (x : D). k ≤ moment x) disk_is to in
       let now_is : images disk (moment disk) w = subst (λ (m : ℕ). images disk m w) (omega (arith, from, until)) here in
       let opens = all w now_is in
       opens_still d w opens.0 opens.1 opens.2 e op
-  keeps_receipts words challenge now line disk told had line' disk' telling (No_words none is only line_is) = read_still disk disk' only
-  keeps_receipts words challenge now line disk told had line' disk' telling (Not_set none form why only line_is) = read_still disk disk' only
-  keeps_receipts words challenge now line disk told had line' disk' telling (No_call conf settings none why only line_is) = read_still disk disk' only
-  keeps_receipts words challenge now line disk told had line' disk' telling (Not_opened conf settings side are fault none had_is line_is refused) = λ d reads all k w e from to image op.
+  keeps_receipts words challenge now lines disk told had lines' disk' telling (No_words none is only lines_is) = read_still disk disk' only
+  keeps_receipts words challenge now lines disk told had lines' disk' telling (Not_set none form why only lines_is) = read_still disk disk' only
+  keeps_receipts words challenge now lines disk told had lines' disk' telling (No_call conf settings none why only lines_is) = read_still disk disk' only
+  keeps_receipts words challenge now lines disk told had lines' disk' telling (Not_opened conf settings side are fault none had_is lines_is refused) = λ d reads all k w e from to image op.
       leaves_still d disk disk' (refused.stop telling) all k w e from to image op
-  keeps_receipts words challenge now line disk told had line' disk' telling (No_index conf settings side are unhosted none why only line_is) = read_still disk disk' only
-  keeps_receipts words challenge now line disk told had line' disk' telling (Bad_index conf settings side are unhosted bad opened h none had_is line_is disk_is) = λ d reads all k w e from to image op.
-      leaves_still d disk opened.disk (h.stop telling) all k w e from (subst (λ (x : D). k ≤ moment x) disk_is to) (subst (λ (x : D). images x k w) disk_is image) op
-  keeps_receipts words challenge now line disk told had line' disk' telling (Over_store conf settings side are listed lists opened held left h was serves gives disk_is) = λ d reads all k w e from to image op.
-      let here : images left.disk k w = subst (λ (x : D). images x k w) disk_is image in
-      let until : k ≤ moment left.disk = subst (λ (x : D). k ≤ moment x) disk_is to in
-      let given : Given = record { conf = conf; listed = listed; challenge = challenge; moment = now } in
-      let kept = behind_keeps conf told was had held left gives in
-      let is = opened_state d disk opened telling h reads in
-      ⊎_elim
-      (λ (behind : moment held.disk < k). given_later d held left telling kept (served_state d words given line opened held told was line' telling is serves) k e behind until (telling, w, here, op))
-      (λ (within : k ≤ moment held.disk).
-      let seen = kept.before k e within (telling, w, here, op) in
-      ⊎_elim
-      (λ (before : k ≤ moment opened.disk).
-      let was_then = earlier words given line opened held told was line' serves.call k e before seen in
-      same_state (StillHas d) e was_then.0 was_then.2 (leaves_still d disk opened.disk (h.stop telling) all k was_then.1.1 was_then.0 from before was_then.1.2 was_then.1.3))
-      (λ (after : moment opened.disk < k). later d words given line opened held told was line' telling is serves k e after within seen)
-      (either k (moment opened.disk)))
-      (cases_lt (moment held.disk) k)
+  keeps_receipts words challenge now lines disk told had lines' disk' telling (No_index conf settings peer are unset none why only lines_is) = read_still disk disk' only
+  keeps_receipts words challenge now lines disk told had lines' disk' telling (Bad_index conf settings peer are unset bad opened h none had_is lines_is disk_is) = opened_still disk disk' opened telling h disk_is
+  keeps_receipts words challenge now lines disk told had lines' disk' telling (No_host conf settings peer are unset index reads unlisted opened h none had_is lines_is disk_is) = opened_still disk disk' opened telling h disk_is
+  keeps_receipts words challenge now lines disk told had lines' disk' telling (Answered conf settings are opened held left h was answers gives disk_is) =
+      since_still disk disk' left telling disk_is
+      (λ d reads all. kept_since d disk held left telling (behind_keeps conf told was had held left gives)
+      (answered_since d disk (record { conf = conf; challenge = challenge; moment = now }) lines opened held told was lines' telling answers (opened_since d disk opened telling h reads all)))
+  keeps_receipts words challenge now lines disk told had lines' disk' telling (Called conf settings peer are host has opened held left h was calls gives disk_is) =
+      since_still disk disk' left telling disk_is
+      (λ d reads all. kept_since d disk held left telling (behind_keeps conf told was had held left gives)
+      (called_since d disk peer (record { conf = conf; challenge = challenge; moment = now }) host lines opened held told was lines' telling calls (opened_since d disk opened telling h reads all)))

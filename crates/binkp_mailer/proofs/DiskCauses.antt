@@ -1,28 +1,38 @@
 -- What the status of a call over a disk tells of the disk.
-use Rattle.std.proofs.Common.{◌≡◌, ℕ, Bool, List, Option, Result, Err, refl, sym, subst, inl, inr}
+use Rattle.std.proofs.Common.{◌≡◌, ◌∙◌, ℕ, Bool, List, Option, Result, Ok, Err, refl, sym, ap, subst, inl, inr}
+use Rattle.binkp_mailer.proofs.Marked.{takes_keep, took_failed}
 use Rattle.binkp_mailer.proofs.TopCalls.{answers_grow}
+use Rattle.ftn_addr.specs.Address.{Address}
 use Rattle.ftn_addr.specs.Counts.{Increased, CountGrew}
-use Rattle.ftn_addr.proofs.CountsGrow.{count_grew-refl, count_grew-then, then-increased}
+use Rattle.ftn_addr.proofs.CountsGrow.{count_grew-increased, count_grew-refl, count_grew-then, then-increased}
+use Rattle.bso_outbound.specs.Paths.{last_part}
 use Rattle.inbound_files.specs.Giving.{GivesFiles}
 use Rattle.inbound_files.proofs.Kept.{round_keeps, round_failed}
 use Rattle.node_model.specs.declared.store.StoreFault.{StoreFault}
-use Rattle.node_model.specs.declared.store.StoreFault.TheVariants.{Disk}
+use Rattle.node_model.specs.declared.store.StoreFault.TheVariants.{Disk, Read, Full, NoMemory}
 use Rattle.disk_model.specs.World.{World}
+use Rattle.disk_model.specs.declared.answers.Marking.TheVariants.{Made, Exists}
 use Rattle.mail_conf.specs.Conf.{ConfText}
-use Rattle.node_model.specs.Stores.{StoreState}
+use Rattle.node_model.specs.Stores.{StoreState, StoreStand}
+use Rattle.node_store.specs.OutboundMarks.{mark_gone, marked_so}
 use Rattle.node_store.specs.Stored.{Holding, stand_of}
+use Rattle.node_store.specs.Taking.{Around, Takes, TookSo}
 use Rattle.binkp_link.specs.Lines.{LineState, SinkState}
+use Rattle.binkp_link.specs.LineSources.{Dialling, LinesState}
+use Rattle.nodelist_files.specs.Files.{index_name}
+use Rattle.session_auth.specs.Sides.{Side, Answers, Calls}
 use Rattle.session_core.specs.Ends.{End}
 use Rattle.session_core.specs.Ends as E
 use Rattle.session_run.specs.Reports.{ReportText}
-use Rattle.binkp_mailer.specs.DiskCall.{IsNoCall, Over_disk, No_words, Not_asked, Not_set, No_call, Not_opened, No_index, Bad_index, Over_store}
+use Rattle.binkp_mailer.specs.DiskCall.{IsNoCall, Over_disk, No_words, Not_asked, Not_set, No_call, Not_opened, No_index, Bad_index, No_host, Answered, Called}
 use Rattle.command_base.specs.Causes.{DiskCause}
 use Rattle.command_base.proofs.Causes.{had_no_memory, printed_disk, refused_so, said_none, unindexed_so, unset_so}
-use Rattle.binkp_mailer.specs.Inbound.{Gives_behind, Gives_none, Gives_round, status_behind}
+use Rattle.binkp_mailer.specs.Inbound.{Gives_behind, Gives_none, Gives_round, status_behind, waiting}
+use Rattle.binkp_mailer.specs.OverLines.{Serves, NoneCame, Nobody_yet, Nobody_more, Not_heard, Answers_next, None_came, One_came, Dials, No_line, A_line, Frees, Is_broken, Takes_away, Calls_node, No_room, Is_marked, Not_marked, Under_mark, call_mark, call_text}
 use Rattle.binkp_mailer.specs.Reports.{Prints, lines_told}
 use Rattle.command_base.specs.Statuses as S
 use Rattle.command_base.specs.Statuses.{Status, status_after, status_unopened}
-use Rattle.binkp_mailer.specs.TopCall.{Given, Asks_nothing, Has_no_host, Has_no_memory, Answers_line, Turned_away, Held_one, StatusCause}
+use Rattle.binkp_mailer.specs.TopCall.{Given, Answers_line, Turned_away, Held_one, StatusCause}
 
 -- a status of a call over a store that is there
 abbrev OfSession : Status → Type 0
@@ -46,13 +56,14 @@ ends_so E.Endless = tt
 ends_so E.TurnedAway = tt
 ends_so E.NoMemory = tt
 
-answers_so : (words : List (List ℕ)) (given : Given) (line : LineState) (store : StoreState) (told : Option ReportText) (had : Status) (line' : LineState) (store' : StoreState) → Answers_line words given line store told had line' store' → OfSession had
-answers_so words given line store told had line' store' (Turned_away none (Asks_nothing is nothing) line_is store_is) = subst OfSession (sym is) tt
-answers_so words given line store told had line' store' (Turned_away none (Has_no_host is side are no_host) line_is store_is) = subst OfSession (sym is) tt
-answers_so words given line store told had line' store' (Turned_away none (Has_no_memory is) line_is store_is) = subst OfSession (sym is) tt
-answers_so words given line store told had line' store' (Held_one side are hosted held) = subst OfSession (sym held.status_is) (ends_so held.report.end)
+answers_so : (side : Side) (given : Given) (line : LineState) (store : StoreState) (told : Option ReportText) (had : Status) (line' : LineState) (store' : StoreState) → Answers_line side given line store told had line' store' → OfSession had
+answers_so side given line store told had line' store' (Turned_away none is line_is store_is) = subst OfSession (sym is) tt
+answers_so side given line store told had line' store' (Held_one held) = subst OfSession (sym held.status_is) (ends_so held.report.end)
 
 module _ {D : Type 0} (tells : Bool) (content : D → World) (faults : D → ℕ) (moment : D → ℕ) (images : D → ℕ → World → Type 0) where
+  abbrev St : Holding D → StoreStand
+  St = stand_of tells content faults moment images
+
   no_call_so : (words : List (List ℕ)) (conf : ConfText) (disk disk' : D) (had : Status) → IsNoCall words conf had → DiskCause tells content faults had disk disk'
   no_call_so words conf disk disk' had (inl none) = said_none tells content faults moment images disk disk' had none.0
   no_call_so words conf disk disk' had (inr is) = had_no_memory tells content faults moment images disk disk' had is
@@ -108,38 +119,124 @@ module _ {D : Type 0} (tells : Bool) (content : D → World) (faults : D → ℕ
   still_so (S.ListBad fault) disk held left of grew cause = tt
   still_so S.NoFile disk held left of grew cause = tt
 
-  round_so : (conf : ConfText) (was : Status) (held left : Holding D) (disk : D) (files : ℕ) (result : Result (Unit {0}) StoreFault)
-      → OfSession was → DiskCause tells content faults was disk held.disk → CountGrew (faults disk) (faults held.disk)
-      → GivesFiles (stand_of tells content faults moment images) conf.inbound conf.inbound_nonsecure files held result left → DiskCause tells content faults (status_behind result was (faults left.disk)) disk left.disk
-  round_so conf was held left disk files (Err Disk) of cause grew gives =
-      (then-increased (faults disk) (faults held.disk) (faults left.disk) grew (round_failed (stand_of tells content faults moment images) conf.inbound conf.inbound_nonsecure files held left gives), count_grew-refl (faults left.disk))
-  round_so conf was held left disk files result of cause grew gives = still_so was disk held.disk left.disk of (round_keeps (stand_of tells content faults moment images) conf.inbound conf.inbound_nonsecure files held result left gives).faults cause
+  failed_free : (path text : List ℕ) (result : Result (Unit {0}) StoreFault) (a b : Holding D) → result ≡ Err Disk → Takes (mark_gone path text) result (St a) (St b) → Increased (faults a.disk) (faults b.disk)
+  failed_free path text result a b failed takes =
+      took_failed (mark_gone path text) Disk (St a).state (St b).state (subst (λ (r : Result (Unit {0}) StoreFault). TookSo (mark_gone path text) r (St a).state (St b).state) failed takes.made)
+
+  -- a mark that was made, or stood
+  made_faults : {T : Type 0} (does : T → Around → Around) (answer : T) (a b : Holding D) → Takes does (Ok answer) (St a) (St b) → faults b.disk ≡ faults a.disk
+  made_faults does answer a b takes = ap (λ (s : StoreState). s.counts.faults) takes.made
+
+  -- what a status tells so far, and that no count of faults fell
+  record SoFar (was : Status) (disk : D) (s : Holding D) : Type 0 where
+    of : OfSession was
+    cause : DiskCause tells content faults was disk s.disk
+    grew : CountGrew (faults disk) (faults s.disk)
+
+  on_so : (was : Status) (a b : Holding D) (disk : D) → SoFar was disk a → CountGrew (faults a.disk) (faults b.disk) → SoFar was disk b
+  on_so was a b disk so grew = record { of = so.of; cause = still_so was disk a.disk b.disk so.of grew so.cause; grew = count_grew-then (faults disk) (faults a.disk) (faults b.disk) so.grew grew }
+
+  -- of a status that tells nothing of the disk, behind an opening
+  quiet_so : (was : Status) (disk : D) (s : Holding D) → OfSession was → DiskCause tells content faults was disk s.disk → faults s.disk ≡ faults disk → SoFar was disk s
+  quiet_so was disk s of cause calm = record { of = of; cause = cause; grew = subst (λ (n : ℕ). CountGrew n (faults s.disk)) calm (count_grew-refl (faults s.disk)) }
+
+  -- behind a session over a store whose disk has no more faults
+  session_so : (side : Side) (given : Given) (line : LineState) (a b : Holding D) (told : Option ReportText) (had : Status) (line' : LineState) (disk : D) → faults a.disk ≡ faults disk
+      → Serves side given line (St a) told had line' (St b) → SoFar had disk b
+  session_so side given line a b told had line' disk calm serves = record {
+    of = answers_so side given line (St a).state told had line' (St b).state serves.call.answers;
+    cause = served_so given.conf.session_limit had line line' a b disk calm (answers_so side given line (St a).state told had line' (St b).state serves.call.answers) serves.cause;
+    grew = subst (λ (n : ℕ). CountGrew n (faults b.disk)) calm (answers_grow side given line (St a).state told had line' (St b).state serves.call.answers);
+  }
+
+  is_so : (P : Status → Type 0) (was is : Status) → was ≡ is → P is → P was
+  is_so P was is same p = subst P (sym same) p
+
+  -- nobody came
+  none_so : (had : Status) (lines lines' : LinesState) (disk : D) (a b : Holding D) → faults a.disk ≡ faults disk → b ≡ a → NoneCame had lines lines' → SoFar had disk b
+  none_so had lines lines' disk a b calm is came = subst (λ (x : Holding D). SoFar had disk x) (sym is) (go came)
+    where
+      go : NoneCame had lines lines' → SoFar had disk a
+      go (Nobody_yet had_is next) = is_so (λ (x : Status). SoFar x disk a) had S.Dropped had_is (quiet_so S.Dropped disk a tt tt calm)
+      go (Nobody_more had_is next) = is_so (λ (x : Status). SoFar x disk a) had S.Dropped had_is (quiet_so S.Dropped disk a tt tt calm)
+      go (Not_heard had_is next) = is_so (λ (x : Status). SoFar x disk a) had S.LineFault had_is (quiet_so S.LineFault disk a tt tt calm)
+
+  answered_so : (given : Given) (lines : LinesState) (a b : Holding D) (told : Option ReportText) (had : Status) (lines' : LinesState) (disk : D) → faults a.disk ≡ faults disk
+      → Answers_next tells content faults moment images given lines a told had lines' b → SoFar had disk b
+  answered_so given lines a b told had lines' disk calm (None_came none came is) = none_so had lines lines' disk a b calm is came
+  answered_so given lines a b told had lines' disk calm (One_came x) = session_so Answers given x.line a b told had x.holds.line' disk calm x.holds.serves
+
+  dialled_so : (peer : Address) (given : Given) (host : Dialling) (lines : LinesState) (a b : Holding D) (told : Option ReportText) (had : Status) (lines' : LinesState) (disk : D) → faults a.disk ≡ faults disk
+      → Dials tells content faults moment images peer given host lines a told had lines' b → SoFar had disk b
+  dialled_so peer given host lines a b told had lines' disk calm (No_line none had_is missed is) =
+      subst (λ (x : Holding D). SoFar had disk x) (sym is) (is_so (λ (x : Status). SoFar x disk a) had S.LineFault had_is (quiet_so S.LineFault disk a tt tt calm))
+  dialled_so peer given host lines a b told had lines' disk calm (A_line x) = session_so (Calls peer) given x.line a b told had x.holds.line' disk calm x.holds.serves
+
+  -- a call behind it, of which the disk's failing is told
+  then_so : (was : Status) (a b : Holding D) (disk : D) (result : Result (Unit {0}) StoreFault) → SoFar was disk a → CountGrew (faults a.disk) (faults b.disk)
+      → (result ≡ Err Disk → Increased (faults a.disk) (faults b.disk)) → SoFar (status_behind result was (faults b.disk)) disk b
+  then_so was a b disk (Err Disk) so grew failed = record {
+    of = tt;
+    cause = (then-increased (faults disk) (faults a.disk) (faults b.disk) so.grew (failed refl), count_grew-refl (faults b.disk));
+    grew = count_grew-then (faults disk) (faults a.disk) (faults b.disk) so.grew grew;
+  }
+  then_so was a b disk (Ok done) so grew failed = on_so was a b disk so grew
+  then_so was a b disk (Err Read) so grew failed = on_so was a b disk so grew
+  then_so was a b disk (Err Full) so grew failed = on_so was a b disk so grew
+  then_so was a b disk (Err NoMemory) so grew failed = on_so was a b disk so grew
+
+  freed_so : (path text : List ℕ) (was had : Status) (a b : Holding D) (disk : D) → Frees tells content faults moment images path text was had a b → SoFar was disk a → SoFar had disk b
+  freed_so path text was had a b disk (Is_broken broken had_is is) so =
+      subst (λ (x : Holding D). SoFar had disk x) (sym is) (is_so (λ (x : Status). SoFar x disk a) had was had_is so)
+  freed_so path text was had a b disk (Takes_away result takes had_is) so =
+      is_so (λ (x : Status). SoFar x disk b) had (status_behind result was (faults b.disk)) had_is
+      (then_so was a b disk result so (takes_keep (mark_gone path text) result (St a) (St b) takes).faults (λ failed. failed_free path text result a b failed takes))
+
+  called_so : (peer : Address) (given : Given) (host : Dialling) (lines : LinesState) (a b : Holding D) (told : Option ReportText) (had : Status) (lines' : LinesState) (disk : D) → faults a.disk ≡ faults disk
+      → Calls_node tells content faults moment images peer given host lines a told had lines' b → SoFar had disk b
+  called_so peer given host lines a b told had lines' disk calm (No_room none had_is lines_is is) =
+      subst (λ (x : Holding D). SoFar had disk x) (sym is) (is_so (λ (x : Status). SoFar x disk a) had S.NoMemory had_is (quiet_so S.NoMemory disk a tt tt calm))
+  called_so peer given host lines a b told had lines' disk calm (Is_marked none had_is lines_is time takes stood) =
+      is_so (λ (x : Status). SoFar x disk b) had (S.Marked (last_part (call_mark given.conf peer))) had_is
+      (quiet_so (S.Marked (last_part (call_mark given.conf peer))) disk b tt tt (made_faults (marked_so (call_mark given.conf peer) (call_text given.conf) time) Exists a b takes ∙ calm))
+  called_so peer given host lines a b told had lines' disk calm (Not_marked none had_is lines_is time fault takes) =
+      let rose : Increased (faults a.disk) (faults b.disk) = took_failed (marked_so (call_mark given.conf peer) (call_text given.conf) time) fault (St a).state (St b).state takes.made in
+      is_so (λ (x : Status). SoFar x disk b) had (S.DiskFault (faults b.disk)) had_is
+      (record {
+        of = tt;
+        cause = (subst (λ (n : ℕ). Increased n (faults b.disk)) calm rose, count_grew-refl (faults b.disk));
+        grew = subst (λ (n : ℕ). CountGrew n (faults b.disk)) calm (count_grew-increased (faults a.disk) (faults b.disk) rose);
+      })
+  called_so peer given host lines a b told had lines' disk calm (Under_mark marked talked was time takes dials frees) =
+      freed_so (call_mark given.conf peer) (call_text given.conf) was had talked b disk frees
+      (dialled_so peer given host lines marked talked told was lines' disk (made_faults (marked_so (call_mark given.conf peer) (call_text given.conf) time) Made a marked takes ∙ calm) dials)
 
   behind_so : (conf : ConfText) (told : Option ReportText) (was had : Status) (held left : Holding D) (disk : D)
-      → OfSession was → DiskCause tells content faults was disk held.disk → CountGrew (faults disk) (faults held.disk)
-      → Gives_behind tells content faults moment images conf told was had held left → DiskCause tells content faults had disk left.disk
-  behind_so conf told was had held left disk of cause grew (Gives_none why had_is left_is) =
-      subst (λ (x : Holding D). DiskCause tells content faults had disk x.disk) (sym left_is) (subst (λ (x : Status). DiskCause tells content faults x disk held.disk) (sym had_is) cause)
-  behind_so conf told was had held left disk of cause grew (Gives_round some result gives had_is) =
-      subst (λ (x : Status). DiskCause tells content faults x disk left.disk) (sym had_is) (round_so conf was held left disk _ result of cause grew gives)
+      → SoFar was disk held → Gives_behind tells content faults moment images conf told was had held left → DiskCause tells content faults had disk left.disk
+  behind_so conf told was had held left disk so (Gives_none why had_is left_is) =
+      subst (λ (x : Holding D). DiskCause tells content faults had disk x.disk) (sym left_is) (is_so (λ (x : Status). DiskCause tells content faults x disk held.disk) had was had_is so.cause)
+  behind_so conf told was had held left disk so (Gives_round some result gives had_is) =
+      is_so (λ (x : Status). DiskCause tells content faults x disk left.disk) had (status_behind result was (faults left.disk)) had_is
+      (then_so was held left disk result so (round_keeps St conf.inbound conf.inbound_nonsecure _ held result left gives).faults
+      (λ failed. round_failed St conf.inbound conf.inbound_nonsecure (waiting (St held)) held left (subst (λ (r : Result (Unit {0}) StoreFault). GivesFiles St conf.inbound conf.inbound_nonsecure (waiting (St held)) held r left) failed gives))).cause
 
-  had_so : (words : List (List ℕ)) (challenge : List ℕ) (now : ℕ) (line : LineState) (disk : D) (told : Option ReportText) (had : Status) (line' : LineState) (disk' : D) → Over_disk tells content faults moment images words challenge now line disk told had line' disk' → DiskCause tells content faults had disk disk'
-  had_so words challenge now line disk told had line' disk' (No_words none is only line_is) = subst (λ (x : Status). DiskCause tells content faults x disk disk') (sym is) tt
-  had_so words challenge now line disk told had line' disk' (Not_asked none is form line_is disk_is) = said_none tells content faults moment images disk disk' had is
-  had_so words challenge now line disk told had line' disk' (Not_set none form why only line_is) = unset_so tells content faults moment images disk disk' had why
-  had_so words challenge now line disk told had line' disk' (No_call conf settings none why only line_is) = no_call_so words conf disk disk' had why
-  had_so words challenge now line disk told had line' disk' (Not_opened conf settings side are fault none had_is line_is refused) = subst (λ (x : Status). DiskCause tells content faults x disk disk') (sym had_is) (refused_so tells content faults moment images fault disk disk' refused)
-  had_so words challenge now line disk told had line' disk' (No_index conf settings side are unhosted none why only line_is) = unindexed_so tells content faults moment images disk disk' had why
-  had_so words challenge now line disk told had line' disk' (Bad_index conf settings side are unhosted bad opened h none had_is line_is disk_is) = subst (λ (x : Status). DiskCause tells content faults x disk disk') (sym had_is) (λ telling. inr (refl, bad telling))
-  had_so words challenge now line disk told had line' disk' (Over_store conf settings side are listed lists opened held left h was serves gives disk_is) =
+  had_so : (words : List (List ℕ)) (challenge : List ℕ) (now : ℕ) (lines : LinesState) (disk : D) (told : Option ReportText) (had : Status) (lines' : LinesState) (disk' : D) → Over_disk tells content faults moment images words challenge now lines disk told had lines' disk' → DiskCause tells content faults had disk disk'
+  had_so words challenge now lines disk told had lines' disk' (No_words none is only lines_is) = is_so (λ (x : Status). DiskCause tells content faults x disk disk') had S.NoMemory is tt
+  had_so words challenge now lines disk told had lines' disk' (Not_asked none is form lines_is disk_is) = said_none tells content faults moment images disk disk' had is
+  had_so words challenge now lines disk told had lines' disk' (Not_set none form why only lines_is) = unset_so tells content faults moment images disk disk' had why
+  had_so words challenge now lines disk told had lines' disk' (No_call conf settings none why only lines_is) = no_call_so words conf disk disk' had why
+  had_so words challenge now lines disk told had lines' disk' (Not_opened conf settings side are fault none had_is lines_is refused) = is_so (λ (x : Status). DiskCause tells content faults x disk disk') had (status_unopened fault (faults disk')) had_is (refused_so tells content faults moment images fault disk disk' refused)
+  had_so words challenge now lines disk told had lines' disk' (No_index conf settings peer are unset none why only lines_is) = unindexed_so tells content faults moment images disk disk' had why
+  had_so words challenge now lines disk told had lines' disk' (Bad_index conf settings peer are unset bad opened h none had_is lines_is disk_is) = is_so (λ (x : Status). DiskCause tells content faults x disk disk') had (S.FileBad index_name) had_is (λ telling. inr (refl, bad telling))
+  had_so words challenge now lines disk told had lines' disk' (No_host conf settings peer are unset index reads unlisted opened h none had_is lines_is disk_is) = is_so (λ (x : Status). DiskCause tells content faults x disk disk') had S.NotFound had_is tt
+  had_so words challenge now lines disk told had lines' disk' (Answered conf settings are opened held left h was answers gives disk_is) =
       subst (λ (x : D). DiskCause tells content faults had disk x) (sym disk_is)
-      (behind_so conf told was had held left disk
-      (answers_so words (record { conf = conf; listed = listed; challenge = challenge; moment = now }) line _ told was line' _ serves.call.answers)
-      (served_so conf.session_limit was line line' opened held disk h.calm (answers_so words (record { conf = conf; listed = listed; challenge = challenge; moment = now }) line _ told was line' _ serves.call.answers) serves.cause)
-      (subst (λ (n : ℕ). CountGrew n (faults held.disk)) h.calm (answers_grow words (record { conf = conf; listed = listed; challenge = challenge; moment = now }) line _ told was line' _ serves.call.answers))
-      gives)
+      (behind_so conf told was had held left disk (answered_so (record { conf = conf; challenge = challenge; moment = now }) lines opened held told was lines' disk h.calm answers) gives)
+  had_so words challenge now lines disk told had lines' disk' (Called conf settings peer are host has opened held left h was calls gives disk_is) =
+      subst (λ (x : D). DiskCause tells content faults had disk x) (sym disk_is)
+      (behind_so conf told was had held left disk (called_so peer (record { conf = conf; challenge = challenge; moment = now }) host lines opened held told was lines' disk h.calm calls) gives)
 
   -- a status that is told is the one that was had, or one that says nothing of the disk
-  pub told_cause : (words : List (List ℕ)) (challenge : List ℕ) (now : ℕ) (line : LineState) (disk : D) (told : Option ReportText) (had status : Status) (line' : LineState) (disk' : D) (out out' : SinkState)
-      → Over_disk tells content faults moment images words challenge now line disk told had line' disk' → Prints told had status out out' → DiskCause tells content faults status disk disk'
-  told_cause words challenge now line disk told had status line' disk' out out' call prints = printed_disk tells content faults moment images (lines_told told) had status disk disk' out out' (had_so words challenge now line disk told had line' disk' call) prints
+  pub told_cause : (words : List (List ℕ)) (challenge : List ℕ) (now : ℕ) (lines : LinesState) (disk : D) (told : Option ReportText) (had status : Status) (lines' : LinesState) (disk' : D) (out out' : SinkState)
+      → Over_disk tells content faults moment images words challenge now lines disk told had lines' disk' → Prints told had status out out' → DiskCause tells content faults status disk disk'
+  told_cause words challenge now lines disk told had status lines' disk' out out' call prints = printed_disk tells content faults moment images (lines_told told) had status disk disk' out out' (had_so words challenge now lines disk told had lines' disk' call) prints

@@ -4,8 +4,11 @@ pub mod DiskCauses
 pub mod Failing
 pub mod GiveSteps
 pub mod HeldParts
+pub mod Lines
+pub mod Marked
 pub mod NodeOpenings
 pub mod OneNode
+pub mod Outcomes
 pub mod ReadOnly
 pub mod ReservedStore
 pub mod TopCalls

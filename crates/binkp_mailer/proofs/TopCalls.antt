@@ -23,16 +23,16 @@ use Rattle.session_run.proofs.RanPast.{ran_past, whole_lives}
 use Rattle.session_run.proofs.Settings.{reach_setting}
 use Rattle.session_run.specs.Machine.{Phase, opening}
 use Rattle.session_auth.specs.Sides.{Side}
-use Rattle.session_core.specs.Stages.{Setting, Stage, home_of}
+use Rattle.session_core.specs.Stages.{Setting, Stage}
 use Rattle.session_run.specs.Reports.{ReportText}
 use Rattle.session_run.specs.Laws.{IsSession, Facts, OwnCause, OwnCauseAt, EndCount, EndCountAt, LineCause, LineCauseAt, DeskCause, DeskCauseAt}
 use Rattle.hub_core.specs.Hubs.{HubState, Fitted, knows_over, node_with, hub_stand, state_of}
 use Rattle.hub_core.specs.Opening.{no_seats}
 use Rattle.hub_core.proofs.Seating.{fitted_more}
+use Rattle.command_base.specs.Statuses as S
 use Rattle.command_base.specs.Statuses.{Status, status_after}
-use Rattle.binkp_mailer.specs.TopCall.{Given, Declines, Asks_nothing, Has_no_host, Has_no_memory, Calls_in_turn, none_yet, one_more, ReachesLimit, HeldSession, HasOnceTold, OnceAfter, StaysTold, StatusCause, Answers_line, Turned_away, Held_one, StopsOf, IsCall, EachStop, IfTells, is_reached, new_hub, first_seat, lent}
+use Rattle.binkp_mailer.specs.TopCall.{Given, Calls_in_turn, none_yet, one_more, ReachesLimit, HeldSession, HasOnceTold, OnceAfter, StaysTold, StatusCause, Answers_line, Turned_away, Held_one, StopsOf, IsCall, EachStop, IfTells, new_hub, first_seat, lent}
 use Rattle.binkp_mailer.specs.Settings.{hub_settings}
-use Rattle.binkp_mailer.specs.Words.{AreWords}
 
 -- Endless comes only where the limit was reached
 abbrev pub LimitCause : ℕ → End → Option LineBytes → Option LineBytes → Type 0
@@ -102,9 +102,9 @@ held_causes side given line store told status line' store' h whole =
     subst (λ (x : Status). StatusCause given.conf.session_limit x line line' store.counts store'.counts) (sym h.status_is) (from_causes given.conf.session_limit end line line' store.counts store'.counts whole ends lines desks limit)
 
 -- no count of faults falls
-pub answers_grow : (words : List (List ℕ)) (given : Given) (line : LineState) (store : StoreState) (told : Option ReportText) (status : Status) (line' : LineState) (store' : StoreState) → Answers_line words given line store told status line' store' → CountGrew store.counts.faults store'.counts.faults
-answers_grow words given line store told status line' store' (Turned_away none why line_is store_is) = subst (λ (x : StoreState). CountGrew store.counts.faults x.counts.faults) (sym store_is) (count_grew-refl store.counts.faults)
-answers_grow words given line store told status line' store' (Held_one side are hosted h) =
+pub answers_grow : (side : Side) (given : Given) (line : LineState) (store : StoreState) (told : Option ReportText) (status : Status) (line' : LineState) (store' : StoreState) → Answers_line side given line store told status line' store' → CountGrew store.counts.faults store'.counts.faults
+answers_grow side given line store told status line' store' (Turned_away none is line_is store_is) = subst (λ (x : StoreState). CountGrew store.counts.faults x.counts.faults) (sym store_is) (count_grew-refl store.counts.faults)
+answers_grow side given line store told status line' store' (Held_one h) =
     let s = h.session in
     let from : Counts = counts_of (first_seat store (new_hub given.conf)).knows in
     let left : CountGrew from.faults (counts_of (first_seat store' h.hub).knows).faults = subst (λ (x : Knows). CountGrew from.faults (counts_of x).faults) (sym s.desk_is.drift) s.facts.counts.faults in
@@ -156,14 +156,14 @@ held_lives : (side : Side) (given : Given) (line : LineState) (store : StoreStat
 held_lives side given line store told status line' store' h =
     whole_lives true (lent side given) line (first_seat store (new_hub given.conf)) h.report line' (first_seat store' h.hub) h.session
 
-pub answers_once : (words : List (List ℕ)) (given : Given) (line : LineState) (store : StoreState) (told : Option ReportText) (status : Status) (line' : LineState) (store' : StoreState) → Answers_line words given line store told status line' store' → Fitted store (no_seats (hub_settings given.conf)) → OnceAfter store.content store'.content
-answers_once words given line store told status line' store' (Turned_away none why line_is store_is) f =
+pub answers_once : (side : Side) (given : Given) (line : LineState) (store : StoreState) (told : Option ReportText) (status : Status) (line' : LineState) (store' : StoreState) → Answers_line side given line store told status line' store' → Fitted store (no_seats (hub_settings given.conf)) → OnceAfter store.content store'.content
+answers_once side given line store told status line' store' (Turned_away none is line_is store_is) f =
     subst (λ (x : StoreState). OnceAfter store.content x.content) (sym store_is) (go store.content (once_now given.conf store f))
   where
     go : (c : Option Stored) → HasOnceTold c → OnceAfter c c
     go None once = tt
     go (Some a) once = once
-answers_once words given line store told status line' store' (Held_one side are hosted h) f = lives_once given.conf store store' h.hub f (held_lives side given line store told status line' store' h)
+answers_once side given line store told status line' store' (Held_one h) f = lives_once given.conf store store' h.hub f (held_lives side given line store told status line' store' h)
 
 -- a call that does nothing
 pub none_once : (conf : ConfText) (s : StoreState) → Fitted s (no_seats (hub_settings conf)) → OnceAfter s.content s.content
@@ -176,14 +176,14 @@ none_once conf s f = go s.content (once_now conf s f)
 pub none_stays : (c : Option Stored) → StaysTold c c
 none_stays c = self_stays c
 
-pub answers_stay : (words : List (List ℕ)) (given : Given) (line : LineState) (store : StoreState) (told : Option ReportText) (status : Status) (line' : LineState) (store' : StoreState) → Answers_line words given line store told status line' store' → StaysTold store.content store'.content
-answers_stay words given line store told status line' store' (Turned_away none why line_is store_is) = subst (λ (x : StoreState). StaysTold store.content x.content) (sym store_is) (self_stays store.content)
-answers_stay words given line store told status line' store' (Held_one side are hosted h) = lives_stay given.conf store store' h.hub (held_lives side given line store told status line' store' h)
+pub answers_stay : (side : Side) (given : Given) (line : LineState) (store : StoreState) (told : Option ReportText) (status : Status) (line' : LineState) (store' : StoreState) → Answers_line side given line store told status line' store' → StaysTold store.content store'.content
+answers_stay side given line store told status line' store' (Turned_away none is line_is store_is) = subst (λ (x : StoreState). StaysTold store.content x.content) (sym store_is) (self_stays store.content)
+answers_stay side given line store told status line' store' (Held_one h) = lives_stay given.conf store store' h.hub (held_lives side given line store told status line' store' h)
 
 pub calls_stay : (store new : StoreState) → Calls_in_turn store new → StaysTold store.content new.content
 calls_stay store new none_yet = self_stays store.content
-calls_stay store new (one_more {old} before may words given told status line line' answers) =
-    stays_then store.content old.content new.content (calls_stay store old before) (answers_stay words given line old told status line' new answers)
+calls_stay store new (one_more {old} before may side given told status line line' answers) =
+    stays_then store.content old.content new.content (calls_stay store old before) (answers_stay side given line old told status line' new answers)
 
 -- whatever the statuses, and however many calls
 pub calls_once : (store new : StoreState) → Calls_in_turn store new → IfTold store.content (λ a. HasOnceTold store.content → HasOnceTold new.content)
@@ -192,27 +192,22 @@ calls_once store new none_yet = go store.content
     go : (c : Option Stored) → IfTold c (λ a. HasOnceTold c → HasOnceTold c)
     go None = tt
     go (Some a) = λ once. once
-calls_once store new (one_more {old} before may words given told status line line' answers) =
-    go store.content old.content (calls_stay store old before) (answers_once words given line old told status line' new answers (may.fits (hub_settings given.conf)))
+calls_once store new (one_more {old} before may side given told status line line' answers) =
+    go store.content old.content (calls_stay store old before) (answers_once side given line old told status line' new answers (may.fits (hub_settings given.conf)))
   where
     go : (c e : Option Stored) → StaysTold c e → OnceAfter e new.content → IfTold c (λ a. HasOnceTold c → HasOnceTold new.content)
     go None e stays once = tt
     go (Some a) None stays once = absurd stays
     go (Some a) (Some b) stays once = λ before. once
 
-declined_causes : (words : List (List ℕ)) (given : Given) (limit : ℕ) (status : Status) (line : LineState) (counts : Counts) → Declines words given status → StatusCause limit status line line counts counts
-declined_causes words given limit status line counts (Asks_nothing is none) = subst (λ (x : Status). StatusCause limit x line line counts counts) (sym is) refl
-declined_causes words given limit status line counts (Has_no_host is side are none) = subst (λ (x : Status). StatusCause limit x line line counts counts) (sym is) refl
-declined_causes words given limit status line counts (Has_no_memory is) = subst (λ (x : Status). StatusCause limit x line line counts counts) (sym is) refl
+pub answers_causes : (side : Side) (given : Given) (line : LineState) (store : StoreState) (told : Option ReportText) (status : Status) (line' : LineState) (store' : StoreState) → Answers_line side given line store told status line' store' → store.counts.broken ≡ None → StatusCause given.conf.session_limit status line line' store.counts store'.counts
+answers_causes side given line store told status line' store' (Turned_away none is line_is store_is) whole =
+    subst (λ (x : LineState). StatusCause given.conf.session_limit status line x store.counts store'.counts) (sym line_is) (subst (λ (x : StoreState). StatusCause given.conf.session_limit status line line store.counts x.counts) (sym store_is) (subst (λ (x : Status). StatusCause given.conf.session_limit x line line store.counts store.counts) (sym is) refl))
+answers_causes side given line store told status line' store' (Held_one h) whole = held_causes side given line store told status line' store' h whole
 
-pub answers_causes : (words : List (List ℕ)) (given : Given) (line : LineState) (store : StoreState) (told : Option ReportText) (status : Status) (line' : LineState) (store' : StoreState) → Answers_line words given line store told status line' store' → store.counts.broken ≡ None → StatusCause given.conf.session_limit status line line' store.counts store'.counts
-answers_causes words given line store told status line' store' (Turned_away none why line_is store_is) whole =
-    subst (λ (x : LineState). StatusCause given.conf.session_limit status line x store.counts store'.counts) (sym line_is) (subst (λ (x : StoreState). StatusCause given.conf.session_limit status line line store.counts x.counts) (sym store_is) (declined_causes words given given.conf.session_limit status line store.counts why))
-answers_causes words given line store told status line' store' (Held_one side are hosted h) whole = held_causes side given line store told status line' store' h whole
-
--- a call of which nothing comes
-pub declined_call : (words : List (List ℕ)) (given : Given) (line : LineState) (store : StoreStand) (status : Status) → Declines words given status → IsCall words given line store None status line store
-declined_call words given line store status why = record { answers = Turned_away refl why refl refl; stops = record { moment = refl; images = λ k e i. i } }
+-- a call for which there is no memory
+pub declined_call : (side : Side) (given : Given) (line : LineState) (store : StoreStand) → IsCall side given line store None S.NoMemory line store
+declined_call side given line store = record { answers = Turned_away refl refl refl refl; stops = record { moment = refl; images = λ k e i. i } }
 
 -- The seat of a session is the same at its end.
 
@@ -231,9 +226,9 @@ shelf_opens P None o = absurd o
 shelf_opens P (Some s) o = o
 
 -- the call, from the session that its seat held
-pub held_call : (words : List (List ℕ)) (side : Side) (given : Given) (line : LineState) (store : StoreStand) (told : Option ReportText) (status : Status) (line' : LineState) (store' : StoreStand) (report : ReportText) (hub : HubState) → AreWords words (home_of given.conf.addresses) side → is_reached given side ≡ true → told ≡ Some report → status ≡ status_after report.end → IsSession true (lent side given) line (hub_stand store (new_hub given.conf) 0) report line' (hub_stand store' hub 0) → IsCall words given line store told status line' store'
-held_call words side given line store told status line' store' report hub are hosted tells is x = record {
-  answers = Held_one side are hosted (record { report = report; told_is = tells; status_is = is; hub = hub; session = x.whole });
+pub held_call : (side : Side) (given : Given) (line : LineState) (store : StoreStand) (told : Option ReportText) (status : Status) (line' : LineState) (store' : StoreStand) (report : ReportText) (hub : HubState) → told ≡ Some report → status ≡ status_after report.end → IsSession true (lent side given) line (hub_stand store (new_hub given.conf) 0) report line' (hub_stand store' hub 0) → IsCall side given line store told status line' store'
+held_call side given line store told status line' store' report hub tells is x = record {
+  answers = Held_one (record { report = report; told_is = tells; status_is = is; hub = hub; session = x.whole });
   stops = record { ran = x.ran; kept = λ k e after until i. kept_receipts true (hub_stand store (new_hub given.conf) 0) x.whole.last.events (hub_stand store' hub 0) x.ran k e.state after until (Some e, i, refl) };
 }
 
@@ -241,12 +236,12 @@ no_moment : {A : Type 0} (m k : ℕ) → m < k → k ≤ m → A
 no_moment m k a b = absurd (omega (arith, a, b))
 
 -- each image since is of a state that the store passes in its life
-stops_past : (words : List (List ℕ)) (given : Given) (line : LineState) (store : StoreStand) (told : Option ReportText) (status : Status) (line' : LineState) (store' : StoreStand) → IsCall words given line store told status line' store' → EachStop store store' (KnownPast (first_seat store.state (new_hub given.conf)).knows)
-stops_past words given line store told status line' store' call = go call.answers call.stops
+stops_past : (side : Side) (given : Given) (line : LineState) (store : StoreStand) (told : Option ReportText) (status : Status) (line' : LineState) (store' : StoreStand) → IsCall side given line store told status line' store' → EachStop store store' (KnownPast (first_seat store.state (new_hub given.conf)).knows)
+stops_past side given line store told status line' store' call = go call.answers call.stops
   where
-    go : (a : Answers_line words given line store.state told status line' store'.state) → StopsOf words given line store told status line' store' a → EachStop store store' (KnownPast (first_seat store.state (new_hub given.conf)).knows)
-    go (Turned_away none why line_is store_is) same = λ k e after until i. no_moment store.moment k after (subst (λ (m : ℕ). k ≤ m) same.moment until)
-    go (Held_one side are hosted h) s = λ k e after until i.
+    go : (a : Answers_line side given line store.state told status line' store'.state) → StopsOf side given line store told status line' store' a → EachStop store store' (KnownPast (first_seat store.state (new_hub given.conf)).knows)
+    go (Turned_away none is line_is store_is) same = λ k e after until i. no_moment store.moment k after (subst (λ (m : ℕ). k ≤ m) same.moment until)
+    go (Held_one h) s = λ k e after until i.
         shelf_opens (KnownPast (first_seat store.state (new_hub given.conf)).knows) e (ran_past true (hub_stand store (new_hub given.conf) 0) h.session.last.events (hub_stand store' h.hub 0) s.ran k (option_map state_of e) after until (e, i, refl))
 
 opens_so : (P Q : Durable → Type 0) → ((d : Durable) → P d → Q d) → (e : Option Shelf) → OpensShelf (λ s. P s.state) e → OpensShelf (λ s. Q s.state) e
@@ -256,32 +251,32 @@ opens_so P Q f (Some s) o = f s.state o
 past_in : (conf : ConfText) (s : StoreState) (a : Stored) (d : Durable) → s.content ≡ Some a → KnownPast (first_seat s (new_hub conf)).knows d → KnownPast (Tells (node_with a s (new_hub conf))) d
 past_in conf s a d is p = subst (λ (c : Option Stored). KnownPast (knows_over c s (new_hub conf) 0) d) is p
 
-pub stops_once : (words : List (List ℕ)) (given : Given) (line : LineState) (store : StoreStand) (told : Option ReportText) (status : Status) (line' : LineState) (store' : StoreStand) → IsCall words given line store told status line' store' → Fitted store.state (no_seats (hub_settings given.conf)) → IfTells store store' (λ old. HasOnce)
-stops_once words given line store told status line' store' call f = go store.state.content refl
+pub stops_once : (side : Side) (given : Given) (line : LineState) (store : StoreStand) (told : Option ReportText) (status : Status) (line' : LineState) (store' : StoreStand) → IsCall side given line store told status line' store' → Fitted store.state (no_seats (hub_settings given.conf)) → IfTells store store' (λ old. HasOnce)
+stops_once side given line store told status line' store' call f = go store.state.content refl
   where
     go : (c : Option Stored) → store.state.content ≡ c → IfTold c (λ kept. EachStop store store' HasOnce)
     go None is = tt
     go (Some a) is = λ k e after until i.
         opens_so (KnownPast (first_seat store.state (new_hub given.conf)).knows) HasOnce
         (λ d p. let q = past_in given.conf store.state a d is p in life_past_once (node_with a store.state (new_hub given.conf)) q.0 q.1 q.2 d q.3 (sound_node given.conf store.state a f is)) e
-        (stops_past words given line store told status line' store' call k e after until i)
+        (stops_past side given line store told status line' store' call k e after until i)
 
-pub stops_stay : (words : List (List ℕ)) (given : Given) (line : LineState) (store : StoreStand) (told : Option ReportText) (status : Status) (line' : LineState) (store' : StoreStand) → IsCall words given line store told status line' store' → IfTells store store' SettledStays
-stops_stay words given line store told status line' store' call = go store.state.content refl
+pub stops_stay : (side : Side) (given : Given) (line : LineState) (store : StoreStand) (told : Option ReportText) (status : Status) (line' : LineState) (store' : StoreStand) → IsCall side given line store told status line' store' → IfTells store store' SettledStays
+stops_stay side given line store told status line' store' call = go store.state.content refl
   where
     go : (c : Option Stored) → store.state.content ≡ c → IfTold c (λ kept. EachStop store store' (SettledStays kept.stock.state))
     go None is = tt
     go (Some a) is = λ k e after until i.
         opens_so (KnownPast (first_seat store.state (new_hub given.conf)).knows) (SettledStays a.stock.state)
         (λ d p. let q = past_in given.conf store.state a d is p in life_past_stays (node_with a store.state (new_hub given.conf)) q.0 q.1 q.2 d q.3) e
-        (stops_past words given line store told status line' store' call k e after until i)
+        (stops_past side given line store told status line' store' call k e after until i)
 
 -- the call, from the session of the first seat of a new hub
-pub seated_call : (words : List (List ℕ)) (side : Side) (given : Given) (line : LineState) (store : StoreStand) (told : Option ReportText) (status : Status) (line' : LineState) (store' : StoreStand) (report : ReportText) (hub hub' : HubState) (seat seat' : ℕ) → AreWords words (home_of given.conf.addresses) side → is_reached given side ≡ true → told ≡ Some report → status ≡ status_after report.end → hub ≡ new_hub given.conf → seat ≡ 0 → IsSession true (lent side given) line (hub_stand store hub seat) report line' (hub_stand store' hub' seat') → IsCall words given line store told status line' store'
-seated_call words side given line store told status line' store' report hub hub' seat seat' are hosted tells is hub_is seat_is x =
+pub seated_call : (side : Side) (given : Given) (line : LineState) (store : StoreStand) (told : Option ReportText) (status : Status) (line' : LineState) (store' : StoreStand) (report : ReportText) (hub hub' : HubState) (seat seat' : ℕ) → told ≡ Some report → status ≡ status_after report.end → hub ≡ new_hub given.conf → seat ≡ 0 → IsSession true (lent side given) line (hub_stand store hub seat) report line' (hub_stand store' hub' seat') → IsCall side given line store told status line' store'
+seated_call side given line store told status line' store' report hub hub' seat seat' tells is hub_is seat_is x =
     let s = lent side given in
     let still : seat' ≡ 0 = session_seat true s line (hub_stand store hub seat) report line' (hub_stand store' hub' seat') x ∙ seat_is in
-    held_call words side given line store told status line' store' report hub' are hosted tells is
+    held_call side given line store told status line' store' report hub' tells is
     (subst (λ (k : ℕ). IsSession true s line (hub_stand store (new_hub given.conf) 0) report line' (hub_stand store' hub' k)) still
     (subst (λ (k : ℕ). IsSession true s line (hub_stand store (new_hub given.conf) k) report line' (hub_stand store' hub' seat')) seat_is
     (subst (λ (h : HubState). IsSession true s line (hub_stand store h seat) report line' (hub_stand store' hub' seat')) hub_is x)))

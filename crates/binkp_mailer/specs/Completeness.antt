@@ -11,13 +11,8 @@ abbrev pub HasFinished : Option ReportText → Type 0
 HasFinished None = ⊥
 HasFinished (Some report) = report.end ≡ E.Finished
 
--- A call is Done only where its session finished. Where it did, the call is Done, or there was no memory for its lines,
--- or their put failed, which the sink has counted.
-pub record IsDoneWhere (told : Option ReportText) (status : Status) (out out' : SinkState) : Type 0 where
-  pub only : status ≡ Done → HasFinished told
-  pub always : HasFinished told → (status ≡ Done) ⊎ ((status ≡ NoMemory) ⊎ ((status ≡ OutFault) × (out'.faults ≡ next_count out.faults)))
-
--- The same of a call that gives received files behind its session: there the disk may have failed.
+-- A call is Done only where its session finished. Where it did, the call is Done; or the disk failed behind the session; or there was no
+-- memory for its lines; or their put failed, which the sink has counted.
 pub record IsDoneBehind (told : Option ReportText) (status : Status) (out out' : SinkState) : Type 0 where
   pub only : status ≡ Done → HasFinished told
   pub always : HasFinished told → (status ≡ Done) ⊎ (((count : ℕ) × (status ≡ DiskFault count)) ⊎ ((status ≡ NoMemory) ⊎ ((status ≡ OutFault) × (out'.faults ≡ next_count out.faults))))

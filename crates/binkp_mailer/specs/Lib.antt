@@ -1,8 +1,10 @@
 pub mod Completeness
 pub mod DiskCall
 pub mod GiveSteps
+pub mod Hosts
 pub mod Inbound
 pub mod OneNode
+pub mod OverLines
 pub mod Programs
 pub mod Reports
 pub mod Settings

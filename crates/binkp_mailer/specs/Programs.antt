@@ -1,7 +1,8 @@
 -- The whole program (own).
 use Rattle.std.specs.Prelude.{◌≡◌, ◌↔◌, ℕ, Bool, true, List, None, IsSome}
 use Rattle.disk_model.specs.World.{World}
-use Rattle.binkp_link.specs.Lines.{LineState, SinkState}
+use Rattle.binkp_link.specs.Lines.{SinkState}
+use Rattle.binkp_link.specs.LineSources.{LinesState}
 use Rattle.binkp_mailer.specs.declared.program.Ended.{Ended}
 use Rattle.command_base.specs.Causes.{DiskCause}
 use Rattle.command_base.specs.Printing.{OutCause}
@@ -14,8 +15,8 @@ use Rattle.command_base.specs.Statuses.{Status, Usage, NoMemory, number_of_statu
 module _ {D : Type 0} (files : D → World → Type 0) (tells : Bool) (content : D → World) (faults : D → ℕ) (moment : D → ℕ) (images : D → ℕ → World → Type 0) where
   -- one call over a disk: what it did and printed, the causes of its status in the disk and in the sink, and that what was
   -- received stays so
-  pub record CallsOver (words : List (List ℕ)) (challenge : List ℕ) (now : ℕ) (line : LineState) (disk : D) (out : SinkState) (status : Status) (line' : LineState) (disk' : D) (out' : SinkState) : Type 0 where
-    pub call : DiskCall tells content faults moment images words challenge now line disk out status line' disk' out'
+  pub record CallsOver (words : List (List ℕ)) (challenge : List ℕ) (now : ℕ) (lines : LinesState) (disk : D) (out : SinkState) (status : Status) (lines' : LinesState) (disk' : D) (out' : SinkState) : Type 0 where
+    pub call : DiskCall tells content faults moment images words challenge now lines disk out status lines' disk' out'
     pub cause : DiskCause tells content faults status disk disk'
     pub out_cause : OutCause status out out'
     pub stays : tells ≡ true → KeepsReceipts content moment images disk disk'
@@ -27,17 +28,17 @@ module _ {D : Type 0} (files : D → World → Type 0) (tells : Bool) (content :
     pub out_cause : OutCause status out out'
     pub stays : tells ≡ true → KeepsReceived content moment images disk disk'
 
-  -- Words of a command without a session run that, and the line stays as it was; all others run a call over the line. Without memory
+  -- Words of a command without a session run that, and no line is asked for; all others run a call. Without memory
   -- for the words that is told, and nothing was done.
-  pub data Runs_over (words : List (List ℕ)) (challenge : List ℕ) (now : ℕ) (line : LineState) (disk : D) (out : SinkState) (status : Status) (line' : LineState) (disk' : D) (out' : SinkState) : Type 0 where
-    A_still : AreStill words → StillOver words now disk out status disk' out' → line' ≡ line → Runs_over words challenge now line disk out status line' disk' out'
-    No_words : Prints None NoMemory status out out' → line' ≡ line → disk' ≡ disk → Runs_over words challenge now line disk out status line' disk' out'
-    A_call : (AreStill words → ⊥) → CallsOver words challenge now line disk out status line' disk' out' → Runs_over words challenge now line disk out status line' disk' out'
+  pub data Runs_over (words : List (List ℕ)) (challenge : List ℕ) (now : ℕ) (lines : LinesState) (disk : D) (out : SinkState) (status : Status) (lines' : LinesState) (disk' : D) (out' : SinkState) : Type 0 where
+    A_still : AreStill words → StillOver words now disk out status disk' out' → lines' ≡ lines → Runs_over words challenge now lines disk out status lines' disk' out'
+    No_words : Prints None NoMemory status out out' → lines' ≡ lines → disk' ≡ disk → Runs_over words challenge now lines disk out status lines' disk' out'
+    A_call : (AreStill words → ⊥) → CallsOver words challenge now lines disk out status lines' disk' out' → Runs_over words challenge now lines disk out status lines' disk' out'
 
   -- the same, told by the exit status
-  abbrev pub IsProgramCall : List (List ℕ) → List ℕ → ℕ → LineState → D → SinkState → (exit : ℕ) → LineState → D → SinkState → Type 0
-  IsProgramCall words challenge now line disk out exit line' disk' out' =
-      (status : Status) × Runs_over words challenge now line disk out status line' disk' out' × (exit ≡ number_of_status status)
+  abbrev pub IsProgramCall : List (List ℕ) → List ℕ → ℕ → LinesState → D → SinkState → (exit : ℕ) → LinesState → D → SinkState → Type 0
+  IsProgramCall words challenge now lines disk out exit lines' disk' out' =
+      (status : Status) × Runs_over words challenge now lines disk out status lines' disk' out' × (exit ≡ number_of_status status)
 
 -- no memory was left for the words, and that is told
 abbrev pub HadNoWords : SinkState → (exit : ℕ) → SinkState → Type 0

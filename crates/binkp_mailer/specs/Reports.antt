@@ -1,5 +1,5 @@
 -- The line of a session, and what a call prints (own).
-use Rattle.std.specs.Prelude.{ℕ, List, [], ◌∷◌, ◌++◌, Option, Some, None, codes}
+use Rattle.std.specs.Prelude.{ℕ, List, [], ◌∷◌, ◌++◌, Option, Some, None, IsSome, codes}
 use Rattle.std.specs.Fmt.{decimal}
 use Rattle.ftn_addr.specs.Address.{Address}
 use Rattle.ftn_addr.specs.Writing.{canonical}
@@ -10,7 +10,7 @@ use Rattle.session_run.specs.Reports.{ReportText, report_text}
 use Rattle.binkp_mailer.specs.declared.report.Outcome.{Outcome}
 use Rattle.binkp_mailer.specs.declared.report.Outcome.TheVariants as O
 use Rattle.command_base.specs.Printing.{PrintsLines}
-use Rattle.command_base.specs.Statuses.{Status, DiskFault, Usage, NotFound, NoMemory, status_after, status_unindexed, status_unopened, status_unset}
+use Rattle.command_base.specs.Statuses.{Status, DiskFault, Dropped, LineFault, Marked, Usage, NotFound, NoMemory, status_after, status_unindexed, status_unopened, status_unset}
 
 -- the variant's name alone
 abbrev pub end_word : End → List ℕ
@@ -55,13 +55,17 @@ told_of O.NotFound = None
 told_of (O.Unindexed fault faults) = None
 told_of (O.Unset fault faults) = None
 told_of (O.Unopened fault faults) = None
+told_of (O.Marked name) = None
+told_of O.NoCaller = None
+told_of O.NoLine = None
+told_of (O.Unmarked faults) = None
 told_of (O.Held report) = Some (report_text report)
 told_of (O.Ungiven report faults) = Some (report_text report)
 
--- it isn't that a received file couldn't be given
-abbrev pub NoneUngiven : Outcome → Type 0
-NoneUngiven (O.Ungiven report faults) = ⊥
-NoneUngiven outcome = Unit {0}
+-- behind a session the disk failed only where its store is broken
+abbrev pub FailedIsBroken : Outcome → Option ℕ → Type 0
+FailedIsBroken (O.Ungiven report faults) broken = IsSome broken
+FailedIsBroken outcome broken = Unit {0}
 
 -- the status that a call has, before its lines are put
 abbrev pub had_of : Outcome → Status
@@ -71,5 +75,9 @@ had_of O.NotFound = NotFound
 had_of (O.Unindexed fault faults) = status_unindexed fault faults
 had_of (O.Unset fault faults) = status_unset fault faults
 had_of (O.Unopened fault faults) = status_unopened fault faults
+had_of (O.Marked name) = Marked name.list
+had_of O.NoCaller = Dropped
+had_of O.NoLine = LineFault
+had_of (O.Unmarked faults) = DiskFault faults
 had_of (O.Held report) = status_after (report_text report).end
 had_of (O.Ungiven report faults) = DiskFault faults

@@ -1,5 +1,5 @@
 -- What a call over a store does (own, after FTS-1026).
-use Rattle.std.specs.Prelude.{◌≡◌, ◌⊎◌, ℕ, ◌+◌, ◌-◌, ◌≤◌, ◌<◌, Bool, ◌||◌, true, false, List, length, Option, Some, None}
+use Rattle.std.specs.Prelude.{◌≡◌, ◌⊎◌, ℕ, ◌+◌, ◌-◌, ◌≤◌, ◌<◌, true, List, length, Option, Some, None}
 use Rattle.ftn_addr.specs.Counts.{Increased, CountGrew, next_count}
 use Rattle.node_model.specs.Calls.{Counts, DeskState}
 use Rattle.node_model.specs.Durable.{Durable}
@@ -7,36 +7,27 @@ use Rattle.node_model.specs.Images.{RanAt}
 use Rattle.node_model.specs.Node.{Settings}
 use Rattle.node_model.specs.Receipts.{HasOnce, SettledStays, HasAt}
 use Rattle.node_model.specs.Stores.{Shelf, Stored, StoreState, StoreStand, IfTold, OpensShelf}
-use Rattle.binkp_link.specs.Lines.{LineBytes, LineState, SinkState}
+use Rattle.binkp_link.specs.Lines.{LineBytes, LineState}
 use Rattle.mail_conf.specs.Conf.{ConfText}
 use Rattle.session_auth.specs.Sides.{Side}
-use Rattle.session_core.specs.Stages.{Setting, setting_of, home_of}
+use Rattle.session_core.specs.Stages.{Setting, setting_of}
 use Rattle.session_run.specs.Laws.{WholeRun}
 use Rattle.session_run.specs.Reports.{ReportText}
 use Rattle.hub_core.specs.Hubs.{HubState, Fitted, knows_over, hub_stand}
 use Rattle.hub_core.specs.Opening.{no_seats, with_seat}
-use Rattle.binkp_mailer.specs.Completeness.{IsDoneWhere}
-use Rattle.binkp_mailer.specs.Reports.{Prints}
-use Rattle.binkp_mailer.specs.Settings.{has_host, hub_settings}
+use Rattle.binkp_mailer.specs.Settings.{hub_settings}
 use Rattle.command_base.specs.Statuses as S
 use Rattle.command_base.specs.Statuses.{Status, status_after}
-use Rattle.binkp_mailer.specs.Words.{AreWords}
 
--- what a call is lent: the settings, whether the index has a host for the node that is called, the challenge that it offers, and
--- the moment
+-- what a call is lent: the settings, the challenge that it offers, and the moment
 pub record Given : Type 0 where
   pub conf : ConfText
-  pub listed : Bool
   pub challenge : List ℕ
   pub moment : ℕ
 
 -- what its session is lent
 abbrev pub lent : Side → Given → Setting
 lent side g = setting_of side g.conf g.challenge g.moment
-
--- a node that is called has a host, in the settings or in the index
-abbrev pub is_reached : Given → Side → Bool
-is_reached g side = has_host g.conf side || g.listed
 
 -- a hub of these settings, with one seat
 abbrev pub new_hub : ConfText → HubState
@@ -54,16 +45,10 @@ pub record HeldSession (side : Side) (given : Given) (line : LineState) (store :
   pub hub : HubState
   pub session : WholeRun true (lent side given) line (first_seat store (new_hub given.conf)) report line' (first_seat store' hub)
 
--- Why no session is held: the words ask for nothing, or to call a node that has no host, or there was no memory.
-pub data Declines (words : List (List ℕ)) (given : Given) (had : Status) : Type 0 where
-  Asks_nothing : had ≡ S.Usage → ((side : Side) → AreWords words (home_of given.conf.addresses) side → ⊥) → Declines words given had
-  Has_no_host : had ≡ S.NotFound → (side : Side) → AreWords words (home_of given.conf.addresses) side → is_reached given side ≡ false → Declines words given had
-  Has_no_memory : had ≡ S.NoMemory → Declines words given had
-
--- A session was held, where the words ask for one, and not to call a node without a host; else nothing was done.
-pub data Answers_line (words : List (List ℕ)) (given : Given) (line : LineState) (store : StoreState) (told : Option ReportText) (status : Status) (line' : LineState) (store' : StoreState) : Type 0 where
-  Turned_away : told ≡ None → Declines words given status → line' ≡ line → store' ≡ store → Answers_line words given line store told status line' store'
-  Held_one : (side : Side) → AreWords words (home_of given.conf.addresses) side → is_reached given side ≡ true → HeldSession side given line store told status line' store' → Answers_line words given line store told status line' store'
+-- A session was held over the line; or there was no memory for it, and nothing was done.
+pub data Answers_line (side : Side) (given : Given) (line : LineState) (store : StoreState) (told : Option ReportText) (status : Status) (line' : LineState) (store' : StoreState) : Type 0 where
+  Turned_away : told ≡ None → status ≡ S.NoMemory → line' ≡ line → store' ≡ store → Answers_line side given line store told status line' store'
+  Held_one : HeldSession side given line store told status line' store' → Answers_line side given line store told status line' store'
 
 -- What a stop may leave of a store that was only handed back: what it might have left before.
 pub record SameImages (store store' : StoreStand) : Type 0 where
@@ -75,14 +60,14 @@ pub record HeldImages (side : Side) (given : Given) (line : LineState) (store : 
   pub ran : RanAt true (hub_stand store (new_hub given.conf) 0) held.session.last.events (hub_stand store' held.hub 0)
   pub kept : (k : ℕ) (e : Shelf) → store.moment < k → k ≤ store'.moment → store'.images k (Some e) → HasAt true (first_seat store.state (new_hub given.conf)) held.session.last.events ran.last ran.chain ran.times k e.state
 
-abbrev pub StopsOf : (words : List (List ℕ)) (given : Given) (line : LineState) (store : StoreStand) (told : Option ReportText) (status : Status) (line' : LineState) (store' : StoreStand) → Answers_line words given line store.state told status line' store'.state → Type 0
-StopsOf words given line store told status line' store' (Turned_away none why line_is store_is) = SameImages store store'
-StopsOf words given line store told status line' store' (Held_one side are hosted held) = HeldImages side given line store told status line' store' held
+abbrev pub StopsOf : (side : Side) (given : Given) (line : LineState) (store : StoreStand) (told : Option ReportText) (status : Status) (line' : LineState) (store' : StoreStand) → Answers_line side given line store.state told status line' store'.state → Type 0
+StopsOf side given line store told status line' store' (Turned_away none is line_is store_is) = SameImages store store'
+StopsOf side given line store told status line' store' (Held_one held) = HeldImages side given line store told status line' store' held
 
 -- the whole call: what it did, and what a stop at each moment since may leave of it
-pub record IsCall (words : List (List ℕ)) (given : Given) (line : LineState) (store : StoreStand) (told : Option ReportText) (status : Status) (line' : LineState) (store' : StoreStand) : Type 0 where
-  pub answers : Answers_line words given line store.state told status line' store'.state
-  pub stops : StopsOf words given line store told status line' store' answers
+pub record IsCall (side : Side) (given : Given) (line : LineState) (store : StoreStand) (told : Option ReportText) (status : Status) (line' : LineState) (store' : StoreStand) : Type 0 where
+  pub answers : Answers_line side given line store.state told status line' store'.state
+  pub stops : StopsOf side given line store told status line' store' answers
 
 -- a stop at any moment since leaves a durable state of which this holds
 abbrev pub EachStop : StoreStand → StoreStand → (Durable → Type 0) → Type 0
@@ -111,22 +96,6 @@ StatusCause limit S.Quiet line line' counts counts' = (60 ≤ line'.calm) × (li
 StatusCause limit S.Endless line line' counts counts' = ReachesLimit limit line.bytes line'.bytes × (line'.ends ≡ line.ends)
 StatusCause limit status line line' counts counts' = line'.ends ≡ line.ends
 
--- the same of a status that want of memory for the lines, or a put that fails, may have turned into NoMemory or OutFault
-abbrev pub TurnedCause : (limit : ℕ) → Status → (line line' : LineState) → (counts counts' : Counts) → Type 0
-TurnedCause limit S.NoMemory line line' counts counts' = Unit {0}
-TurnedCause limit S.OutFault line line' counts counts' = Unit {0}
-TurnedCause limit status line line' counts counts' = StatusCause limit status line line' counts counts'
-
--- The whole call, and then what was printed of it: the session's report where one was held, and the status that it had.
--- It is Done where that session finished, and nowhere else.
-pub record TopCall (words : List (List ℕ)) (given : Given) (line : LineState) (store : StoreStand) (out : SinkState) (status : Status) (line' : LineState) (store' : StoreStand) (out' : SinkState) : Type 0 where
-  pub told : Option ReportText
-  pub had : Status
-  pub call : IsCall words given line store told had line' store'
-  pub cause : StatusCause given.conf.session_limit had line line' store.state.counts store'.state.counts
-  pub prints : Prints told had status out out'
-  pub done : IsDoneWhere told status out out'
-
 -- no sender and key has two receipts
 abbrev pub HasOnceTold : Option Stored → Type 0
 HasOnceTold content = IfTold content (λ kept. HasOnce kept.stock.state)
@@ -150,4 +119,4 @@ pub record MayServe (store : StoreState) : Type 0 where
 -- calls of the program over one store, one after another: each begins with what the one before it left
 pub data Calls_in_turn (store : StoreState) : StoreState → Type 0 where
   none_yet : Calls_in_turn store store
-  one_more : {old new : StoreState} → Calls_in_turn store old → MayServe old → (words : List (List ℕ)) (given : Given) (told : Option ReportText) (status : Status) (line line' : LineState) → Answers_line words given line old told status line' new → Calls_in_turn store new
+  one_more : {old new : StoreState} → Calls_in_turn store old → MayServe old → (side : Side) (given : Given) (told : Option ReportText) (status : Status) (line line' : LineState) → Answers_line side given line old told status line' new → Calls_in_turn store new

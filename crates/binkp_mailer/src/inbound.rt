@@ -5,7 +5,7 @@ ghost use Rattle.mail_conf.specs.ConfView.{conf_text};
 ghost use Rattle.node_store.specs.Stored.{stand_of};
 ghost use Rattle.session_run.specs.Reports.{report_text};
 ghost use Rattle.binkp_mailer.specs.Inbound.{Gives_behind, waiting};
-ghost use Rattle.binkp_mailer.specs.Reports.{NoneUngiven, had_of, told_of};
+ghost use Rattle.binkp_mailer.specs.Reports.{FailedIsBroken, had_of, told_of};
 ghost use Rattle.command_base.specs.Statuses.{status_after};
 
 use crate::Outcome;
@@ -61,7 +61,7 @@ pub fn give_behind<D: Yard>(
     outcome: Outcome,
     store: NodeStore<D>,
 ) -> (Outcome, NodeStore<D>)
-    requires { NoneUngiven outcome }
+    requires { FailedIsBroken outcome store.memory.broken }
     ensures gives { Gives_behind D.tells D.content D.fault_count D.moment D.images (conf_text conf.now) (told_of outcome) (had_of outcome) (had_of result.0) store result.1 }
     ensures told { told_of result.0 ≡ told_of outcome }
 {

@@ -1,39 +1,45 @@
-//! `binkp_mailer` holds one session over a line: it answers a caller, as under inetd, or calls the node whose line it is. What it
-//! receives stays on a disk, and what came of the call goes to a sink.
+//! `binkp_mailer` is the program but for what only the system has: it answers a caller, calls a node, or does a command without a
+//! session. What it receives stays on a disk, and what came of a call goes to a sink.
 //!
-//! [`run_program`] is the whole program but for what only the system has: it is given the words behind the folder, a disk, a
-//! line, a sink, the moment and a challenge, and answers the exit status. It calls [`run_line`], which reads the settings of the
-//! disk ([`read_settings`]) and the words ([`read_words`]), opens its store, and holds one session over the line and that store,
-//! which begins with the take-in of its peer's outbound ([`hold_with_outbound`]), gives what is received to the inbound folders
-//! ([`give_behind`]), and prints what came of it ([`print`]). Their contracts say what all of it does. [`run_over_store`] makes the
-//! call over a store that is there. That the node below is one of the two that `world_pair` speaks of is the law [`one_node`].
+//! [`run_program`] is given the words behind the folder, a disk, the lines, a sink, the moment and a challenge, and answers the exit
+//! status. It calls [`run_call`], which reads the settings of the disk ([`read_settings`](command_base::read_settings)) and the
+//! words ([`read_words`]), opens its store, and answers who calls next ([`answer_next`]), or calls a node at its host ([`set_host`],
+//! [`listed_host`]) under its call mark ([`call_node`]). The session begins with the take-in of its peer's outbound
+//! ([`hold_with_outbound`]); behind it what is received goes to the inbound folders ([`give_behind`]), and what came of it is printed
+//! ([`print`]). Their contracts say what all of it does. That the node below is one of the two that `world_pair` speaks of is the law
+//! [`one_node`].
 //!
 //! ```
-//! let (status, disk) = run_line(alloc, words, disk, &mut line, now, challenge, &mut out);
+//! let (status, disk) = run_call(alloc, words, disk, &mut lines, now, challenge, &mut out);
 //! let exit = status.number();                  // 0 where both ends finished
 //! ```
 //!
-//! Left out: the program itself (`binkp`), and every command but `answer` and `call`.
+//! Left out: the program itself (`binkp`), and what the commands without a session do (`still_commands`).
 #![tactic(auto)]
 
-mod holding;
+mod call_mark;
+mod hosts;
 mod inbound;
 mod node_laws;
 mod over_disk;
-mod over_store;
+mod over_lines;
 mod program;
+mod reaching;
 mod report;
 mod settings;
 mod with_outbound;
 mod words;
 
-pub use holding::{hold_line, hold_session};
+pub use hosts::{Host, listed_host, set_host};
 pub use inbound::give_behind;
-pub use node_laws::{calls_are_courses, gives_are_steps, one_node, openings_are_stops};
-pub use over_disk::run_line;
-pub use over_store::{one_receipt_over_calls, receipts_stay_over_calls, run_over_store};
+pub use node_laws::{
+    calls_are_courses, gives_are_steps, one_node, one_receipt_over_calls, openings_are_stops,
+    receipts_stay_over_calls,
+};
+pub use over_disk::run_call;
+pub use over_lines::{answer_next, call_node};
 pub use program::{Ended, explanation, refuse_for_memory, run_program};
 pub use report::{Outcome, print, push_session};
-pub use settings::{has_host, hub_conf, is_reached, lists};
+pub use settings::hub_conf;
 pub use with_outbound::hold_with_outbound;
 pub use words::{WordsFault, have_form, read_words};

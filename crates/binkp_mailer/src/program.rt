@@ -1,14 +1,15 @@
 //! The whole of the program, but for what only the system has.
-ghost use Rattle.std.specs.Prelude.{◌≡◌, ◌↔◌, false, true, IsSome};
+ghost use Rattle.std.specs.Prelude.{◌≡◌, ◌↔◌, true, IsSome};
 ghost use Rattle.disk_model.specs.Changes.{Every};
 ghost use Rattle.disk_model.specs.Moments.{Now};
 ghost use Rattle.node_store.specs.Opening.{IsReady};
+ghost use Rattle.binkp_mailer.specs.OverLines.{IsFresh};
 ghost use Rattle.binkp_mailer.specs.Programs.{EndsByStatus, HadNoWords, IsProgramCall, Runs_over};
 ghost use Rattle.command_base.specs.Statuses.{Usage, number_of_status, status_text};
 ghost use Rattle.command_words.specs.Forms.{texts};
 
-use crate::{Outcome, print, run_line};
-use binkp_link::{Line, Sink};
+use crate::{Outcome, print, run_call};
+use binkp_link::{Lines, Sink};
 use command_base::Status;
 use disk_model::Yard;
 use ftn_addr::{Bytes, NoMemory};
@@ -66,45 +67,44 @@ fn end_of(status: &Status) -> Ended
     }
 }
 
-// A call over the line, or a command without a session.
-fn run_words<D: Yard, L: Line, O: Sink>(
+// A call over a line, or a command without a session.
+fn run_words<D: Yard, N: Lines, O: Sink>(
     alloc: Global,
     words: &[Bytes],
     disk: D,
-    line: &mut L,
+    lines: &mut N,
     now: u64,
     random: [u8; 16],
     out: &mut O,
 ) -> (Status, D)
     requires ready { D.tells ≡ true → Every (Now D.moment D.images disk) (IsReady (D.content disk)) }
-    requires calm { (L.state line.old).calm ≡ 0 }
-    requires open { (L.state line.old).closed ≡ false }
-    ensures { Runs_over D.files D.tells D.content D.fault_count D.moment D.images (texts words.now) random now (L.state line.old) disk (O.state out.old) (status_text result.0) (L.state line.new) result.1 (O.state out.new) }
+    requires fresh { IsFresh (N.state lines.old) }
+    ensures { Runs_over D.files D.tells D.content D.fault_count D.moment D.images (texts words.now) random now (N.state lines.old) disk (O.state out.old) (status_text result.0) (N.state lines.new) result.1 (O.state out.new) }
 {
     match is_still(alloc, words) {
         Ok(true) => run_still(alloc, words, disk, now, out),
-        Ok(false) => run_line(alloc, words, disk, line, now, random, out),
+        Ok(false) => run_call(alloc, words, disk, lines, now, random, out),
         Err(NoMemory) => (print(alloc, Outcome::NoMemory, out), disk),
     }
 }
 
-/// Does what the words behind DIR ask for over the disk, prints what came of it, and gives the disk back.
-pub fn run_program<D: Yard, L: Line, O: Sink>(
+/// Does what the words behind DIR ask for over the disk and the lines, of which none was given yet, prints what came of it, and gives
+/// the disk back.
+pub fn run_program<D: Yard, N: Lines, O: Sink>(
     alloc: Global,
     words: &[Bytes],
     disk: D,
-    line: &mut L,
+    lines: &mut N,
     now: u64,
     random: [u8; 16],
     out: &mut O,
 ) -> (Ended, D)
     requires ready { D.tells ≡ true → Every (Now D.moment D.images disk) (IsReady (D.content disk)) }
-    requires calm { (L.state line.old).calm ≡ 0 }
-    requires open { (L.state line.old).closed ≡ false }
-    ensures call { IsProgramCall D.files D.tells D.content D.fault_count D.moment D.images (texts words.now) random now (L.state line.old) disk (O.state out.old) result.0.exit (L.state line.new) result.1 (O.state out.new) }
+    requires fresh { IsFresh (N.state lines.old) }
+    ensures call { IsProgramCall D.files D.tells D.content D.fault_count D.moment D.images (texts words.now) random now (N.state lines.old) disk (O.state out.old) result.0.exit (N.state lines.new) result.1 (O.state out.new) }
     ensures told { EndsByStatus result.0 }
 {
-    let (status, disk) = run_words(alloc, words, disk, line, now, random, out);
+    let (status, disk) = run_words(alloc, words, disk, lines, now, random, out);
     (end_of(&status), disk)
 }
 

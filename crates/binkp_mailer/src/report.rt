@@ -5,7 +5,7 @@ ghost use Rattle.ftn_addr.specs.Address.{address};
 ghost use Rattle.session_core.specs.Ends.{end_text};
 ghost use Rattle.session_run.specs.Reports.{report_text};
 ghost use Rattle.binkp_mailer.specs.Reports.{Prints, end_word, had_of, lines_told, peer_word, session_line, told_of};
-ghost use Rattle.command_base.specs.Statuses.{status_text};
+ghost use Rattle.command_base.specs.Statuses.{DiskFault, status_text};
 
 use binkp_link::Sink;
 use command_base::{
@@ -87,10 +87,42 @@ pub enum Outcome {
     Unset(SettingsFault, u64),
     /// The store wasn't opened, and that is its disk's count of faults.
     Unopened(StoreOpenFault, u64),
+    /// Another program has the outbound of the node that is called, by the mark of that name.
+    Marked(Bytes),
+    /// Nobody came.
+    NoCaller,
+    /// No line could be had.
+    NoLine,
+    /// No session was held, and the disk failed with the mark of the node that is called. That is its count of faults.
+    Unmarked(u64),
     /// A session was held.
     Held(Report),
-    /// A session was held, and behind it a received file couldn't be given: the disk failed, and that is its count of faults.
+    /// A session was held, and the disk failed behind it: the mark of the node that was called couldn't be taken away, or a received file
+    /// couldn't be given. That is its count of faults.
     Ungiven(Report, u64),
+}
+
+impl Outcome {
+    /// The same, and the disk failed then, which counts so many faults.
+    pub(crate) fn failed(self, faults: u64) -> Outcome
+        ensures had { had_of result ≡ DiskFault faults }
+        ensures told { told_of result ≡ told_of self }
+    {
+        match self {
+            Outcome::Held(report) => Outcome::Ungiven(report, faults),
+            Outcome::Ungiven(report, _) => Outcome::Ungiven(report, faults),
+            Outcome::Usage => Outcome::Unmarked(faults),
+            Outcome::NoMemory => Outcome::Unmarked(faults),
+            Outcome::NotFound => Outcome::Unmarked(faults),
+            Outcome::Unindexed(_, _) => Outcome::Unmarked(faults),
+            Outcome::Unset(_, _) => Outcome::Unmarked(faults),
+            Outcome::Unopened(_, _) => Outcome::Unmarked(faults),
+            Outcome::Marked(_) => Outcome::Unmarked(faults),
+            Outcome::NoCaller => Outcome::Unmarked(faults),
+            Outcome::NoLine => Outcome::Unmarked(faults),
+            Outcome::Unmarked(_) => Outcome::Unmarked(faults),
+        }
+    }
 }
 
 /// The line of the session, where one was held.
@@ -105,6 +137,10 @@ fn session_lines(alloc: Global, outcome: &Outcome) -> Result<Bytes, NoMemory>
         Outcome::Unindexed(_, _) => {}
         Outcome::Unset(_, _) => {}
         Outcome::Unopened(_, _) => {}
+        Outcome::Marked(_) => {}
+        Outcome::NoCaller => {}
+        Outcome::NoLine => {}
+        Outcome::Unmarked(_) => {}
         Outcome::Held(report) | Outcome::Ungiven(report, _) => {
             push_session(alloc, report, &mut lines)?
         }
@@ -123,6 +159,10 @@ fn had(outcome: Outcome) -> Status
         Outcome::Unindexed(fault, faults) => status_unindexed(fault, faults),
         Outcome::Unset(fault, faults) => status_unset(fault, faults),
         Outcome::Unopened(fault, faults) => status_unopened(fault, faults),
+        Outcome::Marked(name) => Status::Marked(name),
+        Outcome::NoCaller => Status::Dropped,
+        Outcome::NoLine => Status::LineFault,
+        Outcome::Unmarked(faults) => Status::DiskFault(faults),
         Outcome::Held(report) => status_of(report.end),
         Outcome::Ungiven(_, faults) => Status::DiskFault(faults),
     }

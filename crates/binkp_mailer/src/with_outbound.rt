@@ -1,5 +1,5 @@
 //! A session that begins with the take-in of its peer's outbound.
-ghost use Rattle.std.specs.Prelude.{◌≡◌, false, ℕ, IfErr, IfOk, List, None};
+ghost use Rattle.std.specs.Prelude.{◌≡◌, false, IfErr, IfOk, None};
 ghost use Rattle.ftn_addr.specs.Address.{address};
 ghost use Rattle.mail_conf.specs.ConfView.{conf_text};
 ghost use Rattle.mail_conf.specs.Limits.{KeepsLimits};
@@ -11,11 +11,10 @@ ghost use Rattle.hub_core.specs.Opening.{IsWhole, no_seats};
 ghost use Rattle.outbound_desk.specs.Lines.{IsReadyAlone};
 ghost use Rattle.session_auth.specs.Sides.{side_of};
 ghost use Rattle.session_core.specs.Stages.{home_of};
-ghost use Rattle.binkp_mailer.specs.Reports.{NoneUngiven, had_of, told_of};
+ghost use Rattle.binkp_mailer.specs.Reports.{FailedIsBroken, had_of, told_of};
 ghost use Rattle.binkp_mailer.specs.TopCall.{Given, new_hub, IfTells, IsCall, OnceAfter, StatusCause, StaysTold};
-ghost use Rattle.binkp_mailer.specs.Words.{AreWords, IsAsked};
 
-use crate::{Outcome, hub_conf, is_reached};
+use crate::{Outcome, hub_conf};
 use binkp_link::Line;
 use disk_model::Yard;
 use ftn_addr::NoMemory;
@@ -73,36 +72,31 @@ fn desk_over<D: Yard>(
     })
 }
 
-/// Holds one session over the line and the store on a disk, as [`hold_session`](crate::hold_session) does, and gives the store back.
-/// As it begins, the outbound of the settings is taken in for each peer address of the first address's domain. What other programs
+/// Holds one session over the line and the store on a disk, by the settings, and gives the store back. The challenge is offered at
+/// the answering side. As it begins, the outbound of the settings is taken in for each peer address of the first address's domain. What other programs
 /// have marked is passed over; where a take-in finds no room or no memory, or its disk fails, the session ends so.
 pub fn hold_with_outbound<D: Yard, L: Line>(
     alloc: Global,
     side: Side,
     conf: &Conf,
-    listed: bool,
     challenge: [u8; 16],
     store: NodeStore<D>,
     line: &mut L,
     now: u64,
 ) -> (Outcome, NodeStore<D>)
-    requires asked { IsAsked (home_of (conf_text conf.now).addresses) (side_of side) }
     requires keeps { KeepsLimits (conf_text conf.now) }
     requires whole { store.memory.broken ≡ None }
     requires fits { (settings : Settings) → IsWhole (stand_of D.tells D.content D.fault_count D.moment D.images store) (no_seats settings) }
     requires calm { (L.state line.old).calm ≡ 0 }
     requires open { (L.state line.old).closed ≡ false }
-    ensures call { (words : List (List ℕ)) → AreWords words (home_of (conf_text conf.now).addresses) (side_of side) → IsCall words (record { conf = conf_text conf.now; listed = listed; challenge = challenge; moment = now }) (L.state line.old) (stand_of D.tells D.content D.fault_count D.moment D.images store) (told_of result.0) (had_of result.0) (L.state line.new) (stand_of D.tells D.content D.fault_count D.moment D.images result.1) }
+    ensures call { IsCall (side_of side) (record { conf = conf_text conf.now; challenge = challenge; moment = now }) (L.state line.old) (stand_of D.tells D.content D.fault_count D.moment D.images store) (told_of result.0) (had_of result.0) (L.state line.new) (stand_of D.tells D.content D.fault_count D.moment D.images result.1) }
     ensures cause { StatusCause (conf_text conf.now).session_limit (had_of result.0) (L.state line.old) (L.state line.new) (stand_of D.tells D.content D.fault_count D.moment D.images store).state.counts (stand_of D.tells D.content D.fault_count D.moment D.images result.1).state.counts }
-    ensures ungiven { NoneUngiven result.0 }
+    ensures failed { FailedIsBroken result.0 result.1.memory.broken }
     ensures once { OnceAfter (stand_of D.tells D.content D.fault_count D.moment D.images store).state.content (stand_of D.tells D.content D.fault_count D.moment D.images result.1).state.content }
     ensures stays { StaysTold (stand_of D.tells D.content D.fault_count D.moment D.images store).state.content (stand_of D.tells D.content D.fault_count D.moment D.images result.1).state.content }
     ensures stop_once { IfTells (stand_of D.tells D.content D.fault_count D.moment D.images store) (stand_of D.tells D.content D.fault_count D.moment D.images result.1) (λ old. HasOnce) }
     ensures stop_stays { IfTells (stand_of D.tells D.content D.fault_count D.moment D.images store) (stand_of D.tells D.content D.fault_count D.moment D.images result.1) SettledStays }
 {
-    if !is_reached(conf, listed, &side) {
-        return (Outcome::NotFound, store);
-    }
     let mut desk = match desk_over(alloc, conf, store) {
         Ok(desk) => desk,
         Err(store) => return (Outcome::NoMemory, store),

@@ -1,5 +1,6 @@
 //! The words of a call, and lines on which a peer says what is given.
-ghost use Rattle.std.specs.Prelude.{◌≡◌, false, IfOk};
+ghost use Rattle.std.specs.Prelude.{IfOk};
+ghost use Rattle.binkp_link.specs.LineSources.{IsUnused};
 ghost use Rattle.binkp_link.specs.MemLines.{mem_state};
 
 use binkp_link::{MemLine, ReadAct};
@@ -17,7 +18,7 @@ pub(crate) fn words_of(alloc: Global, texts: &[&[u8]]) -> Result<Vec<Bytes>, NoM
 
 /// A line on which these bytes come at once, where there are any, then one Quiet and the end.
 pub(crate) fn line_of(alloc: Global, bytes: &[u8]) -> Result<MemLine, NoMemory>
-    ensures { IfOk result (λ line. ((mem_state line).calm ≡ 0) × ((mem_state line).closed ≡ false)) }
+    ensures { IfOk result (λ line. IsUnused (mem_state line)) }
 {
     let mut reads = Vec::new(alloc);
     if !bytes.is_empty() {
@@ -29,7 +30,7 @@ pub(crate) fn line_of(alloc: Global, bytes: &[u8]) -> Result<MemLine, NoMemory>
 
 /// A line on which these pieces come one after another, with two reads between them that find nothing yet.
 pub(crate) fn slow_line(alloc: Global, pieces: &[&[u8]]) -> Result<MemLine, NoMemory>
-    ensures { IfOk result (λ line. ((mem_state line).calm ≡ 0) × ((mem_state line).closed ≡ false)) }
+    ensures { IfOk result (λ line. IsUnused (mem_state line)) }
 {
     let mut reads = Vec::new(alloc);
     for piece in pieces {

@@ -1,16 +1,55 @@
 //! Calls of the program over a disk in memory that rests, with a challenge of zeros.
-ghost use Rattle.std.specs.Prelude.{◌≡◌, false};
+ghost use Rattle.std.specs.Prelude.{◌≡◌, IfOk};
+ghost use Rattle.binkp_link.specs.LineSources.{IsUnused};
+ghost use Rattle.binkp_link.specs.MemLineSources.{lines_state, new_lines};
 ghost use Rattle.binkp_link.specs.MemLines.{mem_state};
 
 use crate::lines::{line_of, slow_line, words_of};
 use crate::ran::Ran;
 use crate::script::{Found, Takes, scripted_line};
-use binkp_link::{MemLine, MemSink};
-use binkp_mailer::{run_line, run_program};
+use binkp_link::{MemLine, MemLines, MemSink, NextAct};
+use binkp_mailer::{run_call, run_program};
 use ftn_addr::{Bytes, NoMemory};
 use mem_node::Resting;
 use std::alloc::Global;
 use still_commands::run_still;
+
+// The source whose next caller has that line.
+fn caller(alloc: Global, line: MemLine) -> Result<MemLines, NoMemory>
+    requires { IsUnused (mem_state line) }
+    ensures { IfOk result (λ lines. lines_state lines ≡ new_lines) }
+{
+    let next = vec![in alloc; NextAct::Line(line)]?;
+    Ok(MemLines::new(alloc, next, Vec::new(alloc)))
+}
+
+// The source whose first dial reaches that line.
+fn called(alloc: Global, line: MemLine) -> Result<MemLines, NoMemory>
+    requires { IsUnused (mem_state line) }
+    ensures { IfOk result (λ lines. lines_state lines ≡ new_lines) }
+{
+    let dials = vec![in alloc; Some(line)]?;
+    Ok(MemLines::new(alloc, Vec::new(alloc), dials))
+}
+
+// The source of a call of these words.
+fn source(alloc: Global, texts: &[&[u8]], line: MemLine) -> Result<MemLines, NoMemory>
+    requires { IsUnused (mem_state line) }
+    ensures { IfOk result (λ lines. lines_state lines ≡ new_lines) }
+{
+    match texts.first() {
+        Some(word) if *word == b"call".as_slice() => called(alloc, line),
+        _ => caller(alloc, line),
+    }
+}
+
+// What was written on the line that was handed back, where one was.
+fn heard(alloc: Global, lines: &MemLines) -> Result<Bytes, NoMemory> {
+    match lines.handed(0) {
+        Some(line) => Bytes::from_slice(alloc, line.written()),
+        None => Ok(Bytes::new(alloc)),
+    }
+}
 
 // Makes the call of these words over that line, of whose puts to the output these fail.
 fn run_over(
@@ -20,22 +59,21 @@ fn run_over(
     line: MemLine,
     failing: Vec<u64>,
 ) -> Result<Box<Ran>, NoMemory>
-    requires calm { (mem_state line).calm ≡ 0 }
-    requires open { (mem_state line).closed ≡ false }
+    requires { IsUnused (mem_state line) }
 {
     let words = words_of(alloc, texts)?;
-    let mut line = line;
+    let mut lines = source(alloc, texts, line)?;
     let mut out = MemSink::new(alloc, failing);
-    let (status, disk) = run_line(
+    let (status, disk) = run_call(
         alloc,
         words.as_slice(),
         disk.into_ready(),
-        &mut line,
+        &mut lines,
         1_000_000_000,
         [0; 16],
         &mut out,
     );
-    let heard = Bytes::from_slice(alloc, line.written())?;
+    let heard = heard(alloc, &lines)?;
     let printed = Bytes::from_slice(alloc, out.written())?;
     Ok(Box::new(alloc, Ran::new(status, heard, printed, disk))?)
 }
@@ -90,7 +128,7 @@ pub fn run(alloc: Global, disk: Resting, texts: &[&[u8]]) -> Result<Box<Ran>, No
     Ok(Box::new(alloc, Ran::new(status, told, Bytes::new(alloc), disk))?)
 }
 
-/// How the program ends with these words over a line on which nothing comes: its exit status, whether it explains its words, and
+/// How the program ends with these words, where nobody calls: its exit status, whether it explains its words, and
 /// what it printed.
 pub fn end_of(
     alloc: Global,
@@ -98,13 +136,13 @@ pub fn end_of(
     texts: &[&[u8]],
 ) -> Result<(u8, bool, Bytes), NoMemory> {
     let words = words_of(alloc, texts)?;
-    let mut line = MemLine::new(alloc, Vec::new(alloc), Vec::new(alloc));
+    let mut lines = MemLines::new(alloc, Vec::new(alloc), Vec::new(alloc));
     let mut out = MemSink::new(alloc, Vec::new(alloc));
     let (ended, _) = run_program(
         alloc,
         words.as_slice(),
         disk.into_ready(),
-        &mut line,
+        &mut lines,
         0,
         [0; 16],
         &mut out,

@@ -1,5 +1,6 @@
 //! What a line does, one after another.
-ghost use Rattle.std.specs.Prelude.{◌≡◌, false, map, IfOk};
+ghost use Rattle.std.specs.Prelude.{map, IfOk};
+ghost use Rattle.binkp_link.specs.LineSources.{IsUnused};
 ghost use Rattle.binkp_link.specs.MemLines.{mem_state};
 ghost use Rattle.binkp_link.specs.Scripts.{AllGiveSome, AllTakeSome, GivesSome, act_of};
 
@@ -70,7 +71,7 @@ pub(crate) fn scripted_line(
     found: &[Found],
     takes: Takes,
 ) -> Result<MemLine, NoMemory>
-    ensures { IfOk result (λ line. ((mem_state line).calm ≡ 0) × ((mem_state line).closed ≡ false)) }
+    ensures { IfOk result (λ line. IsUnused (mem_state line)) }
 {
     let reads = reads_of(alloc, found)?;
     Ok(MemLine::new(alloc, reads, writes_of(alloc, takes)?))

@@ -1,10 +1,12 @@
 //! The mailer over a folder, of which the syncs alone are noted.
-ghost use Rattle.std.specs.Prelude.{◌≡◌, false, IfOk};
+ghost use Rattle.std.specs.Prelude.{◌≡◌, IfOk};
+ghost use Rattle.binkp_link.specs.LineSources.{IsUnused};
+ghost use Rattle.binkp_link.specs.MemLineSources.{lines_state, new_lines};
 ghost use Rattle.binkp_link.specs.MemLines.{mem_state};
 ghost use Rattle.binkp_link.specs.Scripts.{GivesSome, act_of};
 
 use anyhow::Result;
-use binkp_link::{MemLine, MemSink, ReadAct};
+use binkp_link::{MemLine, MemLines, MemSink, NextAct, ReadAct};
 use binkp_mailer::run_program;
 use ftn_addr::{Bytes, NoMemory};
 use real_edge::RealFolder;
@@ -53,7 +55,7 @@ fn word_at<'t>(pieces: &[&'t str], turn: usize) -> &'t str {
 
 // A line on which these pieces come one after another, and then the end.
 fn line_of(alloc: Global, pieces: &[&str]) -> Result<MemLine, NoMemory>
-    ensures { IfOk result (λ line. ((mem_state line).calm ≡ 0) × ((mem_state line).closed ≡ false)) }
+    ensures { IfOk result (λ line. IsUnused (mem_state line)) }
 {
     let mut reads = Vec::new(alloc);
     for turn in 0..pieces.len().saturating_mul(3) {
@@ -62,6 +64,15 @@ fn line_of(alloc: Global, pieces: &[&str]) -> Result<MemLine, NoMemory>
     }
     reads.push(ReadAct::Quiet)?;
     Ok(MemLine::new(alloc, reads, Vec::new(alloc)))
+}
+
+// The source whose next caller has such a line.
+fn caller(alloc: Global, pieces: &[&str]) -> Result<MemLines, NoMemory>
+    ensures { IfOk result (λ lines. lines_state lines ≡ new_lines) }
+{
+    let line = line_of(alloc, pieces)?;
+    let next = vec![in alloc; NextAct::Line(line)]?;
+    Ok(MemLines::new(alloc, next, Vec::new(alloc)))
 }
 
 // The words of the mailer.
@@ -73,18 +84,17 @@ fn named(alloc: Global, words: &[&str]) -> Result<Vec<Bytes>, NoMemory> {
     Ok(all)
 }
 
-// Runs the mailer over that folder and that line: the exit status.
+// Runs the mailer over that folder and those lines: the exit status.
 fn run_over<R: Files + AllocGlobal + Clone + Drop>(
     alloc: Global,
     folder: RealFolder<R>,
     named: &[Bytes],
-    line: &mut MemLine,
+    lines: &mut MemLines,
 ) -> u8
-    requires calm { (mem_state line.old).calm ≡ 0 }
-    requires open { (mem_state line.old).closed ≡ false }
+    requires { lines_state lines.old ≡ new_lines }
 {
     let mut out = MemSink::new(alloc, Vec::new(alloc));
-    let (ended, _) = run_program(alloc, named, folder, line, 0, [0; 16], &mut out);
+    let (ended, _) = run_program(alloc, named, folder, lines, 0, [0; 16], &mut out);
     ended.exit
 }
 
@@ -94,13 +104,12 @@ fn run_at(
     seen: &Seen,
     path: &str,
     named: &[Bytes],
-    line: &mut MemLine,
+    lines: &mut MemLines,
 ) -> Result<u8, NoMemory>
-    requires calm { (mem_state line.old).calm ≡ 0 }
-    requires open { (mem_state line.old).closed ≡ false }
+    requires { lines_state lines.old ≡ new_lines }
 {
     let folder = RealFolder::new(Watched { rt, seen }, path)?;
-    Ok(run_over(rt.alloc(), folder, named, line))
+    Ok(run_over(rt.alloc(), folder, named, lines))
 }
 
 // The same where the caller says these pieces.
@@ -112,8 +121,8 @@ fn run_words(
     pieces: &[&str],
 ) -> Result<u8, NoMemory> {
     let named = named(rt.alloc(), words)?;
-    let mut line = line_of(rt.alloc(), pieces)?;
-    run_at(rt, seen, path, named.as_slice(), &mut line)
+    let mut lines = caller(rt.alloc(), pieces)?;
+    run_at(rt, seen, path, named.as_slice(), &mut lines)
 }
 
 // Runs the mailer, and prints its exit status and the syncs that it asked for.

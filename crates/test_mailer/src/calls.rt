@@ -184,7 +184,7 @@ fn act_next(alloc: Global, rest: Resting, is_told: bool) -> Acted {
     Ok((text, disk))
 }
 
-// How the program ends with these words, over a line on which nothing comes.
+// How the program ends with these words, where nobody calls.
 fn end(alloc: Global, texts: &Texts, rest: Resting, words: &[&str]) -> Acted {
     let named = texts.pieces(words_from(words, 1))?;
     let named = slices(alloc, named.as_slice())?;

@@ -14,7 +14,7 @@
 //! queue 13 one 1                       a file is queued for 2:5047/13: prints `queue 13 one 1: New(1)`
 //! source PATH delete                   that file is queued for 2:5047/13, to be left, deleted or cut then
 //! act, acts                            what the store answers that is to act on the next source, or whether it does
-//! ends WORD..                          how the program ends with these words, over a line on which nothing comes
+//! ends WORD..                          how the program ends with these words, where nobody calls
 //! fail 3                               the third call of the disk in the next call of the program fails
 //! answer < $LOGIN $OFFER $END          the call of these words, with a peer that says all that at once:
 //!                                      prints `answer < ..: Done $GREETING $WELCOME`

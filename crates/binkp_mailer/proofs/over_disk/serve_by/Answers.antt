@@ -1,7 +1,7 @@
 use Rattle.std.proofs.Common.{ap, refl, subst, inl, inr, Err}
-use Rattle.ftn_addr.specs.Address.{Address}
+use Rattle.ftn_addr.specs.Address.{Address, address}
 use Rattle.mail_conf.specs.ConfView.{conf_text}
-use Rattle.session_auth.specs.Sides.{side_of}
+use Rattle.session_auth.specs.Sides.{Answers, Calls, side_of}
 use Rattle.binkp_mailer.specs.DiskCall.{No_call}
 use Rattle.command_words.specs.Forms.{texts}
 use Rattle.binkp_mailer.specs.Words.{AreWords}
@@ -19,19 +19,12 @@ returns-in-Err-Usage g c =
     (no_read g.D.Disk.tells g.D.Disk.content g.D.Disk.fault_count g.D.Disk.moment g.D.Disk.images c.args.disk) refl
 
 pub returns-in-Err-NoMemory : goal.returns-in-Err-NoMemory
-returns-in-Err-NoMemory g c =
-    No_call (conf_text c.args.conf.now) c.requires.settings refl (inr refl) (no_read g.D.Disk.tells g.D.Disk.content g.D.Disk.fault_count g.D.Disk.moment g.D.Disk.images c.args.disk) refl
+returns-in-Err-NoMemory g c = No_call (conf_text c.args.conf.now) c.requires.settings refl (inr refl) (no_read g.D.Disk.tells g.D.Disk.content g.D.Disk.fault_count g.D.Disk.moment g.D.Disk.images c.args.disk) refl
 
 -- What the words ask for is read with the home of the settings.
 
-pub serve_side-requires-clause-asked : goal.serve_side-requires-clause-asked
-serve_side-requires-clause-asked g c = (texts c.args.words.now, subst (λ (home : Address). AreWords (texts c.args.words.now) home (side_of c.in-Ok.side)) c.home_of.ensures c.in-Ok.ensures.ok)
+pub returns-in-Ok-Answers : goal.returns-in-Ok-Answers
+returns-in-Ok-Answers g c = c.answer.ensures (texts c.args.words.now) (subst (λ (home : Address). AreWords (texts c.args.words.now) home Answers) c.home_of.ensures (rw (ap side_of c.in-Ok-Answers.field-0-is) at c.in-Ok-Answers.ensures.ok))
 
-pub serve_by_index-requires-clause-asked : goal.serve_by_index-requires-clause-asked
-serve_by_index-requires-clause-asked g c = (texts c.args.words.now, subst (λ (home : Address). AreWords (texts c.args.words.now) home (side_of c.in-Ok.side)) c.home_of.ensures c.in-Ok.ensures.ok)
-
-pub returns-then-has_host : goal.returns-then-has_host
-returns-then-has_host g c = c.serve_side.ensures (texts c.args.words.now) (subst (λ (home : Address). AreWords (texts c.args.words.now) home (side_of c.in-Ok.side)) c.home_of.ensures c.in-Ok.ensures.ok)
-
-pub returns-else-has_host : goal.returns-else-has_host
-returns-else-has_host g c = c.serve_by_index.ensures (texts c.args.words.now) (subst (λ (home : Address). AreWords (texts c.args.words.now) home (side_of c.in-Ok.side)) c.home_of.ensures c.in-Ok.ensures.ok)
+pub returns-in-Ok-Calls : goal.returns-in-Ok-Calls
+returns-in-Ok-Calls g c = c.call_peer.ensures (texts c.args.words.now) (subst (λ (home : Address). AreWords (texts c.args.words.now) home (Calls (address c.in-Ok-Calls.peer))) c.home_of.ensures (rw (ap side_of c.in-Ok-Calls.field-0-is) at c.in-Ok-Calls.ensures.ok))

@@ -4,7 +4,7 @@ use Rattle.command_base.proofs.ReadOnly.{no_read}
 use Rattle.binkp_mailer.proofs.over_disk.serve_disk.Goals as goal
 
 pub serve_words-requires-clause-form : goal.serve_words-requires-clause-form
-serve_words-requires-clause-form g c = c.in-Ok-true.ensures.yes (ap (λ (b : Bool). Ok b) c.in-Ok-true.field-0-test)
+serve_words-requires-clause-form g c = λ ks outlives. c.in-Ok-true.ensures.yes (ap (λ (b : Bool). Ok b) c.in-Ok-true.field-0-test)
 
 pub returns-in-Ok-true : goal.returns-in-Ok-true
 returns-in-Ok-true g c = c.serve_words.ensures

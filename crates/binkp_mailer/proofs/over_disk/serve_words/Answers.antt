@@ -7,7 +7,7 @@ use Rattle.binkp_mailer.proofs.ReadOnly.{call_before}
 use Rattle.binkp_mailer.proofs.over_disk.serve_words.Goals as goal
 
 pub serve_by-requires-clause-keeps : goal.serve_by-requires-clause-keeps
-serve_by-requires-clause-keeps g c = c.what_is_read_keeps_limits.ensures c.in-Ok.ensures.ok.text (conf_text c.in-Ok.conf) c.in-Ok.ensures.ok.spells
+serve_by-requires-clause-keeps g c = λ ks outlives. c.what_is_read_keeps_limits.ensures c.in-Ok.ensures.ok.text (conf_text c.in-Ok.conf) c.in-Ok.ensures.ok.spells
 
 pub returns-in-Ok : goal.returns-in-Ok
 returns-in-Ok g c =

@@ -8,7 +8,7 @@ returns-in-Ok-true g c =
 
 pub returns-in-Ok-false : goal.returns-in-Ok-false
 returns-in-Ok-false g c =
-    A_call (c.in-Ok-false.ensures.no (ap (λ (b : Bool). Ok b) c.in-Ok-false.field-0-test)) (record { call = c.run_line.ensures.call; cause = c.run_line.ensures.cause; out_cause = c.run_line.ensures.out_cause; stays = c.run_line.ensures.stays })
+    A_call (c.in-Ok-false.ensures.no (ap (λ (b : Bool). Ok b) c.in-Ok-false.field-0-test)) (record { call = c.run_call.ensures.call; cause = c.run_call.ensures.cause; out_cause = c.run_call.ensures.out_cause; stays = c.run_call.ensures.stays })
 
 pub returns-in-Err : goal.returns-in-Err
 returns-in-Err g c = No_words c.print.ensures refl refl

@@ -6,25 +6,13 @@ use Rattle.outbound_store.specs.declared.taking_store.TakingStore.{TakingStore}
 use Rattle.session_auth.specs.Sides.{side_of}
 use Rattle.session_run.specs.Reports.{report_text}
 use Rattle.binkp_mailer.specs.Settings.{hub_settings}
-use Rattle.binkp_mailer.specs.TopCall.{Has_no_host}
 use Rattle.binkp_mailer.proofs.TopCalls.{answers_once, answers_stay, answers_causes, declined_call, none_once, none_stays, seated_call, stops_once, stops_stay}
 use Rattle.binkp_mailer.proofs.with_outbound.hold_with_outbound.Goals as goal
 
--- The node has no host.
-
-pub returns-then-not-is_reached-clause-call : goal.returns-then-not-is_reached-clause-call
-returns-then-not-is_reached-clause-call g c = λ words are.
-    declined_call words _ _ (stand_of g.D.Disk.tells g.D.Disk.content g.D.Disk.fault_count g.D.Disk.moment g.D.Disk.images c.args.store) _ (Has_no_host refl (side_of c.args.side) are (sym c.is_reached.ensures ∙ c.if-not-is_reached.true))
-
-pub returns-then-not-is_reached-clause-once : goal.returns-then-not-is_reached-clause-once
-returns-then-not-is_reached-clause-once g c =
-    none_once (conf_text c.args.conf.now) (stand_of g.D.Disk.tells g.D.Disk.content g.D.Disk.fault_count g.D.Disk.moment g.D.Disk.images c.args.store).state ((c.requires.fits (hub_settings (conf_text c.args.conf.now))).fitted c.requires.whole)
-
-pub returns-then-not-is_reached-clause-stays : goal.returns-then-not-is_reached-clause-stays
-returns-then-not-is_reached-clause-stays g c =
-    none_stays (stand_of g.D.Disk.tells g.D.Disk.content g.D.Disk.fault_count g.D.Disk.moment g.D.Disk.images c.args.store).state.content
-
 -- There was no memory for the hub.
+
+pub returns-in-Err-clause-call : goal.returns-in-Err-clause-call
+returns-in-Err-clause-call g c = rw c.in-Err.ensures.err (declined_call (side_of c.args.side) _ _ (stand_of g.D.Disk.tells g.D.Disk.content g.D.Disk.fault_count g.D.Disk.moment g.D.Disk.images c.args.store))
 
 pub returns-in-Err-clause-once : goal.returns-in-Err-clause-once
 returns-in-Err-clause-once g c =
@@ -37,24 +25,24 @@ returns-in-Err-clause-stays g c =
 -- The session.
 
 pub returns-clause-call : goal.returns-clause-call
-returns-clause-call g c = λ words are.
+returns-clause-call g c =
     let same : c.into_store-2.result ≡ c.run_session-report.new.desk.desk.hub.store.store = c.into_store-2.ensures ∙ ap (λ (s : TakingStore g.row.D.Denot). s.store) c.into_store.ensures.store in
-    seated_call words (side_of c.args.side) _ _ _ _ _ _ _ (report_text c.run_session-report.result) (hub_state c.in-Ok.desk.desk.hub.seats) (hub_state c.run_session-report.new.desk.desk.hub.seats) c.in-Ok.desk.desk.seat c.run_session-report.new.desk.desk.seat are (sym c.is_reached.ensures ∙ c.if-not-is_reached.false) refl refl
+    seated_call (side_of c.args.side) _ _ _ _ _ _ _ (report_text c.run_session-report.result) (hub_state c.in-Ok.desk.desk.hub.seats) (hub_state c.run_session-report.new.desk.desk.hub.seats) c.in-Ok.desk.desk.seat c.run_session-report.new.desk.desk.seat refl refl
     c.in-Ok.ensures.hub
     c.in-Ok.ensures.seat
     (rw same (rw c.in-Ok.ensures.store at c.run_session-report.ensures.session))
 
 pub returns-clause-cause : goal.returns-clause-cause
-returns-clause-cause g c = answers_causes _ _ _ _ _ _ _ _ (returns-clause-call g c c.requires.asked.0 c.requires.asked.1).answers c.requires.whole
+returns-clause-cause g c = answers_causes _ _ _ _ _ _ _ _ (returns-clause-call g c).answers c.requires.whole
 
 pub returns-clause-once : goal.returns-clause-once
-returns-clause-once g c = answers_once _ _ _ _ _ _ _ _ (returns-clause-call g c c.requires.asked.0 c.requires.asked.1).answers ((c.requires.fits (hub_settings (conf_text c.args.conf.now))).fitted c.requires.whole)
+returns-clause-once g c = answers_once _ _ _ _ _ _ _ _ (returns-clause-call g c).answers ((c.requires.fits (hub_settings (conf_text c.args.conf.now))).fitted c.requires.whole)
 
 pub returns-clause-stays : goal.returns-clause-stays
-returns-clause-stays g c = answers_stay _ _ _ _ _ _ _ _ (returns-clause-call g c c.requires.asked.0 c.requires.asked.1).answers
+returns-clause-stays g c = answers_stay _ _ _ _ _ _ _ _ (returns-clause-call g c).answers
 
 pub returns-clause-stop_once : goal.returns-clause-stop_once
-returns-clause-stop_once g c = stops_once _ _ _ _ _ _ _ _ (returns-clause-call g c c.requires.asked.0 c.requires.asked.1) ((c.requires.fits (hub_settings (conf_text c.args.conf.now))).fitted c.requires.whole)
+returns-clause-stop_once g c = stops_once _ _ _ _ _ _ _ _ (returns-clause-call g c) ((c.requires.fits (hub_settings (conf_text c.args.conf.now))).fitted c.requires.whole)
 
 pub returns-clause-stop_stays : goal.returns-clause-stop_stays
-returns-clause-stop_stays g c = stops_stay _ _ _ _ _ _ _ _ (returns-clause-call g c c.requires.asked.0 c.requires.asked.1)
+returns-clause-stop_stays g c = stops_stay _ _ _ _ _ _ _ _ (returns-clause-call g c)

@@ -1,0 +1,21 @@
+use Rattle.std.proofs.Common.{◌∙◌, ap, inr, option_map, refl, sym}
+use Rattle.mail_conf.specs.ConfView.{conf_text}
+use Rattle.command_base.proofs.ReadOnly.{no_read}
+use Rattle.binkp_mailer.specs.Hosts.{host_text}
+use Rattle.binkp_mailer.specs.DiskCall.{Is_listed, No_call}
+use Rattle.binkp_mailer.proofs.reaching.call_listed.Goals as goal
+
+pub call_host-requires-clause-host : goal.call_host-requires-clause-host
+call_host-requires-clause-host g c = λ ks outlives. Is_listed c.requires.unset _ c.requires.index (sym c.in-Ok-Some.ensures ∙ ap (option_map host_text) c.in-Ok-Some.field-0-is)
+
+pub refuse_node-requires-clause-unlisted : goal.refuse_node-requires-clause-unlisted
+refuse_node-requires-clause-unlisted g c = sym c.in-Ok-None.ensures ∙ ap (option_map host_text) c.in-Ok-None.field-0-is
+
+pub returns-in-Ok-Some : goal.returns-in-Ok-Some
+returns-in-Ok-Some g c = c.call_host.ensures
+
+pub returns-in-Ok-None : goal.returns-in-Ok-None
+returns-in-Ok-None g c = λ words are. c.refuse_node.ensures words _ _ _ are
+
+pub returns-in-Err : goal.returns-in-Err
+returns-in-Err g c = λ words are. No_call (conf_text c.args.conf.now) c.requires.settings refl (inr refl) (no_read g.D.Disk.tells g.D.Disk.content g.D.Disk.fault_count g.D.Disk.moment g.D.Disk.images c.args.disk) refl
