@@ -14,28 +14,38 @@ import subprocess
 import tempfile
 
 from wire import (
+    CALL,
+    CALLER_GREETING,
     DONE,
     DROPPED,
     END,
     ERR,
     HEARD_HELLO,
     CALL_HELLO,
+    HELLO,
     LET_IN,
     LOGIN,
+    OK,
+    PATIENCE,
     PEER,
     SETTINGS,
     USAGE,
     ADR,
     PWD,
     WORDS,
+    accepted,
+    begun,
     command,
     data,
     difference,
+    ended,
     got,
     leave,
     offer,
+    reached,
     run_in,
     settle,
+    spoken,
     told,
     took,
     whole,
@@ -196,6 +206,52 @@ def marks_that_are_no_files(program):
     return ""
 
 
+def call_marks_that_are_no_files(program):
+    """a folder, and a link to nothing, under a call mark's path are a mark, and nobody is dialled"""
+    for kind in ("folder", "link"):
+        with own_folder(**{"outbound/13b7000d.cut": b"packet"}) as folder:
+            mark = os.path.join(folder, "outbound/13b7000d.csy")
+            if kind == "folder":
+                os.mkdir(mark)
+            else:
+                os.symlink("nowhere", mark)
+            fault = difference(run_in(program, folder, CALL, b"", user=user()), b"", ended(14, b"Marked 13b7000d.csy"), 14)
+            fault = fault or ("" if os.path.lexists(mark) else "the mark is gone")
+            if fault:
+                return "%s: %s" % (kind, fault)
+    return ""
+
+
+def a_call_mark_that_may_not_be_made(program):
+    """where the mark of a node may not be made nobody is dialled, and the next call goes on"""
+    left = {"outbound/13b7000d.cut": b"packet"}
+    with own_folder(**left) as folder:
+        lock_away(os.path.join(folder, "outbound"), 0o555)
+        fault = difference(run_in(program, folder, CALL, b"", user=user()), b"", ended(3, b"DiskFault 1", denied(b"link")), 3)
+        os.chmod(os.path.join(folder, "outbound"), 0o777)
+        fault = fault or difference(run_in(program, folder, CALL, b"", user=user()), CALLER_GREETING, told(DROPPED, b"", 0), 7)
+        kept = [it for it in whole(folder) if it[0] not in ("binkp.conf", "ledger")]
+        return fault or ("" if kept == [*left.items()] else "the folder has %r" % kept)
+
+
+def a_call_mark_that_may_not_be_taken_away(program):
+    """where the mark of a node may not be taken away behind its session that is told, and the next call does it"""
+    with own_folder() as folder:
+        with reached(folder) as listener:
+            child = begun(program, folder, CALL, subprocess.DEVNULL, user=user())
+            line = accepted(listener, child)
+            if line is None:
+                return "nobody was dialled"
+            lock_away(os.path.join(folder, "outbound"), 0o555)
+            spoken(line, command(ADR, PEER) + command(OK, b"non-secure") + HELLO + data(b"hello") + END)
+        failed = told(DONE, PEER, 1) + ended(3, b"DiskFault 1", denied(b"unlink"))
+        fault = difference((b"", child.communicate(timeout=PATIENCE)[1], child.returncode), b"", failed, 3)
+        os.chmod(os.path.join(folder, "outbound"), 0o777)
+        fault = fault or difference(run_in(program, folder, CALL, b"", user=user()), CALLER_GREETING, told(DROPPED, b"", 0), 7)
+        kept = [it for it in whole(folder) if it[0] not in ("binkp.conf", "ledger")]
+        return fault or ("" if kept == [("inbound/a.txt", b"hello")] else "the folder has %r" % kept)
+
+
 def an_inbound_that_is_the_own_folder(program):
     """where the inbound is the own folder, however it is spelled, a peer's file waits and becomes no file of the folder"""
     planted = b"t00000009-0002270f00010000.flo"
@@ -261,8 +317,10 @@ def no_room(program):
         fault = difference(run_in(program, folder, WORDS, said, before=short_files, user=user()), LET_IN + command(ERR, b"disk fault"), fault_line, 3)
         again = LET_IN + got(b"big", len(content), 7) + END
         fault = fault or difference(run_in(program, folder, WORDS, said, user=user()), again, told(DONE, PEER, 1), 0)
+        if fault:
+            return fault
         with open(os.path.join(folder, "inbound", "big"), "rb") as file:
-            return fault or ("" if file.read() == content else "the file is another")
+            return "" if file.read() == content else "the file is another"
 
 
 def no_folder_beside_another_program(program):
@@ -286,6 +344,9 @@ CASES = [
     a_folder_of_another_node,
     settings_to_be_read_alone,
     marks_that_are_no_files,
+    call_marks_that_are_no_files,
+    a_call_mark_that_may_not_be_made,
+    a_call_mark_that_may_not_be_taken_away,
     an_inbound_that_is_the_own_folder,
     a_folder_that_may_not_be_opened,
     no_more_open_files,

@@ -1,10 +1,17 @@
-"""Frames of binkp (FTS-1026), folders and runs of the built program, for the checks here and for bench/."""
+"""Frames of binkp (FTS-1026), folders and runs of the built program, for the checks here and for bench/.
+
+A `call` dials a listener on this machine, which stands for `peer.example` in the folder's settings.
+"""
+import contextlib
 import email.utils
 import os
 import re
 import resource
+import select
+import socket
 import subprocess
 import sys
+import threading
 import time
 
 ROOT = os.path.dirname(os.path.dirname(os.path.abspath(__file__)))
@@ -39,6 +46,9 @@ PEER = b"2:5047/13@fidonet"
 
 WORDS = ["answer"]
 CALL = ["call", PEER.decode()]
+
+# How long a session may take, in seconds.
+PATIENCE = 60
 
 # The settings of most sessions: the own address, and a node with a host and no password.
 SETTINGS = b"address %s\nnode %s peer.example\n" % (HOME, PEER)
@@ -123,15 +133,86 @@ def start(program, folder, words, given=subprocess.PIPE, taken=subprocess.PIPE):
     return subprocess.Popen([program, folder] + words, cwd=folder, stdin=given, stdout=taken, stderr=subprocess.PIPE)
 
 
-def over_pipes(one, other):
-    """Two programs over two pipes, of which each reads what the other writes: each is started by its function of what it reads from
-    and writes to."""
-    to_other, from_one = os.pipe()
-    to_one, from_other = os.pipe()
-    children = [one(to_one, from_one), other(to_other, from_other)]
-    for end in (to_other, from_one, to_one, from_other):
-        os.close(end)
-    return children
+@contextlib.contextmanager
+def reached(folder):
+    """A listener at a free port. Meanwhile the folder's settings, where there are any, have it in place of `peer.example`."""
+    path = os.path.join(folder, "binkp.conf")
+    before = None
+    if os.path.isfile(path):
+        with open(path, "rb") as file:
+            before = file.read()
+    with socket.create_server(("127.0.0.1", 0)) as listener:
+        port = b"%d" % listener.getsockname()[1]
+        if before is not None:
+            settle(folder, before.replace(b"peer.example", b"127.0.0.1:" + port))
+        try:
+            yield listener
+        finally:
+            settle(folder, before)
+
+
+def accepted(listener, child):
+    """The line of a child that dials; none where it ends without that."""
+    until = time.monotonic() + PATIENCE
+    while time.monotonic() < until:
+        is_over = child.poll() is not None
+        if select.select([listener], [], [], 0.02)[0]:
+            return listener.accept()[0]
+        if is_over:
+            return None
+    child.kill()
+    raise subprocess.TimeoutExpired(child.args, PATIENCE)
+
+
+def say(line, taken, pieces=False):
+    """Says all that over a socket, and ends this way of it, as far as the other side takes it."""
+    try:
+        for piece in [bytes([byte]) for byte in taken] if pieces else [taken]:
+            line.sendall(piece)
+        line.shutdown(socket.SHUT_WR)
+    except OSError:
+        pass
+
+
+def hear(line):
+    """What comes over a socket until its end, or until the other side breaks it."""
+    heard = b""
+    with contextlib.suppress(ConnectionResetError):
+        while piece := line.recv(65536):
+            heard += piece
+    return heard
+
+
+def spoken(line, taken, pieces=False):
+    """What comes over a socket until its end, while all that is said."""
+    with line:
+        line.settimeout(PATIENCE)
+        speaker = threading.Thread(target=say, args=(line, taken, pieces))
+        speaker.start()
+        heard = hear(line)
+        speaker.join()
+    return heard
+
+
+def called(child, listener, taken, pieces=False):
+    """What a child that calls writes, none where it dials nobody, what it tells, and its exit status. What it writes to its standard
+    output counts too: it has nothing to say there."""
+    line = accepted(listener, child)
+    given = spoken(line, taken, pieces) or b"a line, and no byte" if line else b""
+    written, told = child.communicate(timeout=PATIENCE)
+    return settled(given + written), told, child.returncode
+
+
+def over_line(program, near, words, far):
+    """Two programs, of which one calls the other: the one that calls, and the one that answers over the line that was dialled, as
+    under inetd."""
+    with reached(near) as listener:
+        caller = start(program, near, words, subprocess.DEVNULL)
+        line = accepted(listener, caller)
+        if line is None:
+            return caller, start(program, far, WORDS, subprocess.DEVNULL)
+        with line:
+            return caller, start(program, far, WORDS, line, line)
 
 
 TIME = re.compile(rb"TIME (\w\w\w, \d\d \w\w\w \d\d\d\d \d\d:\d\d:\d\d \+0000)")
@@ -146,12 +227,20 @@ def settled(given):
     return given
 
 
-def run_in(program, folder, words, taken, pieces=False, before=None, user=None):
-    """What the program writes on output and error over that folder, and its exit status. Its inbound stands in the folder. With a
-    user it has that one's rights alone."""
+def begun(program, folder, words, given, before=None, user=None):
+    """Starts the program over that folder, beside which it stands where that isn't one. With a user it has that one's rights alone."""
     at = folder if os.path.isdir(folder) else os.path.dirname(folder)
     rights = {} if user is None else {"user": user, "group": user, "extra_groups": []}
-    child = subprocess.Popen([program, folder] + words, cwd=at, stdin=subprocess.PIPE, stdout=subprocess.PIPE, stderr=subprocess.PIPE, preexec_fn=before, **rights)
+    return subprocess.Popen([program, folder] + words, cwd=at, stdin=given, stdout=subprocess.PIPE, stderr=subprocess.PIPE, preexec_fn=before, **rights)
+
+
+def run_in(program, folder, words, taken, pieces=False, before=None, user=None):
+    """What the program writes on its line and on error over that folder, and its exit status: the line that it dials where it calls,
+    else the standard streams. Its inbound stands in the folder."""
+    if words[:1] == ["call"]:
+        with reached(folder) as listener:
+            return called(begun(program, folder, words, subprocess.DEVNULL, before, user), listener, taken, pieces)
+    child = begun(program, folder, words, subprocess.PIPE, before, user)
     if pieces:
         try:
             for byte in taken:
@@ -159,7 +248,7 @@ def run_in(program, folder, words, taken, pieces=False, before=None, user=None):
         except BrokenPipeError:
             pass
         taken = b""
-    given, told = child.communicate(taken, timeout=60)
+    given, told = child.communicate(taken, timeout=PATIENCE)
     return settled(given), told, child.returncode
 
 
