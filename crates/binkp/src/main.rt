@@ -1,10 +1,10 @@
-//! `binkp DIR WORDS` is the mailer over the folder DIR: it answers a caller on standard input and output, as under inetd, or calls
-//! a node at its host. What came of it goes to standard error.
+//! `binkp DIR WORDS` is the mailer over the folder DIR: it serves until it is told to stop, answers a caller on standard input and
+//! output, as under inetd, or calls a node at its host. What comes of it goes to standard error.
 //!
 //! `binkp --help` and `binkp --version` tell of the program itself.
 //!
-//! All else that it does is [`run_program`](binkp_mailer::run_program)'s, with the system's folder, lines and clock, and a challenge of
-//! the system's randomness. `main` hands them on, and holds the system's lock on the folder, so that one program at a time works
+//! All else that it does is [`run_program`](binkp_mailer::run_program)'s, with the system's folder, lines and clock, and challenges
+//! of the system's randomness. `main` hands them on, and holds the system's lock on the folder, so that one program at a time works
 //! on it.
 #![tactic(auto)]
 
@@ -14,16 +14,18 @@ ghost use Rattle.real_edge.specs.SystemLines.{system_lines};
 
 mod closed;
 mod lock;
+mod outbound;
 mod told;
 
-use binkp_link::Dice;
 use binkp_mailer::{Ended, refuse_for_memory, run_program};
 use closed::hold_closed;
 use ftn_addr::{Bytes, NoMemory};
 use lock::lock;
+use outbound::look_for_outbound;
 use real_edge::{RealFolder, StdSink, SystemClock, SystemDice, SystemLines, standard_line};
 use std::process::ExitCode;
 use std::rt::{Env, Stdin, Stdout};
+use std::sync::Wait;
 use std::{env, io};
 use told::tell;
 
@@ -59,6 +61,11 @@ fn read_given<R: Env + AllocGlobal>(rt: &R) -> Result<Given, NoMemory> {
     Ok(Given { folder, words })
 }
 
+/// Whether that is the first word behind the folder.
+fn is_word(words: &[Bytes], word: &[u8]) -> bool {
+    words.first().is_some_and(|first| first.as_slice() == word)
+}
+
 /// The lines of the system. The standard streams are one of them where a caller is answered there, and nobody else needs them.
 fn lines(
     rt: &HostRuntime,
@@ -68,11 +75,10 @@ fn lines(
     ensures { IfOk result (λ lines. IsFresh (system_lines lines.counts)) }
 {
     let stop_file = format!(in rt.alloc(); "{path}/stop")?;
-    let standard = match words.first() {
-        Some(word) if word.as_slice() == b"answer".as_slice() => {
-            Some(standard_line(rt, rt.stdin(), rt.stdout())?)
-        }
-        _ => None,
+    let standard = if is_word(words, b"answer") {
+        Some(standard_line(rt, rt.stdin(), rt.stdout())?)
+    } else {
+        None
     };
     Ok(SystemLines::new(rt.clone()?, standard, stop_file))
 }
@@ -91,27 +97,32 @@ fn not_started(rt: &HostRuntime, error: io::Error) -> Ended {
 
 /// Makes the call over the folder, and says why the system refused a call, where one was refused, also where that
 /// stopped nothing.
-fn call(
+fn call<W: Wait>(
+    wait: &W,
     rt: &HostRuntime,
     folder: RealFolder<HostRuntime>,
     path: &str,
     words: &[Bytes],
-    challenge: [u8; 16],
+    dice: &mut SystemDice,
 ) -> Ended {
+    let mut folder = folder;
     let mut lines = match lines(rt, path, words) {
         Ok(lines) => lines,
         Err(error) => return not_started(rt, error),
     };
+    if words.len() == 1 && is_word(words, b"serve") {
+        look_for_outbound(rt, &mut folder);
+    }
     let mut out = StdSink::new(rt.stderr());
     let mut clock = SystemClock::new(rt);
-    let moment = clock.seconds();
     let (ended, folder) = run_program(
+        wait,
         rt.alloc(),
         words,
         folder,
         &mut lines,
-        moment,
-        challenge,
+        &mut clock,
+        dice,
         &mut out,
     );
     if let Some(error) = folder.last_error() {
@@ -122,25 +133,31 @@ fn call(
 }
 
 /// Makes the call that the words ask for over the folder of that path, or says that there is no memory for it.
-fn call_in(rt: &HostRuntime, path: &str, words: &[Bytes], challenge: [u8; 16]) -> Ended {
+fn call_in<W: Wait>(
+    wait: &W,
+    rt: &HostRuntime,
+    path: &str,
+    words: &[Bytes],
+    dice: &mut SystemDice,
+) -> Ended {
     let Ok(runtime) = rt.clone() else {
         return refuse_for_memory(rt.alloc(), &mut StdSink::new(rt.stderr()));
     };
     match RealFolder::new(runtime, path) {
-        Ok(folder) => call(rt, folder, path, words, challenge),
+        Ok(folder) => call(wait, rt, folder, path, words, dice),
         Err(NoMemory) => refuse_for_memory(rt.alloc(), &mut StdSink::new(rt.stderr())),
     }
 }
 
 /// The exit status of a call over the folder, which is locked as long as that lasts. Where no folder is given there are no words
 /// either: they are refused before any folder is touched, and none is locked.
-fn program(rt: &HostRuntime, given: &Given) -> u8 {
+fn program<W: Wait>(wait: &W, rt: &HostRuntime, given: &Given) -> u8 {
     let _streams = match hold_closed(rt) {
         Ok(held) => held,
         Err(error) => return not_started(rt, error).exit,
     };
-    let challenge = match SystemDice::new(rt) {
-        Ok(mut dice) => dice.sixteen(),
+    let mut dice = match SystemDice::new(rt) {
+        Ok(dice) => dice,
         Err(error) => {
             let _ = eprintln!(rt; "binkp: {error}");
             return NO_CHALLENGE;
@@ -158,7 +175,7 @@ fn program(rt: &HostRuntime, given: &Given) -> u8 {
         }
     };
     let path = given.folder.as_deref().unwrap_or(".");
-    let ended = call_in(rt, path, given.words.as_slice(), challenge);
+    let ended = call_in(wait, rt, path, given.words.as_slice(), &mut dice);
     if let Some(told) = ended.told {
         let _ = eprintln!(rt; "{told}");
     }
@@ -181,7 +198,7 @@ fn main(rt: HostRuntime) -> ExitCode {
     let exit = match read_given(&rt) {
         Ok(given) => match tells(&rt, &given) {
             Some(exit) => exit,
-            None => program(&rt, &given),
+            None => program(&rt, &rt, &given),
         },
         Err(NoMemory) => refuse_for_memory(rt.alloc(), &mut StdSink::new(rt.stderr())).exit,
     };

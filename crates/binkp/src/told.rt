@@ -5,6 +5,7 @@ const VERSION: &str = "0.2.0";
 
 const HELP: &str = "binkp carries files between FidoNet nodes by binkp/1.0, and loses none.
 
+    binkp DIR serve          answers who calls, and calls whom it has mail for, until a file `stop` stands in DIR
     binkp DIR answer         answers the caller on standard input and output
     binkp DIR call ADDR      calls a node at its host
     binkp DIR take           takes the outbound in

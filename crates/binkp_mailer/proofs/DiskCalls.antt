@@ -87,7 +87,7 @@ both_hold d None stays once = absurd stays
 both_hold d (Some s) stays once = record { stays = stays; once = λ before. once }
 
 -- one behind another
-then_opens : (a b : Durable) (e : Option Shelf) → StillHas a b → OpensShelf (λ s. StillHas b s.state) e → OpensShelf (λ s. StillHas a s.state) e
+pub then_opens : (a b : Durable) (e : Option Shelf) → StillHas a b → OpensShelf (λ s. StillHas b s.state) e → OpensShelf (λ s. StillHas a s.state) e
 then_opens a b None still opens = absurd opens
 then_opens a b (Some s) still opens = still_then a b s.state still opens
 
@@ -101,25 +101,25 @@ recovers_still d v w before recovers e op =
     opens_still d w after.0 after.1 (after.2.state ∙ before.2) e op
 
 module _ {D : Type 0} (tells : Bool) (content : D → World) (faults : D → ℕ) (moment : D → ℕ) (images : D → ℕ → World → Type 0) where
-  abbrev St : Holding D → StoreStand
+  abbrev pub St : Holding D → StoreStand
   St = stand_of tells content faults moment images
 
-  abbrev stock_of : Holding D → Durable
+  abbrev pub stock_of : Holding D → Durable
   stock_of s = (stored_in (content s.disk) s.memory).stock.state
 
   -- at each moment of an opening
-  leaves_still : (d : Durable) (disk disk' : D) → Leaves moment images Recovers disk disk' → Every (Now moment images disk) (OpensTo d)
+  pub leaves_still : (d : Durable) (disk disk' : D) → Leaves moment images Recovers disk disk' → Every (Now moment images disk) (OpensTo d)
       → (k : ℕ) (w : World) (e : Option Shelf) → moment disk ≤ k → k ≤ moment disk' → images disk' k w → Opens w e → OpensShelf (λ s. StillHas d s.state) e
   leaves_still d disk disk' leaves all k w e from to image op =
       let was = leaves.each k w from to image in
       recovers_still d was.0 w (all was.0 was.1) was.2 e op
 
   -- A disk that opened to a state before, in an opened store: what that tells now has its receipts, and so has each image since.
-  record HasSince (d : Durable) (disk : D) (s : Holding D) : Type 0 where
-    state : StillHas d (stock_of s)
-    each : (k : ℕ) (e : Option Shelf) → moment disk ≤ k → k ≤ moment s.disk → (St s).images k e → OpensShelf (λ x. StillHas d x.state) e
+  pub record HasSince (d : Durable) (disk : D) (s : Holding D) : Type 0 where
+    pub state : StillHas d (stock_of s)
+    pub each : (k : ℕ) (e : Option Shelf) → moment disk ≤ k → k ≤ moment s.disk → (St s).images k e → OpensShelf (λ x. StillHas d x.state) e
 
-  opened_since : (d : Durable) (disk : D) (opened : Holding D) → tells ≡ true → HasOpened tells content faults moment images disk opened → OpensTo d (content disk) → Every (Now moment images disk) (OpensTo d) → HasSince d disk opened
+  pub opened_since : (d : Durable) (disk : D) (opened : Holding D) → tells ≡ true → HasOpened tells content faults moment images disk opened → OpensTo d (content disk) → Every (Now moment images disk) (OpensTo d) → HasSince d disk opened
   opened_since d disk opened telling h before all = record {
     state = let is = h.told telling in still_same d (stock_of opened) (is.tidied.state ∙ ap (λ (s : Shelf). s.state) (one_shelf (content disk) before.0 is.shelf before.1 is.opens) ∙ before.2);
     each = λ k e from to image. leaves_still d disk opened.disk (h.stop telling) all k image.1 e from to image.2 image.3;
@@ -225,19 +225,19 @@ module _ {D : Type 0} (tells : Bool) (content : D → World) (faults : D → ℕ
   behind_keeps conf told was had held left (Gives_round some result gives had_is) = round_keeps St conf.inbound conf.inbound_nonsecure _ held result left gives
 
   -- a disk that was read only
-  read_still : (disk disk' : D) → OnlyRead tells content faults moment images disk disk' → KeepsReceipts content moment images disk disk'
+  pub read_still : (disk disk' : D) → OnlyRead tells content faults moment images disk disk' → KeepsReceipts content moment images disk disk'
   read_still disk disk' only = λ d reads all k w e from to image op.
       let was = only.stop.each k w from to image in
       let opens = all was.0 was.1 in
       opens_still d w (opens.0) (subst (λ (x : World). OpensAs x opens.0) (sym was.2) opens.1) opens.2 e op
 
   -- one over which a store was opened, and no more
-  opened_still : (disk disk' : D) (opened : Holding D) → tells ≡ true → HasOpened tells content faults moment images disk opened → disk' ≡ opened.disk → KeepsReceipts content moment images disk disk'
+  pub opened_still : (disk disk' : D) (opened : Holding D) → tells ≡ true → HasOpened tells content faults moment images disk opened → disk' ≡ opened.disk → KeepsReceipts content moment images disk disk'
   opened_still disk disk' opened telling h disk_is = λ d reads all k w e from to image op.
       leaves_still d disk opened.disk (h.stop telling) all k w e from (subst (λ (x : D). k ≤ moment x) disk_is to) (subst (λ (x : D). images x k w) disk_is image) op
 
   -- that of a store
-  since_still : (disk disk' : D) (left : Holding D) → tells ≡ true → disk' ≡ left.disk → ((d : Durable) → OpensTo d (content disk) → Every (Now moment images disk) (OpensTo d) → HasSince d disk left) → KeepsReceipts content moment images disk disk'
+  pub since_still : (disk disk' : D) (left : Holding D) → tells ≡ true → disk' ≡ left.disk → ((d : Durable) → OpensTo d (content disk) → Every (Now moment images disk) (OpensTo d) → HasSince d disk left) → KeepsReceipts content moment images disk disk'
   since_still disk disk' left telling disk_is has = λ d reads all k w e from to image op.
       (has d reads all).each k e from (subst (λ (x : D). k ≤ moment x) disk_is to) (telling, w, subst (λ (x : D). images x k w) disk_is image, op)
 

@@ -2,7 +2,6 @@ pub mod Completing
 pub mod DiskCalls
 pub mod DiskCauses
 pub mod Failing
-pub mod GiveSteps
 pub mod HeldParts
 pub mod Lines
 pub mod Marked
@@ -11,6 +10,8 @@ pub mod OneNode
 pub mod Outcomes
 pub mod ReadOnly
 pub mod ReservedStore
+pub mod ServeCalls
+pub mod Serving
 pub mod TopCalls
 pub mod TakenRows
 pub mod ToldCalls

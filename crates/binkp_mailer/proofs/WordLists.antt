@@ -19,6 +19,7 @@ OtherCommand (W.Lookup text) = Unit {0}
 OtherCommand (W.Compile path) = Unit {0}
 OtherCommand W.Listing = Unit {0}
 OtherCommand W.Taking = Unit {0}
+OtherCommand W.Serving = Unit {0}
 
 abbrev pub OneForm : Type 0
 OneForm = (words : List (List ℕ)) (a b : Command) → HasForm words a → HasForm words b → a ≡ b
@@ -54,6 +55,7 @@ text_of (W.Lookup text) = text
 text_of (W.Compile path) = path
 text_of W.Listing = []
 text_of W.Taking = []
+text_of W.Serving = []
 
 pub not_called : (words : List (List ℕ)) (home : Address) (text : List ℕ) → OneForm → HasForm words (W.Call text) → ((peer : Address) → Spells home text peer → ⊥) → (side : Side) → AreWords words home side → ⊥
 not_called words home text one form none side (to_answer is answer) = let clash : W.Answer ≡ W.Call text = one words W.Answer (W.Call text) answer form in cc

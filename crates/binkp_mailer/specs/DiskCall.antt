@@ -25,7 +25,7 @@ use Rattle.command_base.specs.Settings.{HasSettings, NoSettings, OnlyRead}
 use Rattle.command_base.specs.Statuses as S
 use Rattle.command_base.specs.Statuses.{Status, status_unopened}
 use Rattle.binkp_mailer.specs.Completeness.{IsDoneBehind}
-use Rattle.binkp_mailer.specs.Hosts.{listed_host, set_host}
+use Rattle.call_hosts.specs.Hosts.{listed_host, set_host}
 use Rattle.binkp_mailer.specs.Inbound.{Gives_behind}
 use Rattle.binkp_mailer.specs.OverLines.{Answers_next, Calls_node}
 use Rattle.binkp_mailer.specs.Reports.{Prints}

@@ -1,20 +1,14 @@
 -- What becomes of received files behind a session of a call (own).
-use Rattle.std.specs.Prelude.{◌≡◌, ◌⊎◌, ℕ, Bool, count_by, Option, None, Result, Err, IsSome}
+use Rattle.std.specs.Prelude.{◌≡◌, ◌⊎◌, ℕ, Bool, Option, None, Result, Err, IsSome}
 use Rattle.disk_model.specs.World.{World}
 use Rattle.inbound_files.specs.Giving.{GivesFiles}
 use Rattle.mail_conf.specs.Conf.{ConfText}
-use Rattle.node_model.specs.SendRows.{may_go}
-use Rattle.node_model.specs.Stores.{StoreStand}
 use Rattle.node_model.specs.declared.store.StoreFault.{StoreFault}
 use Rattle.node_model.specs.declared.store.StoreFault.TheVariants.{Disk}
-use Rattle.node_store.specs.Opening.{counted}
 use Rattle.node_store.specs.Stored.{Holding, stand_of}
 use Rattle.session_run.specs.Reports.{ReportText}
 use Rattle.command_base.specs.Statuses.{Status, DiskFault}
-
--- how many received files may be given
-abbrev pub waiting : StoreStand → ℕ
-waiting store = counted (count_by may_go store.state.stock.state.inbox)
+pub use Rattle.binkp_serve.specs.Rests.{waiting}
 
 -- a disk that fails turns the status of a call into its own
 abbrev pub status_behind : Result (Unit {0}) StoreFault → Status → (faults : ℕ) → Status

@@ -1,12 +1,11 @@
 pub mod Completeness
 pub mod DiskCall
-pub mod GiveSteps
-pub mod Hosts
 pub mod Inbound
 pub mod OneNode
 pub mod OverLines
 pub mod Programs
 pub mod Reports
+pub mod ServeCall
 pub mod Settings
 pub mod TopCall
 pub mod Words

@@ -6,10 +6,13 @@ use Rattle.binkp_link.specs.LineSources.{LinesState}
 use Rattle.binkp_mailer.specs.declared.program.Ended.{Ended}
 use Rattle.command_base.specs.Causes.{DiskCause}
 use Rattle.command_base.specs.Printing.{OutCause}
+use Rattle.command_words.specs.Forms as W
+use Rattle.command_words.specs.Forms.{HasForm}
 use Rattle.still_commands.specs.Receipts.{KeepsReceived}
 use Rattle.still_commands.specs.Still.{AreStill, StillCall}
 use Rattle.binkp_mailer.specs.DiskCall.{DiskCall, KeepsReceipts}
 use Rattle.binkp_mailer.specs.Reports.{Prints}
+use Rattle.binkp_mailer.specs.ServeCall.{ServeCall}
 use Rattle.command_base.specs.Statuses.{Status, Usage, NoMemory, number_of_status}
 
 module _ {D : Type 0} (files : D → World → Type 0) (tells : Bool) (content : D → World) (faults : D → ℕ) (moment : D → ℕ) (images : D → ℕ → World → Type 0) where
@@ -28,17 +31,24 @@ module _ {D : Type 0} (files : D → World → Type 0) (tells : Bool) (content :
     pub out_cause : OutCause status out out'
     pub stays : tells ≡ true → KeepsReceived content moment images disk disk'
 
-  -- Words of a command without a session run that, and no line is asked for; all others run a call. Without memory
-  -- for the words that is told, and nothing was done.
-  pub data Runs_over (words : List (List ℕ)) (challenge : List ℕ) (now : ℕ) (lines : LinesState) (disk : D) (out : SinkState) (status : Status) (lines' : LinesState) (disk' : D) (out' : SinkState) : Type 0 where
-    A_still : AreStill words → StillOver words now disk out status disk' out' → lines' ≡ lines → Runs_over words challenge now lines disk out status lines' disk' out'
-    No_words : Prints None NoMemory status out out' → lines' ≡ lines → disk' ≡ disk → Runs_over words challenge now lines disk out status lines' disk' out'
-    A_call : (AreStill words → ⊥) → CallsOver words challenge now lines disk out status lines' disk' out' → Runs_over words challenge now lines disk out status lines' disk' out'
+  -- a node that serves in the same way
+  pub record ServesOver (lines : LinesState) (disk : D) (out : SinkState) (status : Status) (lines' : LinesState) (disk' : D) (out' : SinkState) : Type 0 where
+    pub call : ServeCall tells content faults moment images lines disk out status lines' disk' out'
+    pub cause : DiskCause tells content faults status disk disk'
+    pub stays : tells ≡ true → KeepsReceipts content moment images disk disk'
+
+  -- Words of a command without a session run that, and no line is asked for; `serve` serves; all others run a call, with one challenge. Without
+  -- memory for the words that is told, and nothing was done.
+  pub data Runs_over (words : List (List ℕ)) (lines : LinesState) (disk : D) (out : SinkState) (status : Status) (lines' : LinesState) (disk' : D) (out' : SinkState) : Type 0 where
+    A_still : AreStill words → (now : ℕ) → StillOver words now disk out status disk' out' → lines' ≡ lines → Runs_over words lines disk out status lines' disk' out'
+    A_serve : HasForm words W.Serving → ServesOver lines disk out status lines' disk' out' → Runs_over words lines disk out status lines' disk' out'
+    No_words : Prints None NoMemory status out out' → lines' ≡ lines → disk' ≡ disk → Runs_over words lines disk out status lines' disk' out'
+    A_call : (AreStill words → ⊥) → (HasForm words W.Serving → ⊥) → (challenge : List ℕ) (now : ℕ) → CallsOver words challenge now lines disk out status lines' disk' out' → Runs_over words lines disk out status lines' disk' out'
 
   -- the same, told by the exit status
-  abbrev pub IsProgramCall : List (List ℕ) → List ℕ → ℕ → LinesState → D → SinkState → (exit : ℕ) → LinesState → D → SinkState → Type 0
-  IsProgramCall words challenge now lines disk out exit lines' disk' out' =
-      (status : Status) × Runs_over words challenge now lines disk out status lines' disk' out' × (exit ≡ number_of_status status)
+  abbrev pub IsProgramCall : List (List ℕ) → LinesState → D → SinkState → (exit : ℕ) → LinesState → D → SinkState → Type 0
+  IsProgramCall words lines disk out exit lines' disk' out' =
+      (status : Status) × Runs_over words lines disk out status lines' disk' out' × (exit ≡ number_of_status status)
 
 -- no memory was left for the words, and that is told
 abbrev pub HadNoWords : SinkState → (exit : ℕ) → SinkState → Type 0

@@ -1,6 +1,6 @@
 //! The program as one of two nodes.
 ghost use Rattle.node_model.specs.Stores.{StoreState, IfTold};
-ghost use Rattle.binkp_mailer.specs.GiveSteps.{GivesAreSteps};
+ghost use Rattle.binkp_serve.specs.GiveSteps.{GivesAreSteps};
 ghost use Rattle.binkp_mailer.specs.OneNode.{CallsAreCourses, OpeningsAreStops, SessionsAreCourses};
 ghost use Rattle.binkp_mailer.specs.TopCall.{Calls_in_turn, HasOnceTold, StaysTold};
 

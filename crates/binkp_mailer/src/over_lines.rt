@@ -10,14 +10,15 @@ ghost use Rattle.hub_core.specs.Opening.{IsWhole, no_seats};
 ghost use Rattle.node_store.specs.Names.{is_note};
 ghost use Rattle.node_store.specs.Stored.{stand_of};
 ghost use Rattle.session_auth.specs.Sides.{side_of};
-ghost use Rattle.binkp_mailer.specs.Hosts.{host_text};
+ghost use Rattle.call_hosts.specs.Hosts.{host_text};
 ghost use Rattle.binkp_mailer.specs.OverLines.{Answers_next, Calls_node, Dials, HandsBack, IsFresh, call_mark, call_text};
 ghost use Rattle.binkp_mailer.specs.Reports.{FailedIsBroken, had_of, told_of};
 ghost use Rattle.binkp_mailer.specs.TopCall.{Given};
 
 use crate::call_mark::{CallMark, free};
-use crate::{Host, Outcome, hold_with_outbound};
+use crate::{Outcome, hold_with_outbound};
 use binkp_link::{Dialled, Lines, NextLine};
+use call_hosts::Host;
 use disk_model::{Marking, Yard};
 use ftn_addr::{Addr, NoMemory};
 use mail_conf::Conf;

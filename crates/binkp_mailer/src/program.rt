@@ -7,13 +7,17 @@ ghost use Rattle.binkp_mailer.specs.OverLines.{IsFresh};
 ghost use Rattle.binkp_mailer.specs.Programs.{EndsByStatus, HadNoWords, IsProgramCall, Runs_over};
 ghost use Rattle.command_base.specs.Statuses.{Usage, number_of_status, status_text};
 ghost use Rattle.command_words.specs.Forms.{texts};
+ghost use Rattle.still_commands.specs.Still.{AreStill};
 
+use crate::over_serve::run_serve;
+use crate::words::is_serving;
 use crate::{Outcome, print, run_call};
-use binkp_link::{Lines, Sink};
+use binkp_link::{Clock, Dice, Lines, Sink};
 use command_base::Status;
 use disk_model::Yard;
 use ftn_addr::{Bytes, NoMemory};
 use std::alloc::Global;
+use std::sync::Wait;
 use still_commands::{is_still, run_still};
 
 /// How the program ends: with this exit status, and, where the words are no command, with this line on standard
@@ -30,7 +34,7 @@ pub fn explanation(status: &Status) -> Option<&'static str>
 {
     match status {
         Status::Usage => Some(
-            "binkp: the words are `DIR answer`, `DIR call ADDR`, `DIR lookup ADDR`, `DIR compile FILE`, `DIR list` or `DIR take`, as in `. call 2:5047/13`; DIR has the settings, `binkp.conf`",
+            "binkp: the words are `DIR answer`, `DIR call ADDR`, `DIR serve`, `DIR lookup ADDR`, `DIR compile FILE`, `DIR list` or `DIR take`, as in `. call 2:5047/13`; DIR has the settings, `binkp.conf`",
         ),
         Status::Done
         | Status::ConfBad(_)
@@ -67,44 +71,74 @@ fn end_of(status: &Status) -> Ended
     }
 }
 
-// A call over a line, or a command without a session.
-fn run_words<D: Yard, N: Lines, O: Sink>(
+// A node that serves, or a call over a line.
+fn run_over<W: Wait, D: Yard, N: Lines, C: Clock, R: Dice, O: Sink>(
+    rt: &W,
     alloc: Global,
     words: &[Bytes],
     disk: D,
     lines: &mut N,
-    now: u64,
-    random: [u8; 16],
+    clock: &mut C,
+    dice: &mut R,
+    out: &mut O,
+) -> (Status, D)
+    requires other { AreStill (texts words.now) → ⊥ }
+    requires ready { D.tells ≡ true → Every (Now D.moment D.images disk) (IsReady (D.content disk)) }
+    requires fresh { IsFresh (N.state lines.old) }
+    ensures { Runs_over D.files D.tells D.content D.fault_count D.moment D.images (texts words.now) (N.state lines.old) disk (O.state out.old) (status_text result.0) (N.state lines.new) result.1 (O.state out.new) }
+{
+    match is_serving(alloc, words) {
+        Ok(true) => run_serve(rt, alloc, disk, lines, clock, dice, out),
+        Ok(false) => {
+            let now = clock.now();
+            let random = dice.sixteen();
+            run_call(alloc, words, disk, lines, now, random, out)
+        }
+        Err(NoMemory) => (print(alloc, Outcome::NoMemory, out), disk),
+    }
+}
+
+// What the words ask for.
+fn run_words<W: Wait, D: Yard, N: Lines, C: Clock, R: Dice, O: Sink>(
+    rt: &W,
+    alloc: Global,
+    words: &[Bytes],
+    disk: D,
+    lines: &mut N,
+    clock: &mut C,
+    dice: &mut R,
     out: &mut O,
 ) -> (Status, D)
     requires ready { D.tells ≡ true → Every (Now D.moment D.images disk) (IsReady (D.content disk)) }
     requires fresh { IsFresh (N.state lines.old) }
-    ensures { Runs_over D.files D.tells D.content D.fault_count D.moment D.images (texts words.now) random now (N.state lines.old) disk (O.state out.old) (status_text result.0) (N.state lines.new) result.1 (O.state out.new) }
+    ensures { Runs_over D.files D.tells D.content D.fault_count D.moment D.images (texts words.now) (N.state lines.old) disk (O.state out.old) (status_text result.0) (N.state lines.new) result.1 (O.state out.new) }
 {
     match is_still(alloc, words) {
-        Ok(true) => run_still(alloc, words, disk, now, out),
-        Ok(false) => run_call(alloc, words, disk, lines, now, random, out),
+        Ok(true) => run_still(alloc, words, disk, clock.now(), out),
+        Ok(false) => run_over(rt, alloc, words, disk, lines, clock, dice, out),
         Err(NoMemory) => (print(alloc, Outcome::NoMemory, out), disk),
     }
 }
 
 /// Does what the words behind DIR ask for over the disk and the lines, of which none was given yet, prints what came of it, and gives
-/// the disk back.
-pub fn run_program<D: Yard, N: Lines, O: Sink>(
+/// the disk back. Only `serve` waits for more than one caller; it looks at the clock at each turn, and offers each caller a challenge of
+/// its own.
+pub fn run_program<W: Wait, D: Yard, N: Lines, C: Clock, R: Dice, O: Sink>(
+    rt: &W,
     alloc: Global,
     words: &[Bytes],
     disk: D,
     lines: &mut N,
-    now: u64,
-    random: [u8; 16],
+    clock: &mut C,
+    dice: &mut R,
     out: &mut O,
 ) -> (Ended, D)
     requires ready { D.tells ≡ true → Every (Now D.moment D.images disk) (IsReady (D.content disk)) }
     requires fresh { IsFresh (N.state lines.old) }
-    ensures call { IsProgramCall D.files D.tells D.content D.fault_count D.moment D.images (texts words.now) random now (N.state lines.old) disk (O.state out.old) result.0.exit (N.state lines.new) result.1 (O.state out.new) }
+    ensures call { IsProgramCall D.files D.tells D.content D.fault_count D.moment D.images (texts words.now) (N.state lines.old) disk (O.state out.old) result.0.exit (N.state lines.new) result.1 (O.state out.new) }
     ensures told { EndsByStatus result.0 }
 {
-    let (status, disk) = run_words(alloc, words, disk, lines, now, random, out);
+    let (status, disk) = run_words(rt, alloc, words, disk, lines, clock, dice, out);
     (end_of(&status), disk)
 }
 

@@ -1,76 +1,18 @@
-//! What is printed of a session and of a call.
-ghost use Rattle.std.specs.Prelude.{◌≡◌, ◌++◌, IfOk, OnOk, option_map};
-ghost use Rattle.std.specs.Fmt.{decimal};
-ghost use Rattle.ftn_addr.specs.Address.{address};
-ghost use Rattle.session_core.specs.Ends.{end_text};
-ghost use Rattle.session_run.specs.Reports.{report_text};
-ghost use Rattle.binkp_mailer.specs.Reports.{Prints, end_word, had_of, lines_told, peer_word, session_line, told_of};
+//! What came of a call, and what is printed of it.
+ghost use Rattle.std.specs.Prelude.{◌≡◌, IfOk};
+ghost use Rattle.binkp_mailer.specs.Reports.{Prints, had_of, lines_told, told_of};
 ghost use Rattle.command_base.specs.Statuses.{DiskFault, status_text};
 
 use binkp_link::Sink;
 use command_base::{
     SettingsFault, Status, print_lines, status_of, status_unindexed, status_unopened, status_unset,
 };
-use ftn_addr::{Addr, Bytes, NoMemory, write_addr};
+use ftn_addr::{Bytes, NoMemory};
 use node_store::StoreOpenFault;
 use nodelist_files::IndexFileFault;
-use session_core::End;
+use session_lines::push_session;
 use session_run::Report;
 use std::alloc::Global;
-
-/// The name of an end.
-fn end_word(end: &End) -> &'static [u8]
-    ensures { result.now ≡ end_word (end_text end.now) }
-{
-    match end {
-        End::Finished => b"Finished",
-        End::PeerError(_) => b"PeerError",
-        End::PeerBusy => b"PeerBusy",
-        End::BadPassword(_, _) => b"BadPassword",
-        End::Broke(_, _) => b"Broke",
-        End::Dropped => b"Dropped",
-        End::LineFault => b"LineFault",
-        End::DiskFault(_) => b"DiskFault",
-        End::LedgerFull => b"LedgerFull",
-        End::Quiet => b"Quiet",
-        End::Endless => b"Endless",
-        End::TurnedAway => b"TurnedAway",
-        End::NoMemory => b"NoMemory",
-    }
-}
-
-/// Adds the peer's address, or `-` where there is none.
-fn push_peer(alloc: Global, peer: &Option<Addr>, line: &mut Bytes) -> Result<(), NoMemory>
-    ensures { OnOk result (line.new.list ≡ line.old.list ++ peer_word (option_map address peer.now)) }
-{
-    match peer {
-        Some(peer) => write_addr(alloc, peer, line),
-        None => line.push_slice(b"-"),
-    }
-}
-
-/// Adds a word and a number behind it.
-fn push_count(alloc: Global, word: &[u8], count: u32, line: &mut Bytes) -> Result<(), NoMemory>
-    ensures { OnOk result (line.new.list ≡ line.old.list ++ word.now ++ decimal count) }
-{
-    line.push_slice(word)?;
-    line.push_number(alloc, u64::from(count))
-}
-
-/// Adds the line `session N peer ADDR sent S received R skipped K end WORD`, which ends by LF.
-pub fn push_session(alloc: Global, report: &Report, line: &mut Bytes) -> Result<(), NoMemory>
-    ensures { OnOk result (line.new.list ≡ line.old.list ++ session_line (report_text report.now)) }
-{
-    push_count(alloc, b"session ", report.session, line)?;
-    line.push_slice(b" peer ")?;
-    push_peer(alloc, &report.peer, line)?;
-    push_count(alloc, b" sent ", report.sent, line)?;
-    push_count(alloc, b" received ", report.received, line)?;
-    push_count(alloc, b" skipped ", report.skipped, line)?;
-    line.push_slice(b" end ")?;
-    line.push_slice(end_word(&report.end))?;
-    line.push_slice(b"\n")
-}
 
 /// What came of a call, before anything is printed.
 #[derive(Debug, Drop)]

@@ -40,7 +40,7 @@ fn outbound_of(alloc: Global, conf: &Conf) -> Result<DeskOutbound, NoMemory>
 }
 
 // The desk of the one seat of a new hub over the store, with the outbound of the settings; or the store, where there is no memory.
-fn desk_over<D: Yard>(
+pub(crate) fn desk_over<D: Yard>(
     alloc: Global,
     conf: &Conf,
     store: NodeStore<D>,

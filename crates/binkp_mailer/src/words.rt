@@ -2,7 +2,7 @@
 ghost use Rattle.std.specs.Prelude.{◌≡◌, ℕ, List, IfOk, Err, Ok, true, false};
 ghost use Rattle.ftn_addr.specs.Address.{Address, address};
 ghost use Rattle.session_auth.specs.Sides.{Calls, Side as AnySide, side_of};
-ghost use Rattle.command_words.specs.Forms.{texts};
+ghost use Rattle.command_words.specs.Forms.{HasForm, Serving, texts};
 ghost use Rattle.binkp_mailer.specs.Words.{AreWords, HaveForm, Spells};
 ghost use Rattle.binkp_mailer.specs.declared.words.WordsFault.TheVariants.{Usage};
 
@@ -33,6 +33,29 @@ pub fn have_form(alloc: Global, words: &[Bytes]) -> Result<bool, NoMemory>
     match read_form(alloc, words) {
         Ok(Some(Form::Answer)) => Ok(true),
         Ok(Some(Form::Call(_))) => Ok(true),
+        Ok(Some(Form::Lookup(_))) => Ok(false),
+        Ok(Some(Form::Compile(_))) => Ok(false),
+        Ok(Some(Form::List)) => Ok(false),
+        Ok(Some(Form::Take)) => Ok(false),
+        Ok(Some(Form::Serve)) => Ok(false),
+        Ok(None) => Ok(false),
+        Err(NoMemory) => Err(NoMemory),
+    }
+}
+
+/// Whether the words are `serve`.
+///
+/// # Errors
+/// Want of memory.
+pub(crate) fn is_serving(alloc: Global, words: &[Bytes]) -> Result<bool, NoMemory>
+    ensures yes { result ≡ Ok true → HasForm (texts words.now) Serving }
+    ensures no { result ≡ Ok false → HasForm (texts words.now) Serving → ⊥ }
+{
+    one_form();
+    match read_form(alloc, words) {
+        Ok(Some(Form::Serve)) => Ok(true),
+        Ok(Some(Form::Answer)) => Ok(false),
+        Ok(Some(Form::Call(_))) => Ok(false),
         Ok(Some(Form::Lookup(_))) => Ok(false),
         Ok(Some(Form::Compile(_))) => Ok(false),
         Ok(Some(Form::List)) => Ok(false),
@@ -84,6 +107,7 @@ pub fn read_words(alloc: Global, words: &[Bytes], home: &Addr) -> Result<Side, W
         Ok(Some(Form::Compile(_))) => Err(WordsFault::Usage),
         Ok(Some(Form::List)) => Err(WordsFault::Usage),
         Ok(Some(Form::Take)) => Err(WordsFault::Usage),
+        Ok(Some(Form::Serve)) => Err(WordsFault::Usage),
         Ok(None) => Err(WordsFault::Usage),
         Err(NoMemory) => Err(WordsFault::NoMemory),
     }

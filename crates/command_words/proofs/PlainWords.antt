@@ -9,7 +9,7 @@ use Rattle.std.proofs.lemmas.Str.Ascii.{IsAscii-cons, IsAscii-nil}
 use Rattle.std.specs.Str.{IsAscii}
 use Rattle.clap.proofs.WalkLemmas.{both}
 use Rattle.ftn_addr.specs.Content.{Content}
-use Rattle.command_words.specs.Forms.{Command, HasForm, IsPlain, of_answer, of_call, of_compile, of_list, of_lookup, of_take, texts}
+use Rattle.command_words.specs.Forms.{Command, HasForm, IsPlain, of_answer, of_call, of_compile, of_list, of_lookup, of_serve, of_take, texts}
 
 module _ (words : List Content) (i : ℕ) (word : Content) (below : i < length words) (at : word ≡ get_or words i word) where
   -- the texts of one word more
@@ -57,3 +57,4 @@ form_plain words asked (of_lookup text plain is are) = two_plain words _ text ar
 form_plain words asked (of_compile path plain short is are) = two_plain words _ path are (ascii_plain _ _ refl refl) plain
 form_plain words asked (of_list is are) = one_plain words _ are (ascii_plain _ _ refl refl)
 form_plain words asked (of_take is are) = one_plain words _ are (ascii_plain _ _ refl refl)
+form_plain words asked (of_serve is are) = one_plain words _ are (ascii_plain _ _ refl refl)

@@ -15,6 +15,7 @@ pub data Command : Type 0 where
   Compile : (path : List ℕ) → Command
   Listing : Command
   Taking : Command
+  Serving : Command
 
 abbrev pub command_of : Form → Command
 command_of V.Answer = Answer
@@ -23,6 +24,7 @@ command_of (V.Lookup text) = Lookup text.now.list
 command_of (V.Compile path) = Compile path.now.list
 command_of V.List = Listing
 command_of V.Take = Taking
+command_of V.Serve = Serving
 
 -- a word that may stand behind a command: it isn't empty, doesn't begin with `-`, and is UTF-8
 pub record IsPlain (word : List ℕ) : Type 0 where
@@ -30,7 +32,7 @@ pub record IsPlain (word : List ℕ) : Type 0 where
   pub no_flag : (rest : List ℕ) → word ≢ 45 ∷ rest
   pub text : IsUtf8 word
 
--- The forms of words: `answer`, `list` or `take`; `call`, `lookup` or `compile` with one plain word behind, which is a path of at most
+-- The forms of words: `answer`, `list`, `take` or `serve`; `call`, `lookup` or `compile` with one plain word behind, which is a path of at most
 -- 1,024 bytes for the last.
 pub data HasForm (words : List (List ℕ)) (command : Command) : Type 0 where
   of_answer : command ≡ Answer → words ≡ codes "answer" ∷ [] → HasForm words command
@@ -39,3 +41,4 @@ pub data HasForm (words : List (List ℕ)) (command : Command) : Type 0 where
   of_compile : (path : List ℕ) → IsPlain path → length path ≤ 1024 → command ≡ Compile path → words ≡ codes "compile" ∷ path ∷ [] → HasForm words command
   of_list : command ≡ Listing → words ≡ codes "list" ∷ [] → HasForm words command
   of_take : command ≡ Taking → words ≡ codes "take" ∷ [] → HasForm words command
+  of_serve : command ≡ Serving → words ≡ codes "serve" ∷ [] → HasForm words command

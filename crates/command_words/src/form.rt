@@ -27,6 +27,8 @@ pub enum Form<'a> {
     List,
     /// `take`
     Take,
+    /// `serve`
+    Serve,
 }
 
 // The form of a command alone.
@@ -40,6 +42,8 @@ fn form_of_one<'a>(command: &[u8]) -> Option<Form<'a>>
         Some(Form::List)
     } else if command == b"take".as_slice() {
         Some(Form::Take)
+    } else if command == b"serve".as_slice() {
+        Some(Form::Serve)
     } else {
         None
     }

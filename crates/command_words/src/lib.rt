@@ -1,14 +1,14 @@
 //! The words that the program is given behind its folder, and the forms that they may have.
 //!
-//! [`read_form`] says which command words are: `answer`, `call ADDR`, `lookup ADDR`, `compile FILE`, `list` or `take`, and
-//! nothing else.
+//! [`read_form`] says which command words are: `answer`, `call ADDR`, `lookup ADDR`, `compile FILE`, `list`, `take` or
+//! `serve`, and nothing else.
 //! It answers for every list of words, before anything is read or written, and fails for want of memory alone; two forms never
 //! share words ([`one_form`]).
 //!
 //! ```
 //! match read_form(alloc, words)? {
 //!     Some(Form::Call(text)) => { .. }
-//!     Some(Form::Answer | Form::Lookup(_) | Form::Compile(_) | Form::List | Form::Take) => { .. }
+//!     Some(Form::Answer | Form::Lookup(_) | Form::Compile(_) | Form::List | Form::Take | Form::Serve) => { .. }
 //!     None => { .. }                       // no command
 //! }
 //! ```

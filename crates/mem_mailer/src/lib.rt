@@ -13,7 +13,9 @@ mod lines;
 mod ran;
 mod running;
 mod script;
+mod serving;
 
 pub use ran::{Ran, disk_of};
 pub use running::{call_by, call_over, call_slowly, end_of, run};
 pub use script::{Found, Takes};
+pub use serving::{Calls, serve_by};

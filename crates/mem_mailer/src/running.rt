@@ -7,11 +7,12 @@ ghost use Rattle.binkp_link.specs.MemLines.{mem_state};
 use crate::lines::{line_of, slow_line, words_of};
 use crate::ran::Ran;
 use crate::script::{Found, Takes, scripted_line};
-use binkp_link::{MemLine, MemLines, MemSink, NextAct};
+use binkp_link::{MemClock, MemDice, MemLine, MemLines, MemSink, NextAct};
 use binkp_mailer::{run_call, run_program};
 use ftn_addr::{Bytes, NoMemory};
 use mem_node::Resting;
 use std::alloc::Global;
+use std::sync::Wait;
 use still_commands::run_still;
 
 // The source whose next caller has that line.
@@ -130,21 +131,25 @@ pub fn run(alloc: Global, disk: Resting, texts: &[&[u8]]) -> Result<Box<Ran>, No
 
 /// How the program ends with these words, where nobody calls: its exit status, whether it explains its words, and
 /// what it printed.
-pub fn end_of(
+pub fn end_of<W: Wait>(
+    rt: &W,
     alloc: Global,
     disk: Resting,
     texts: &[&[u8]],
 ) -> Result<(u8, bool, Bytes), NoMemory> {
     let words = words_of(alloc, texts)?;
     let mut lines = MemLines::new(alloc, Vec::new(alloc), Vec::new(alloc));
+    let mut clock = MemClock::new(vec![in alloc; 0]?);
+    let mut dice = MemDice::new(vec![in alloc; [0; 16]]?);
     let mut out = MemSink::new(alloc, Vec::new(alloc));
     let (ended, _) = run_program(
+        rt,
         alloc,
         words.as_slice(),
         disk.into_ready(),
         &mut lines,
-        0,
-        [0; 16],
+        &mut clock,
+        &mut dice,
         &mut out,
     );
     let told = Bytes::from_slice(alloc, out.written())?;

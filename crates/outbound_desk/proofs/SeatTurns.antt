@@ -22,7 +22,7 @@ same_told (Some a) s h turn seat = refl
 abbrev at_turn : ℕ → StoreStand → StoreStand
 at_turn seat w = record w { state = record w.state { seat = seat } }
 
-turn_leaves : (s : StoreState) (seat : ℕ) (e : Shelf) → StorePasses s (By_seat seat) e → IsShelf s.content e
+pub turn_leaves : (s : StoreState) (seat : ℕ) (e : Shelf) → StorePasses s (By_seat seat) e → IsShelf s.content e
 turn_leaves s seat e (Before_it is) = is
 turn_leaves s seat e (Source_first first) = absurd first
 turn_leaves s seat e (After_it answer t does is) = go answer does

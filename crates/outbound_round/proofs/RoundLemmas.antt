@@ -8,6 +8,7 @@ use Rattle.node_store.specs.Stored.{Holding}
 use Rattle.outbound_take.specs.Stand.{TakeStand}
 use Rattle.outbound_round.specs.declared.words.RoundFault.{RoundFault}
 use Rattle.outbound_round.specs.declared.words.RoundFault.TheVariants.{Disk, NoMemory}
+use Rattle.outbound_round.specs.declared.words.Telling.{Telling}
 use Rattle.outbound_take.specs.declared.words.Taken.{Taken}
 use Rattle.outbound_take.specs.declared.words.TakeFault.{TakeFault}
 use Rattle.outbound_round.specs.Round.{End, EndsBy, EndsSo, Finished, Passes, RoundTold, TakesAddress, TakesEach, TakesThem, TellsMore, end_text, fault_at, fault_behind, first_marked, mark_in}
@@ -38,9 +39,9 @@ behind_whole None fault end is other = refl
 behind_whole (Some count) fault end is other = absurd (other (sym is))
 
 -- a round that ended by another fault than Disk, or by none, leaves a whole store
-pub ends_whole : (fault : Option RoundFault) (broken : Option ℕ) (addresses : List Address) (ends : List End) (lines : List ℕ) → EndsBy fault broken addresses ends lines → fault ≢ Some Disk → broken ≡ None
-ends_whole None broken addresses ends lines ended other = ended.whole
-ends_whole (Some fault) broken addresses ends lines ended other = by_stop ended.stops
+pub ends_whole : (telling : Telling) (fault : Option RoundFault) (broken : Option ℕ) (addresses : List Address) (ends : List End) (lines : List ℕ) → EndsBy telling fault broken addresses ends lines → fault ≢ Some Disk → broken ≡ None
+ends_whole telling None broken addresses ends lines ended other = ended.whole
+ends_whole telling (Some fault) broken addresses ends lines ended other = by_stop ended.stops
   where
     by_stop : (fault_behind broken ended.last.1 ≡ Some fault) ⊎ ((fault_behind broken ended.last.1 ≡ None) × (fault ≡ NoMemory)) → broken ≡ None
     by_stop (inl is) = behind_whole broken fault ended.last.1 is other
@@ -52,15 +53,15 @@ ends_whole (Some fault) broken addresses ends lines ended other = by_stop ended.
 pub around_at : {A B : Type 0} (view : A → B) (xs : List A) (i : ℕ) (front : List B) → map view (take (i + 1) xs) ≡ front → map view xs ≡ front ++ map view (drop (i + 1) xs)
 around_at view xs i front is = sym (ap (map view) (take-append-drop (i + 1) xs)) ∙ (map-append view (take (i + 1) xs) (drop (i + 1) xs) ∙ ap (λ (ys : List _). ys ++ map view (drop (i + 1) xs)) is)
 
-module _ {D : Type 0} (seen : Holding D → TakeStand) (base : List ℕ) (zone : ℕ) (home : Address) (moment : ℕ) where
+module _ {D : Type 0} (seen : Holding D → TakeStand) (telling : Telling) (base : List ℕ) (zone : ℕ) (home : Address) (moment : ℕ) where
   each_more : (es : List End) (e : End) (old mid new : Holding D) → TakesEach seen base zone home moment es old mid → TakesAddress base zone home moment e.0 e.1 (seen mid) (seen new) → TakesEach seen base zone home moment (es ++ e ∷ []) old new
   each_more [] e old mid new same takes = (new, subst (λ (s : Holding D). TakesAddress base zone home moment e.0 e.1 (seen s) (seen new)) same takes, refl)
   each_more (x ∷ xs) e old mid new each takes = (each.0, each.1, each_more xs e each.0 mid new each.2 takes)
 
   module _ (addresses : List Address) (a : Address) (end' : Result Taken TakeFault) (round next : RoundTold) (old mid new : Holding D)
-      (goes : round.fault ≡ None) (them : TakesThem seen base zone home moment addresses round old mid) (takes : TakesAddress base zone home moment a end' (seen mid) (seen new)) (tells : TellsMore new.memory.broken (a, end') round next) where
-    passed : Finished mid.memory.broken addresses them.ends round.lines
-    passed = subst (λ (f : Option RoundFault). EndsBy f mid.memory.broken addresses them.ends round.lines) goes them.ended
+      (goes : round.fault ≡ None) (them : TakesThem seen telling base zone home moment addresses round old mid) (takes : TakesAddress base zone home moment a end' (seen mid) (seen new)) (tells : TellsMore telling new.memory.broken (a, end') round next) where
+    passed : Finished telling mid.memory.broken addresses them.ends round.lines
+    passed = subst (λ (f : Option RoundFault). EndsBy telling f mid.memory.broken addresses them.ends round.lines) goes them.ended
 
     all_begun : addresses ++ a ∷ [] ≡ map (λ (e : End). e.0) (them.ends ++ (a, end') ∷ [])
     all_begun = ap (λ (xs : List Address). xs ++ a ∷ []) passed.all ∙ sym (map-append (λ (e : End). e.0) them.ends ((a, end') ∷ []))
@@ -69,30 +70,30 @@ module _ {D : Type 0} (seen : Holding D → TakeStand) (base : List ℕ) (zone :
     all_marked = tells.marked ∙ (ap (λ (o : Option (List ℕ)). option_or o (mark_in end')) them.marked ∙ sym (first_marked-append them.ends (a, end')))
 
     -- one address more, behind which the round goes on
-    pub takes_more : next.fault ≡ None → TakesThem seen base zone home moment (addresses ++ a ∷ []) next old new
+    pub takes_more : next.fault ≡ None → TakesThem seen telling base zone home moment (addresses ++ a ∷ []) next old new
     takes_more on =
-        let so = subst (λ (f : Option RoundFault). EndsSo new.memory.broken f (a, end') round.lines next.lines) on tells.ended in
+        let so = subst (λ (f : Option RoundFault). EndsSo telling new.memory.broken f (a, end') round.lines next.lines) on tells.ended in
         let whole = passed_whole new.memory.broken end' so.0 in
         record {
           ends = them.ends ++ (a, end') ∷ [];
           takes = each_more them.ends (a, end') old mid new them.takes takes;
-          ended = subst (λ (f : Option RoundFault). EndsBy f new.memory.broken (addresses ++ a ∷ []) (them.ends ++ (a, end') ∷ []) next.lines) (sym on) (record {
+          ended = subst (λ (f : Option RoundFault). EndsBy telling f new.memory.broken (addresses ++ a ∷ []) (them.ends ++ (a, end') ∷ []) next.lines) (sym on) (record {
             whole = whole.0;
             all = all_begun;
             pass = Each-append Passes them.ends ((a, end') ∷ []) passed.pass (whole.1, tt);
-            told_so = so.1 ∙ (ap (λ (l : List ℕ). l ++ end_text (a, end')) passed.told_so ∙ flat_map_more end_text [] them.ends (a, end'));
+            told_so = so.1 ∙ (ap (λ (l : List ℕ). l ++ end_text telling (a, end')) passed.told_so ∙ flat_map_more (end_text telling) [] them.ends (a, end'));
           });
           marked = all_marked;
         }
 
     -- one that ends it
-    pub takes_last : (fault : RoundFault) (rest : List Address) → next.fault ≡ Some fault → TakesThem seen base zone home moment ((addresses ++ a ∷ []) ++ rest) next old new
+    pub takes_last : (fault : RoundFault) (rest : List Address) → next.fault ≡ Some fault → TakesThem seen telling base zone home moment ((addresses ++ a ∷ []) ++ rest) next old new
     takes_last fault rest stop =
-        let so = subst (λ (f : Option RoundFault). EndsSo new.memory.broken f (a, end') round.lines next.lines) stop tells.ended in
+        let so = subst (λ (f : Option RoundFault). EndsSo telling new.memory.broken f (a, end') round.lines next.lines) stop tells.ended in
         record {
           ends = them.ends ++ (a, end') ∷ [];
           takes = each_more them.ends (a, end') old mid new them.takes takes;
-          ended = subst (λ (f : Option RoundFault). EndsBy f new.memory.broken ((addresses ++ a ∷ []) ++ rest) (them.ends ++ (a, end') ∷ []) next.lines) (sym stop) (record {
+          ended = subst (λ (f : Option RoundFault). EndsBy telling f new.memory.broken ((addresses ++ a ∷ []) ++ rest) (them.ends ++ (a, end') ∷ []) next.lines) (sym stop) (record {
             before = them.ends;
             last = (a, end');
             rest = rest;

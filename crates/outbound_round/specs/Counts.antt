@@ -1,5 +1,5 @@
 -- How many files and lines of a take-in became what (own).
-use Rattle.std.specs.Prelude.{ℕ, ◌+◌, ◌-◌, ◌^◌, min, Bool, true, false, List, count_by, length}
+use Rattle.std.specs.Prelude.{ℕ, ◌+◌, ◌-◌, ◌^◌, ◌||◌, min, nat_lt, Bool, true, false, List, count_by, length}
 use Rattle.std.specs.List.{flat_map}
 use Rattle.outbound_lines.specs.declared.taking.TookCounts.{TookCounts}
 use Rattle.outbound_model.specs.declared.fate.Fate.{Fate}
@@ -56,3 +56,7 @@ counts_with fates c = record {
   over = counted (c.over + count_by is_over fates);
   passed = counted (c.passed + count_by is_passed fates);
 }
+
+-- something was passed over: a source that is missing, or a file that is too long
+abbrev pub has_passed : TookCounts → Bool
+has_passed c = nat_lt 0 c.missing || nat_lt 0 c.over

@@ -1,5 +1,5 @@
 -- The take-in of a whole outbound: one address after another, and what is told of them (own).
-use Rattle.std.specs.Prelude.{◌≡◌, ◌⊎◌, ◌↔◌, ℕ, Bool, true, List, [], ◌∷◌, ◌++◌, map, Option, Some, None, option_map, Result, Ok, Err, IfErr, IfOk, OnOk, codes}
+use Rattle.std.specs.Prelude.{◌≡◌, ◌⊎◌, ◌↔◌, ℕ, Bool, true, false, List, [], ◌∷◌, ◌++◌, map, Option, Some, None, option_map, Result, Ok, Err, IfErr, IfOk, OnOk, codes, if◌then◌else◌}
 use Rattle.std.specs.List.{flat_map}
 use Rattle.std.specs.Option.{option_or}
 use Rattle.ftn_addr.specs.Address.{Address}
@@ -28,7 +28,9 @@ use Rattle.outbound_take.specs.Stand.{TakeStand, told}
 use Rattle.outbound_round.specs.declared.words.Round.{Round}
 use Rattle.outbound_round.specs.declared.words.RoundFault.{RoundFault}
 use Rattle.outbound_round.specs.declared.words.RoundFault.TheVariants.{Disk, Full, NoMemory}
-use Rattle.outbound_round.specs.Counts.{counts_of}
+use Rattle.outbound_round.specs.declared.words.Telling.{Telling}
+use Rattle.outbound_round.specs.declared.words.Telling.TheVariants.{All, PassedOver}
+use Rattle.outbound_round.specs.Counts.{counts_of, has_passed}
 
 -- What is told of a round: its lines, the name of the first mark of another program, and what ended it early.
 pub record RoundTold : Type 0 where
@@ -54,8 +56,19 @@ line_of a (Ok taken) = took_text a (counts_of taken)
 line_of a (Err (TF.Marked name)) = marked_text a
 line_of a (Err fault) = []
 
-abbrev pub end_text : End → List ℕ
-end_text e = line_of e.0 e.1
+-- something was passed over there: a missing source, a file that is too long, or all, by a mark of another program
+abbrev pub passes_over : Result Taken TakeFault → Bool
+passes_over (Ok taken) = has_passed (counts_of taken)
+passes_over (Err (TF.Marked name)) = true
+passes_over (Err fault) = false
+
+-- an address is told of
+abbrev pub is_told : Telling → Result Taken TakeFault → Bool
+is_told All end = true
+is_told PassedOver end = passes_over end
+
+abbrev pub end_text : Telling → End → List ℕ
+end_text telling e = if is_told telling e.1 then line_of e.0 e.1 else []
 
 -- the name of the mark of another program that was met there
 abbrev pub mark_in : Result Taken TakeFault → Option (List ℕ)
@@ -85,14 +98,14 @@ abbrev pub StopsAt : Option ℕ → RoundFault → End → Type 0
 StopsAt broken fault e = (fault_behind broken e.1 ≡ Some fault) ⊎ ((fault_behind broken e.1 ≡ None) × (fault ≡ NoMemory))
 
 -- the lines before an address and behind it, by what ended the round there
-abbrev pub EndsSo : Option ℕ → Option RoundFault → End → (old new : List ℕ) → Type 0
-EndsSo broken None e old new = (fault_behind broken e.1 ≡ None) × (new ≡ old ++ end_text e)
-EndsSo broken (Some fault) e old new = StopsAt broken fault e × (new ≡ old)
+abbrev pub EndsSo : Telling → Option ℕ → Option RoundFault → End → (old new : List ℕ) → Type 0
+EndsSo telling broken None e old new = (fault_behind broken e.1 ≡ None) × (new ≡ old ++ end_text telling e)
+EndsSo telling broken (Some fault) e old new = StopsAt broken fault e × (new ≡ old)
 
 -- what is told of one address more
-pub record TellsMore (broken : Option ℕ) (e : End) (old new : RoundTold) : Type 0 where
+pub record TellsMore (telling : Telling) (broken : Option ℕ) (e : End) (old new : RoundTold) : Type 0 where
   pub marked : new.marked ≡ option_or old.marked (mark_in e.1)
-  pub ended : EndsSo broken new.fault e old.lines new.lines
+  pub ended : EndsSo telling broken new.fault e old.lines new.lines
 
 -- what the take-in of one address says, by its answer
 pub record TakesAddress (base : List ℕ) (zone : ℕ) (home : Address) (moment : ℕ) (a : Address) (end : Result Taken TakeFault) (old new : TakeStand) : Type 0 where
@@ -112,14 +125,14 @@ first_marked [] = None
 first_marked (e ∷ es) = option_or (mark_in e.1) (first_marked es)
 
 -- each address passed, and is told; the store is whole
-pub record Finished (broken : Option ℕ) (addresses : List Address) (ends : List End) (lines : List ℕ) : Type 0 where
+pub record Finished (telling : Telling) (broken : Option ℕ) (addresses : List Address) (ends : List End) (lines : List ℕ) : Type 0 where
   pub whole : broken ≡ None
   pub all : addresses ≡ map (λ (e : End). e.0) ends
   pub pass : Each Passes ends
-  pub told_so : lines ≡ flat_map end_text ends
+  pub told_so : lines ≡ flat_map (end_text telling) ends
 
 -- the last of those that were begun ended the round, and has no line; the rest were not begun
-pub record Stopped (broken : Option ℕ) (fault : RoundFault) (addresses : List Address) (ends : List End) (lines : List ℕ) : Type 0 where
+pub record Stopped (telling : Telling) (broken : Option ℕ) (fault : RoundFault) (addresses : List Address) (ends : List End) (lines : List ℕ) : Type 0 where
   pub before : List End
   pub last : End
   pub rest : List Address
@@ -127,12 +140,12 @@ pub record Stopped (broken : Option ℕ) (fault : RoundFault) (addresses : List 
   pub all : addresses ≡ map (λ (e : End). e.0) ends ++ rest
   pub pass : Each Passes before
   pub stops : StopsAt broken fault last
-  pub told_so : lines ≡ flat_map end_text before
+  pub told_so : lines ≡ flat_map (end_text telling) before
 
 -- by what ended it, if anything did
-abbrev pub EndsBy : Option RoundFault → Option ℕ → List Address → List End → List ℕ → Type 0
-EndsBy None broken addresses ends lines = Finished broken addresses ends lines
-EndsBy (Some fault) broken addresses ends lines = Stopped broken fault addresses ends lines
+abbrev pub EndsBy : Telling → Option RoundFault → Option ℕ → List Address → List End → List ℕ → Type 0
+EndsBy telling None broken addresses ends lines = Finished telling broken addresses ends lines
+EndsBy telling (Some fault) broken addresses ends lines = Stopped telling broken fault addresses ends lines
 
 -- the take-ins of these, from one store to the next
 abbrev pub TakesEach : {D : Type 0} → (Holding D → TakeStand) → (base : List ℕ) → (zone : ℕ) → (home : Address) → (moment : ℕ) → List End → (old new : Holding D) → Type 0
@@ -140,10 +153,10 @@ TakesEach seen base zone home moment [] old new = new ≡ old
 TakesEach {D} seen base zone home moment (e ∷ es) old new = (mid : Holding D) × TakesAddress base zone home moment e.0 e.1 (seen old) (seen mid) × TakesEach seen base zone home moment es mid new
 
 -- these addresses are taken in, up to the first that ends the round, and told
-pub record TakesThem {D : Type 0} (seen : Holding D → TakeStand) (base : List ℕ) (zone : ℕ) (home : Address) (moment : ℕ) (addresses : List Address) (round : RoundTold) (old new : Holding D) : Type 0 where
+pub record TakesThem {D : Type 0} (seen : Holding D → TakeStand) (telling : Telling) (base : List ℕ) (zone : ℕ) (home : Address) (moment : ℕ) (addresses : List Address) (round : RoundTold) (old new : Holding D) : Type 0 where
   pub ends : List End
   pub takes : TakesEach seen base zone home moment ends old new
-  pub ended : EndsBy round.fault new.memory.broken addresses ends round.lines
+  pub ended : EndsBy telling round.fault new.memory.broken addresses ends round.lines
   pub marked : round.marked ≡ first_marked ends
 
 -- A whole outbound.
@@ -163,14 +176,14 @@ fault_of SF.Full = Full
 fault_of SF.NoMemory = NoMemory
 
 -- they are taken in; where they were not found nothing is told but the fault
-abbrev pub TakesFound : {D : Type 0} → (Holding D → TakeStand) → (base : List ℕ) → (zone : ℕ) → (home : Address) → (moment : ℕ) → Result (List Address) StoreFault → RoundTold → (old new : Holding D) → Type 0
-TakesFound seen base zone home moment (Ok addresses) round old new = TakesThem seen base zone home moment addresses round old new
-TakesFound seen base zone home moment (Err fault) round old new = (round ≡ nothing_told (Some (fault_of fault))) × (new ≡ old)
+abbrev pub TakesFound : {D : Type 0} → (Holding D → TakeStand) → Telling → (base : List ℕ) → (zone : ℕ) → (home : Address) → (moment : ℕ) → Result (List Address) StoreFault → RoundTold → (old new : Holding D) → Type 0
+TakesFound seen telling base zone home moment (Ok addresses) round old new = TakesThem seen telling base zone home moment addresses round old new
+TakesFound seen telling base zone home moment (Err fault) round old new = (round ≡ nothing_told (Some (fault_of fault))) × (new ≡ old)
 
 -- The store is asked for the addresses, which changes nothing in it, and then takes them in.
-pub record TakesRound {D : Type 0} (tells : Bool) (content : D → World) (faults moment : D → ℕ) (images : D → ℕ → World → Type 0) (base : List ℕ) (zone : ℕ) (home : Address) (now : ℕ) (round : RoundTold) (old new : Holding D) : Type 0 where
+pub record TakesRound {D : Type 0} (tells : Bool) (content : D → World) (faults moment : D → ℕ) (images : D → ℕ → World → Type 0) (telling : Telling) (base : List ℕ) (zone : ℕ) (home : Address) (now : ℕ) (round : RoundTold) (old new : Holding D) : Type 0 where
   pub found : Result (List Address) StoreFault
   pub mid : Holding D
   pub asks : Asks true found (stand_of tells content faults moment images old) (stand_of tells content faults moment images mid)
   pub needed : IfOk found (AreNeeded base zone home.domain old.takes.left (stand_of tells content faults moment images old).state)
-  pub takes : TakesFound (seen_on tells content faults moment images) base zone home now found round mid new
+  pub takes : TakesFound (seen_on tells content faults moment images) telling base zone home now found round mid new

@@ -3,11 +3,12 @@
 //! [`take_round`] asks the store for which addresses something is to be taken in, and takes each in, rising by zone, net, node and
 //! point. An address that another program has marked is passed over. Any other fault ends the round: a failing disk leaves a broken
 //! store, and at the others the store is whole, and a later round goes on. What is answered is what is told of it ([`Round`]): a
-//! line for each address, the name of the first mark of another program, and the fault.
+//! line for each address, or for each at which something was passed over ([`Telling`]), the name of the first mark of another program,
+//! and the fault.
 //!
 //! ```text
 //! let outbound = OutboundAt { home: &home, base: &base, zone: 2 };
-//! let (round, store) = take_round(alloc, store, &outbound, now);
+//! let round = take_round(alloc, &mut taking, &outbound, now, Telling::All);
 //! // took 2:5020/1042@fidonet queued 3 again 1 missing 2 over 0 passed 4
 //! // marked 2:5047/13@fidonet
 //! ```
@@ -25,4 +26,4 @@ mod telling;
 mod words;
 
 pub use outbound::take_round;
-pub use words::{Round, RoundFault};
+pub use words::{Round, RoundFault, Telling};

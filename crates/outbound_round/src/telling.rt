@@ -3,12 +3,13 @@ ghost use Rattle.std.specs.Prelude.{◌≡◌, ◌++◌, IfOk, OnErr, OnOk, opti
 ghost use Rattle.std.specs.Option.{option_or};
 ghost use Rattle.ftn_addr.specs.Address.{address};
 ghost use Rattle.ftn_addr.specs.declared.byte_list.Bytes.{Bytes as Text};
-ghost use Rattle.outbound_round.specs.Round.{EndsSo, TellsMore, end_text, fault_at, fault_behind, line_of, mark_in, nothing_told, told_of};
+ghost use Rattle.outbound_round.specs.Counts.{has_passed};
+ghost use Rattle.outbound_round.specs.Round.{EndsSo, TellsMore, end_text, fault_at, fault_behind, is_told, line_of, mark_in, nothing_told, passes_over, told_of};
 
 use crate::counting::counts_of;
-use crate::words::{Round, RoundFault};
+use crate::words::{Round, RoundFault, Telling};
 use ftn_addr::{Addr, Bytes, NoMemory};
-use outbound_lines::{marked_line, took_line};
+use outbound_lines::{TookCounts, marked_line, took_line};
 use outbound_take::{TakeFault, Taken};
 use std::alloc::Global;
 
@@ -36,15 +37,48 @@ fn line_of(alloc: Global, dest: &Addr, end: &Result<Taken, TakeFault>) -> Result
     }
 }
 
+// A missing source, or a file that is too long.
+fn has_passed(counts: &TookCounts) -> bool
+    ensures { result ≡ has_passed counts.now }
+{
+    counts.missing > 0 || counts.over > 0
+}
+
+// Whether something was passed over at an address.
+fn passes_over(end: &Result<Taken, TakeFault>) -> bool
+    ensures { result ≡ passes_over end.now }
+{
+    match end {
+        Ok(taken) => has_passed(&counts_of(taken)),
+        Err(TakeFault::Marked(_)) => true,
+        Err(TakeFault::Disk) => false,
+        Err(TakeFault::Full) => false,
+        Err(TakeFault::NoMemory) => false,
+    }
+}
+
+fn is_told(telling: Telling, end: &Result<Taken, TakeFault>) -> bool
+    ensures { result ≡ is_told telling end.now }
+{
+    match telling {
+        Telling::All => true,
+        Telling::PassedOver => passes_over(end),
+    }
+}
+
 fn add_line(
     alloc: Global,
     dest: &Addr,
+    telling: Telling,
     end: &Result<Taken, TakeFault>,
     lines: &mut Bytes,
 ) -> Result<(), NoMemory>
-    ensures ok { OnOk result (lines.new.list ≡ lines.old.list ++ end_text (address dest.now, end.now)) }
+    ensures ok { OnOk result (lines.new.list ≡ lines.old.list ++ end_text telling (address dest.now, end.now)) }
     ensures err { OnErr result (lines.new.list ≡ lines.old.list) }
 {
+    if !is_told(telling, end) {
+        return Ok(());
+    }
     let line = line_of(alloc, dest, end)?;
     lines.push_slice(line.as_slice())
 }
@@ -76,15 +110,16 @@ fn fault_behind(broken: Option<u64>, end: &Result<Taken, TakeFault>) -> Option<R
 fn tell(
     alloc: Global,
     dest: &Addr,
+    telling: Telling,
     broken: Option<u64>,
     end: &Result<Taken, TakeFault>,
     lines: &mut Bytes,
 ) -> Option<RoundFault>
-    ensures { EndsSo broken result (address dest.now, end.now) lines.old.list lines.new.list }
+    ensures { EndsSo telling broken result (address dest.now, end.now) lines.old.list lines.new.list }
 {
     match fault_behind(broken, end) {
         Some(fault) => Some(fault),
-        None => match add_line(alloc, dest, end, lines) {
+        None => match add_line(alloc, dest, telling, end, lines) {
             Ok(()) => None,
             Err(_) => Some(RoundFault::NoMemory),
         },
@@ -112,12 +147,13 @@ fn note_mark(end: Result<Taken, TakeFault>, marked: &mut Option<Bytes>)
 pub(crate) fn tell_more(
     alloc: Global,
     dest: &Addr,
+    telling: Telling,
     broken: Option<u64>,
     end: Result<Taken, TakeFault>,
     round: &mut Round,
 )
-    ensures { TellsMore broken (address dest.now, end) (told_of round.old) (told_of round.new) }
+    ensures { TellsMore telling broken (address dest.now, end) (told_of round.old) (told_of round.new) }
 {
-    round.fault = tell(alloc, dest, broken, &end, &mut round.lines);
+    round.fault = tell(alloc, dest, telling, broken, &end, &mut round.lines);
     note_mark(end, &mut round.marked);
 }

@@ -12,10 +12,19 @@ pub enum RoundFault {
     NoMemory,
 }
 
+/// Of which addresses a round has lines.
+#[derive(Clone, Copy, Debug, PartialEq, Eq)]
+pub enum Telling {
+    /// Of each.
+    All,
+    /// Of those at which something was passed over: a missing source, a file that is too long, or all, by a mark of another program.
+    PassedOver,
+}
+
 /// What a round came to.
 #[derive(Drop)]
 pub struct Round {
-    /// What is printed of the addresses, rising: `took ..` or `marked ..`.
+    /// What is told of the addresses, rising: `took ..` or `marked ..`.
     pub lines: Bytes,
     /// The name of the first mark of another program that was met.
     pub marked: Option<Bytes>,

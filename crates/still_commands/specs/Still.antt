@@ -28,6 +28,7 @@ use Rattle.command_words.specs.Forms as W
 use Rattle.command_words.specs.Forms.{Command, HasForm}
 use Rattle.outbound_round.specs.Round.{RoundTold, TakesRound}
 use Rattle.outbound_round.specs.declared.words.RoundFault.TheVariants as RF
+use Rattle.outbound_round.specs.declared.words.Telling.TheVariants as RT
 use Rattle.outbound_store.specs.GoesOn.{GoesOn}
 use Rattle.still_commands.specs.Came.{Told, IsTold, looked, only, told_compiled, told_listed, told_taken}
 
@@ -93,7 +94,7 @@ module _ {D : Type 0} (files : D → World → Type 0) (tells : Bool) (content :
   pub record TakesIn (conf : ConfText) (now : ℕ) (opened : Holding D) (told : Told) (disk' : D) : Type 0 where
     pub round : RoundTold
     pub left : Holding D
-    pub takes : TakesRound tells content faults moment images conf.base conf.zone (home_of conf.addresses) now round opened left
+    pub takes : TakesRound tells content faults moment images RT.All conf.base conf.zone (home_of conf.addresses) now round opened left
     pub goes_on : GoesOn (stand_of tells content faults moment images opened) (stand_of tells content faults moment images left)
     pub broke : round.fault ≡ Some RF.Disk → left.memory.broken ≢ None
     pub disk_is : disk' ≡ left.disk

@@ -41,6 +41,7 @@ pub fn is_still(alloc: Global, words: &[Bytes]) -> Result<bool, NoMemory>
         Ok(Some(Form::Take)) => Ok(true),
         Ok(Some(Form::Answer)) => Ok(false),
         Ok(Some(Form::Call(_))) => Ok(false),
+        Ok(Some(Form::Serve)) => Ok(false),
         Ok(None) => Ok(false),
         Err(NoMemory) => Err(NoMemory),
     }
@@ -89,6 +90,7 @@ fn do_still<D: Yard>(alloc: Global, words: &[Bytes], disk: D, now: u64) -> (Came
         Ok(Some(Form::Take)) => take_outbound(alloc, disk, now),
         Ok(Some(Form::Answer)) => (only(alloc, Status::Usage), disk),
         Ok(Some(Form::Call(_))) => (only(alloc, Status::Usage), disk),
+        Ok(Some(Form::Serve)) => (only(alloc, Status::Usage), disk),
         Ok(None) => (only(alloc, Status::Usage), disk),
         Err(NoMemory) => (only(alloc, Status::NoMemory), disk),
     }

@@ -19,7 +19,8 @@ use ftn_addr::Bytes;
 use mail_conf::{Conf, what_is_read_keeps_limits};
 use node_store::NodeStore;
 use outbound_intake::OutboundAt;
-use outbound_round::{Round, RoundFault, take_round};
+use outbound_round::{Round, RoundFault, Telling, take_round};
+use outbound_store::TakingStore;
 use session_core::home_of;
 use std::alloc::Global;
 
@@ -64,8 +65,9 @@ fn take_opened<D: Yard>(alloc: Global, conf: &Conf, store: NodeStore<D>, now: u6
         base: &conf.base,
         zone: conf.zone,
     };
-    let (round, store) = take_round(alloc, store, &outbound, now);
-    let disk = store.into_disk();
+    let mut taking = TakingStore::new(store);
+    let round = take_round(alloc, &mut taking, &outbound, now, Telling::All);
+    let disk = taking.into_store().into_disk();
     let faults = disk.faults();
     (came_round(round, faults), disk)
 }

@@ -7,11 +7,12 @@ ghost use Rattle.binkp_link.specs.Scripts.{GivesSome, act_of};
 
 use anyhow::Result;
 use binkp_link::{MemLine, MemLines, MemSink, NextAct, ReadAct};
-use binkp_mailer::run_program;
+use binkp_mailer::run_call;
 use ftn_addr::{Bytes, NoMemory};
 use real_edge::RealFolder;
 use std::alloc::Global;
 use std::rt::Files;
+use still_commands::run_still;
 use test_files::{Seen, Watched};
 use test_script::{bytes, word, words_from};
 
@@ -84,64 +85,61 @@ fn named(alloc: Global, words: &[&str]) -> Result<Vec<Bytes>, NoMemory> {
     Ok(all)
 }
 
-// Runs the mailer over that folder and those lines: the exit status.
-fn run_over<R: Files + AllocGlobal + Clone + Drop>(
+// Answers over that folder and those lines: the exit status.
+fn answer_over<R: Files + AllocGlobal + Clone + Drop>(
     alloc: Global,
     folder: RealFolder<R>,
-    named: &[Bytes],
-    lines: &mut MemLines,
-) -> u8
-    requires { lines_state lines.old ≡ new_lines }
-{
-    let mut out = MemSink::new(alloc, Vec::new(alloc));
-    let (ended, _) = run_program(alloc, named, folder, lines, 0, [0; 16], &mut out);
-    ended.exit
-}
-
-// The same over the folder of that path.
-fn run_at(
-    rt: HostRuntime,
-    seen: &Seen,
-    path: &str,
-    named: &[Bytes],
     lines: &mut MemLines,
 ) -> Result<u8, NoMemory>
     requires { lines_state lines.old ≡ new_lines }
 {
-    let folder = RealFolder::new(Watched { rt, seen }, path)?;
-    Ok(run_over(rt.alloc(), folder, named, lines))
+    let named = named(alloc, &["answer"])?;
+    let mut out = MemSink::new(alloc, Vec::new(alloc));
+    let (status, _) = run_call(alloc, named.as_slice(), folder, lines, 0, [0; 16], &mut out);
+    Ok(status.number())
 }
 
-// The same where the caller says these pieces.
-fn run_words(
-    rt: HostRuntime,
-    seen: &Seen,
-    path: &str,
-    words: &[&str],
-    pieces: &[&str],
-) -> Result<u8, NoMemory> {
-    let named = named(rt.alloc(), words)?;
+// The same over the folder of that path, where the caller says these pieces.
+fn answer_at(rt: HostRuntime, seen: &Seen, path: &str, pieces: &[&str]) -> Result<u8, NoMemory> {
     let mut lines = caller(rt.alloc(), pieces)?;
-    run_at(rt, seen, path, named.as_slice(), &mut lines)
+    let folder = RealFolder::new(Watched { rt, seen }, path)?;
+    answer_over(rt.alloc(), folder, &mut lines)
 }
 
-// Runs the mailer, and prints its exit status and the syncs that it asked for.
-fn run(rt: HostRuntime, path: &str, words: &[&str], pieces: &[&str]) -> Result<()> {
-    let seen = Seen::of_syncs();
-    let exit = run_words(rt, &seen, path, words, pieces)?;
+// Runs a command without a session over that folder: the exit status.
+fn run_over<R: Files + AllocGlobal + Clone + Drop>(
+    alloc: Global,
+    folder: RealFolder<R>,
+    words: &[&str],
+) -> Result<u8, NoMemory> {
+    let named = named(alloc, words)?;
+    let mut out = MemSink::new(alloc, Vec::new(alloc));
+    let (status, _) = run_still(alloc, named.as_slice(), folder, 0, &mut out);
+    Ok(status.number())
+}
+
+// The same over the folder of that path.
+fn run_at(rt: HostRuntime, seen: &Seen, path: &str, words: &[&str]) -> Result<u8, NoMemory> {
+    let folder = RealFolder::new(Watched { rt, seen }, path)?;
+    run_over(rt.alloc(), folder, words)
+}
+
+// Prints the exit status of what was run, and the syncs that it asked for.
+fn tell(rt: HostRuntime, name: &str, exit: u8, seen: &Seen) -> Result<()> {
     let syncs = seen.take();
-    print!(rt; "{}: ", word(words, 0))?;
-    println!(rt; "exit {exit}, {}", syncs.as_str())?;
+    println!(rt; "{name}: exit {exit}, {}", syncs.as_str())?;
     Ok(())
 }
 
 /// Runs the mailer, where the words say so.
 pub fn session(rt: HostRuntime, words: &[&str]) -> Result<bool> {
     let (path, rest) = (word(words, 1), words_from(words, 2));
-    match word(words, 0) {
-        "answer" => run(rt, path, &["answer"], rest)?,
-        "run" => run(rt, path, rest, &[])?,
+    let seen = Seen::of_syncs();
+    let (name, exit) = match word(words, 0) {
+        "answer" => ("answer", answer_at(rt, &seen, path, rest)?),
+        "run" => (word(rest, 0), run_at(rt, &seen, path, rest)?),
         _ => return Ok(false),
-    }
+    };
+    tell(rt, name, exit, &seen)?;
     Ok(true)
 }

@@ -18,12 +18,12 @@
 use crate::calls::{end_for_memory, said};
 use crate::stage::Stage;
 use crate::texts::{Texts, push_bytes};
-use binkp_mailer::push_session;
 use disk_model::Disk;
 use ftn_addr::{Addr, Bytes, Failed};
 use mem_disk::MemDisk;
 use mem_node::{files_of, names_in, outside_file, own_file, size_at};
 use session_core::{Cause, End};
+use session_lines::push_session;
 use session_run::Report;
 use std::alloc::Global;
 use std::test::Fail;
@@ -171,7 +171,7 @@ fn report(alloc: Global) -> Result<String, Fail> {
 }
 
 // What is asked of the own files that were kept, and of what was told.
-fn is_so(stage: &mut Stage, words: &[&str]) -> Result<String, Fail> {
+fn is_so<W>(stage: &mut Stage<W>, words: &[&str]) -> Result<String, Fail> {
     let rest = words_from(words, 1);
     let is_so = match word(words, 0) {
         "fault" => is_fault(stage.told.as_slice()),
@@ -186,7 +186,7 @@ fn is_so(stage: &mut Stage, words: &[&str]) -> Result<String, Fail> {
 }
 
 /// What the question of these words answers.
-pub fn ask(stage: &mut Stage, words: &[&str]) -> Result<String, Fail> {
+pub fn ask<W>(stage: &mut Stage<W>, words: &[&str]) -> Result<String, Fail> {
     let alloc = stage.alloc;
     match word(words, 0) {
         "kept" | "fault" | "heard" | "woven" => is_so(stage, words),

@@ -8,6 +8,7 @@ use mem_mailer::{Found, Ran, Takes, call_by, call_over, call_slowly, end_of, run
 use mem_node::{Resting, act_once, with_queued, with_source};
 use std::alloc::{AllocError, Global};
 use std::fmt::Debug;
+use std::sync::Wait;
 use std::test::Fail;
 use test_script::{number, word, words_from};
 
@@ -185,10 +186,10 @@ fn act_next(alloc: Global, rest: Resting, is_told: bool) -> Acted {
 }
 
 // How the program ends with these words, where nobody calls.
-fn end(alloc: Global, texts: &Texts, rest: Resting, words: &[&str]) -> Acted {
+fn end<W: Wait>(rt: &W, alloc: Global, texts: &Texts, rest: Resting, words: &[&str]) -> Acted {
     let named = texts.pieces(words_from(words, 1))?;
     let named = slices(alloc, named.as_slice())?;
-    let (exit, is_explained, told) = end_of(alloc, rest, named.as_slice())?;
+    let (exit, is_explained, told) = end_of(rt, alloc, rest, named.as_slice())?;
     let explained = if is_explained { "explained " } else { "" };
     let mut text = format!(in alloc; " {exit} {explained}")?;
     push_bytes(alloc, told.as_slice(), &mut text)?;
@@ -210,12 +211,12 @@ pub fn is_acting(word: &str) -> bool {
 }
 
 /// Makes the call of these words.
-pub fn act(alloc: Global, texts: &Texts, rest: Resting, words: &[&str]) -> Acted {
+pub fn act<W: Wait>(rt: &W, alloc: Global, texts: &Texts, rest: Resting, words: &[&str]) -> Acted {
     match word(words, 0) {
         "queue" => queue(alloc, texts, rest, words),
         "source" => source(alloc, rest, words),
         "act" => act_next(alloc, rest, true),
         "acts" => act_next(alloc, rest, false),
-        _ => end(alloc, texts, rest, words),
+        _ => end(rt, alloc, texts, rest, words),
     }
 }

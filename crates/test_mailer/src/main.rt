@@ -23,6 +23,10 @@
 //!                                      nothing of what is written behind `^0`, no write behind `^1`, two behind `^3`, all behind `-`,
 //!                                      and so behind `%1`, where the first put to the output fails
 //! run list                             the command of these words, which holds no session
+//! serve 0 60 | $CALL | ~ | !           a node serves with a clock of these moments while these call: a peer that says all that at once,
+//!                                      nobody for a while, and a failure to wait for one; behind the last it is told to stop
+//! dials $LOGIN $END | !                what the dials of the next `serve` reach: a peer that says one piece after another, and nobody
+//! deaf 0 | ~                           a node that serves and can't listen
 //! ~answer < $LOGIN                     prints nothing
 //! if $GOT LINE, else LINE              the line is played where what was told ends so, or where it didn't
 //! ```
@@ -45,18 +49,24 @@
 mod asks;
 mod calls;
 mod made;
+mod serving;
 mod stage;
 mod texts;
 mod trials;
 
 use stage::Stage;
 use std::io;
+use std::sync::Wait;
 use std::test::Fail;
 use test_script::{between, lines_of};
 use trials::{Trial, is_trial};
 
 // Plays a line, or the trial that begins so, and prints what it says.
-fn play(rt: HostRuntime, stage: &mut Stage, trial: &Trial<'_>) -> Result<(), Fail> {
+fn play<W: Wait + Drop>(
+    rt: HostRuntime,
+    stage: &mut Stage<W>,
+    trial: &Trial<'_>,
+) -> Result<(), Fail> {
     let played = if is_trial(trial.line) {
         trial.all(stage)
     } else {
@@ -67,8 +77,8 @@ fn play(rt: HostRuntime, stage: &mut Stage, trial: &Trial<'_>) -> Result<(), Fai
 }
 
 // Plays all lines over one stage.
-fn play_all(rt: HostRuntime, lines: &[&str]) -> Result<(), Fail> {
-    let mut stage = Box::new(rt.alloc(), Stage::new(rt.alloc()))?;
+fn play_all<W: Wait + Drop>(rt: HostRuntime, wait: W, lines: &[&str]) -> Result<(), Fail> {
+    let mut stage = Box::new(rt.alloc(), Stage::new(wait, rt.alloc()))?;
     let (mut first, mut last, mut head) = (0, 0, None);
     for (place, line) in lines.iter().enumerate() {
         match *line {
@@ -93,5 +103,5 @@ fn play_all(rt: HostRuntime, lines: &[&str]) -> Result<(), Fail> {
 fn main(rt: HostRuntime) -> Result<(), Fail> {
     let text = io::read_to_string(rt.alloc(), rt.reader())?;
     let lines = lines_of(rt.alloc(), text.as_str())?;
-    play_all(rt, lines.as_slice())
+    play_all(rt, rt, lines.as_slice())
 }

@@ -2,6 +2,7 @@
 use crate::asks::{ask, own_bytes};
 use crate::calls::{act, call, is_acting, run_words, saying_at};
 use crate::made::{is_making, made};
+use crate::serving::{dials_of, serve};
 use crate::texts::{Texts, push_bytes};
 use command_base::{Status, push_status};
 use ftn_addr::{Bytes, Failed, NoMemory};
@@ -10,17 +11,21 @@ use mem_mailer::{Ran, disk_of};
 use mem_node::{Resting, reopened};
 use std::alloc::{AllocError, Global};
 use std::mem;
+use std::sync::Wait;
 use std::test::Fail;
 use test_script::{number, word, words_from, words_of};
 
 #[derive(Drop)]
-pub struct Stage {
+pub struct Stage<W> {
+    wait: W,
     pub alloc: Global,
     pub texts: Texts,
     /// The disk behind the last call.
     pub disk: MemDisk,
     /// Which call of the disk is to fail next; 0 where none is.
     pub failing: u64,
+    /// What the dials of the next node that serves reach.
+    dials: Vec<Vec<Bytes>>,
     /// What came of the last call, what was told, and what a session's printed.
     pub status: Bytes,
     pub told: Bytes,
@@ -45,14 +50,16 @@ fn status_line(alloc: Global, status: &Status) -> Result<Bytes, Fail> {
     Ok(Bytes::from_slice(alloc, text.strip_suffix(b"\n").unwrap_or(text))?)
 }
 
-impl Stage {
+impl<W: Wait + Drop> Stage<W> {
     /// An empty disk, and no text.
-    pub fn new(alloc: Global) -> Stage {
+    pub fn new(wait: W, alloc: Global) -> Stage<W> {
         Stage {
+            wait,
             alloc,
             texts: Texts::new(alloc),
             disk: MemDisk::new(alloc),
             failing: 0,
+            dials: Vec::new(alloc),
             status: Bytes::new(alloc),
             told: Bytes::new(alloc),
             printed: Bytes::new(alloc),
@@ -148,6 +155,7 @@ impl Stage {
             first if is_making(first) => self.make(words)?,
             "let" => self.texts.define(word(words, 1), words_from(words, 2))?,
             "fail" => self.failing = number(words, 1)?,
+            "dials" => self.dials = dials_of(self.alloc, &self.texts, words)?,
             "keep" => self.kept = own_bytes(self.alloc, &mut self.disk, word(words, 1))?,
             _ => return Ok(false),
         }
@@ -168,10 +176,25 @@ impl Stage {
         self.told_of(ran)
     }
 
+    // What comes of a node that serves.
+    fn served(&mut self, words: &[&str]) -> Result<String, Fail> {
+        let rest = self.take_rest()?;
+        let dials = mem::replace(&mut self.dials, Vec::new(self.alloc));
+        let ran = serve(
+            &self.wait,
+            self.alloc,
+            &self.texts,
+            rest,
+            words,
+            dials.as_slice(),
+        )?;
+        self.told_of(ran)
+    }
+
     // What the store answers, or how the program ends.
     fn acted(&mut self, words: &[&str]) -> Result<String, Fail> {
         let rest = self.take_rest()?;
-        let (text, disk) = act(self.alloc, &self.texts, rest, words)?;
+        let (text, disk) = act(&self.wait, self.alloc, &self.texts, rest, words)?;
         self.disk = disk;
         Ok(text)
     }
@@ -182,8 +205,10 @@ impl Stage {
             return self.called(words, place);
         }
         let first = word(words, 0);
-        if first == "run" {
-            return self.commanded(words);
+        match first {
+            "run" => return self.commanded(words),
+            "serve" | "deaf" => return self.served(words),
+            _ => {}
         }
         if is_acting(first) {
             self.acted(words)

@@ -2,6 +2,7 @@
 use crate::stage::Stage;
 use mem_node::{picks_at, stopped};
 use std::alloc::Global;
+use std::sync::Wait;
 use std::test::Fail;
 
 /// Whether the line begins a trial.
@@ -73,7 +74,7 @@ impl Trial<'_> {
     }
 
     // Makes the call over the disk as prepared. Its disk's call of that number fails, unless it is stopped there.
-    fn arrive(&self, stage: &mut Stage, number: u64) -> Result<(), Fail> {
+    fn arrive<W: Wait + Drop>(&self, stage: &mut Stage<W>, number: u64) -> Result<(), Fail> {
         for line in self.prepared {
             stage.play(line)?;
         }
@@ -84,7 +85,7 @@ impl Trial<'_> {
     }
 
     // How many images there are of the disk that the call leaves.
-    fn images(&self, stage: &mut Stage, number: u64) -> Result<u64, Fail> {
+    fn images<W: Wait + Drop>(&self, stage: &mut Stage<W>, number: u64) -> Result<u64, Fail> {
         if self.line.starts_with("fails") {
             return Ok(1);
         }
@@ -93,7 +94,12 @@ impl Trial<'_> {
     }
 
     // What is printed over such an image.
-    fn outcome(&self, stage: &mut Stage, number: u64, pick: u64) -> Result<String, Fail> {
+    fn outcome<W: Wait + Drop>(
+        &self,
+        stage: &mut Stage<W>,
+        number: u64,
+        pick: u64,
+    ) -> Result<String, Fail> {
         self.arrive(stage, number)?;
         if !self.line.starts_with("fails") {
             let disk = stage.take_disk();
@@ -106,7 +112,7 @@ impl Trial<'_> {
     }
 
     // How many calls the disk makes.
-    fn calls(&self, stage: &mut Stage) -> Result<u64, Fail> {
+    fn calls<W: Wait + Drop>(&self, stage: &mut Stage<W>) -> Result<u64, Fail> {
         self.arrive(stage, 0)?;
         Ok(stage.disk.calls())
     }
@@ -121,9 +127,9 @@ impl Trial<'_> {
     }
 
     // Tries each image of the call of that number.
-    fn each(
+    fn each<W: Wait + Drop>(
         &self,
-        stage: &mut Stage,
+        stage: &mut Stage<W>,
         seen: &mut Seen,
         number: u64,
         calls: u64,
@@ -141,7 +147,7 @@ impl Trial<'_> {
     }
 
     // Prints what all trials came to.
-    fn tell(&self, stage: &mut Stage, seen: &str) -> Result<(), Fail> {
+    fn tell<W: Wait + Drop>(&self, stage: &mut Stage<W>, seen: &str) -> Result<(), Fail> {
         stage.take_said();
         stage.begin(self.line)?;
         stage.say("")?;
@@ -149,7 +155,7 @@ impl Trial<'_> {
     }
 
     /// Makes all trials. What comes of the first is printed, and of each other that differs from it.
-    pub fn all(&self, stage: &mut Stage) -> Result<(), Fail> {
+    pub fn all<W: Wait + Drop>(&self, stage: &mut Stage<W>) -> Result<(), Fail> {
         let calls = self.calls(stage)?;
         let mut seen = Seen {
             first: None,

@@ -37,6 +37,7 @@ fn parts<'a>(form: Form<'a>) -> (&'static str, &'a [u8]) {
         Form::Answer => ("answer", &[]),
         Form::List => ("list", &[]),
         Form::Take => ("take", &[]),
+        Form::Serve => ("serve", &[]),
         Form::Call(text) => ("call", text.as_slice()),
         Form::Lookup(text) => ("lookup", text.as_slice()),
         Form::Compile(path) => ("compile", path.as_slice()),

@@ -1,7 +1,7 @@
 use Rattle.std.proofs.Common.{◌∙◌, ap, inr, option_map, refl, sym}
 use Rattle.mail_conf.specs.ConfView.{conf_text}
 use Rattle.command_base.proofs.ReadOnly.{no_read}
-use Rattle.binkp_mailer.specs.Hosts.{host_text}
+use Rattle.call_hosts.specs.Hosts.{host_text}
 use Rattle.binkp_mailer.specs.DiskCall.{Is_set, No_call}
 use Rattle.binkp_mailer.proofs.reaching.call_peer.Goals as goal
 

@@ -1,12 +1,13 @@
 -- Where a node that is called is reached: by the settings, or by the index of the nodelist (own; FTS-5000).
 use Rattle.std.specs.Prelude.{nat_lt, List, length, Option, Some, None, find, option_map, if◌then◌else◌}
+use Rattle.std.specs.Option.{option_or}
 use Rattle.ftn_addr.specs.Address.{Address, same_address}
 use Rattle.binkp_link.specs.LineSources.{Dialling}
 use Rattle.mail_conf.specs.Conf.{ConfText}
 use Rattle.mail_conf.specs.Host.{NodeText}
 use Rattle.nodelist_comp.specs.Node.{ListedNode}
 use Rattle.nodelist_files.specs.IndexFile.{direct_of}
-use Rattle.binkp_mailer.specs.declared.hosts.Host.{Host}
+use Rattle.call_hosts.specs.declared.hosts.Host.{Host}
 
 abbrev pub host_text : Host → Dialling
 host_text h = record { host = h.name.list; port = h.port }
@@ -26,3 +27,7 @@ listed_at node = record { host = node.host; port = node.port }
 abbrev pub listed_host : Option (List ListedNode) → Address → Option Dialling
 listed_host None peer = None
 listed_host (Some nodes) peer = option_map listed_at (direct_of nodes peer)
+
+-- those of the settings, else those of an index
+abbrev pub host_at : ConfText → Option (List ListedNode) → Address → Option Dialling
+host_at c index peer = option_or (set_host c peer) (listed_host index peer)

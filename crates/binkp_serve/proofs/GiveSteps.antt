@@ -11,11 +11,11 @@ use Rattle.node_model.specs.Stocks.{Sizes, sizes, on_state}
 use Rattle.node_model.specs.Stores.{Stored, StoreState, StoreTied, IfTold, given, gift_made, stored_after, GivesNext, HoldsNext}
 use Rattle.node_model.specs.declared.store.Gave.TheVariants.{Given, Held, Nothing}
 use Rattle.node_model.proofs.Lists.{some_inj}
-use Rattle.binkp_mailer.specs.GiveSteps.{GivesAreSteps}
+use Rattle.binkp_serve.specs.GiveSteps.{GivesAreSteps}
 
 -- Members of a list that is seen without bytes.
 
-there_with : {A B : Type 0} (f : A → B) (xs : List A) (x : A) → Member x xs → Member (f x) (map f xs)
+pub there_with : {A B : Type 0} (f : A → B) (xs : List A) (x : A) → Member x xs → Member (f x) (map f xs)
 there_with f [] x there = absurd there
 there_with f (y ∷ ys) x (inl is) = inl (ap f is)
 there_with f (y ∷ ys) x (inr behind) = inr (there_with f ys x behind)
@@ -26,7 +26,7 @@ there_before f (x ∷ xs) y (inl is) = (x, inl refl, sym is)
 there_before f (x ∷ xs) y (inr behind) = let found = there_before f xs y behind in (found.0, inr found.1, found.2)
 
 -- The next receipt in a round is the same, with its bytes.
-next_with : (number last : ℕ) (inbox : List Receipt) → NextGiven number last (map (receipt_map length) inbox) → NextGiven number last inbox
+pub next_with : (number last : ℕ) (inbox : List Receipt) → NextGiven number last (map (receipt_map length) inbox) → NextGiven number last inbox
 next_with number last inbox next =
     let found = there_before (receipt_map length) inbox next.receipt next.there in
     record {

@@ -1,0 +1,15 @@
+pub mod Beginning
+pub mod Ending
+pub mod GiveSteps
+pub mod Giving
+pub mod Items
+pub mod LineSources
+pub mod Next
+pub mod Options
+pub mod Placing
+pub mod Reaching
+pub mod Rested
+pub mod Sessions
+pub mod Staying
+pub mod Takings
+pub mod Tries
