@@ -1,5 +1,5 @@
 //! What queueing files together will write.
-ghost use Rattle.std.specs.Prelude.{◌≡◌, ◌≤◌, [], ◌∷◌, ◌++◌, OnOk, IfOk, map, option_map};
+ghost use Rattle.std.specs.Prelude.{◌≡◌, ◌≤◌, [], ◌∷◌, ◌++◌, None, OnOk, IfOk, map, option_map};
 ghost use Rattle.ftn_addr.specs.Address.{address};
 ghost use Rattle.ftn_addr.specs.Files.{is_same};
 ghost use Rattle.ftn_addr.specs.Key.{key_of};
@@ -8,7 +8,7 @@ ghost use Rattle.ledger_rec.specs.Batch.{answered_records, queue_records, taken_
 ghost use Rattle.ledger_rec.specs.Fold.{new_entry};
 ghost use Rattle.ledger_rec.specs.Items.{Entry, entry};
 ghost use Rattle.ledger_rec.specs.Limits.{Fits, HasNumbers};
-ghost use Rattle.ledger_rec.specs.Record.{new_file, record_of};
+ghost use Rattle.ledger_rec.specs.Record.{Queue as Queue_record, new_file, record_of};
 ghost use Rattle.ledger_rec.specs.Spelling.{AreRecords, spelling};
 ghost use Rattle.node_model.specs.Lists.{Each};
 ghost use Rattle.node_model.specs.StoreWords.{FitsQueue, entry_of, slot_of};
@@ -77,6 +77,17 @@ fn write_payload(alloc: Global, rec: &Record, payloads: &mut Vec<Bytes>) -> Resu
     Ok(())
 }
 
+// Writes the payload of a file that is queued behind the others.
+fn write_queued(alloc: Global, file: &NewFile, payloads: &mut Vec<Bytes>) -> Result<(), NoMemory>
+    requires { FitsQueue (entry_of file.now) }
+    ensures numbers { OnOk result (HasNumbers (Queue_record (new_text (entry_of file.now)))) }
+    ensures payloads { OnOk result (lists payloads.new.items ≡ lists payloads.old.items ++ spelling (Queue_record (new_text (entry_of file.now))) ∷ []) }
+{
+    let rec = Record::Queue(record_for(alloc, file)?);
+    write_payload(alloc, &rec, payloads)?;
+    Ok(())
+}
+
 fn is_of(dest: &Addr, key: &FileKey, addr: &Addr, other: &FileKey) -> bool
     ensures { result ≡ is_same (address dest.now) (key_of key.now) (address addr.now) (key_of other.now) }
 {
@@ -128,6 +139,21 @@ fn number_in(
 }
 
 impl Plan {
+    // Plans a file that has no number yet. Where memory is wanted, the plan is of no use.
+    fn add_new(&mut self, alloc: Global, file: &NewFile) -> Result<(), NoMemory>
+        requires { FitsQueue (entry_of file.now) }
+        ensures slots { OnOk result (map slot_of self.new.slots.items ≡ map slot_of self.old.slots.items ++ slot_with (entry_of file.now) None ∷ []) }
+        ensures fresh { OnOk result (map new_file self.new.fresh.items ≡ map new_file self.old.fresh.items ++ new_text (entry_of file.now) ∷ []) }
+        ensures payloads { OnOk result (lists self.new.payloads.items ≡ lists self.old.payloads.items ++ spelling (Queue_record (new_text (entry_of file.now))) ∷ []) }
+        ensures numbers { OnOk result (HasNumbers (Queue_record (new_text (entry_of file.now)))) }
+    {
+        // A record that is written is whole, and what is folded later is the file's alone: each has its copy.
+        write_queued(alloc, file, &mut self.payloads)?;
+        self.fresh.push(record_for(alloc, file)?)?;
+        self.slots.push(Slot::New(file.number))?;
+        Ok(())
+    }
+
     // Plans one file more, and notes it in the index of the files that are new. Where memory is wanted, the plan is of no use.
     fn add(
         &mut self,
@@ -148,12 +174,8 @@ impl Plan {
             self.slots.push(Slot::Again(number))?;
             return Ok(());
         }
-        // A record that is written is whole, and what is folded later is the file's alone: each has its copy.
-        let rec = Record::Queue(record_for(alloc, file)?);
-        write_payload(alloc, &rec, &mut self.payloads)?;
-        self.fresh.push(record_for(alloc, file)?)?;
+        self.add_new(alloc, file)?;
         index.note(&file.dest, &file.key);
-        self.slots.push(Slot::New(file.number))?;
         Ok(())
     }
 }
