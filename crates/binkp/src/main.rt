@@ -17,6 +17,7 @@ mod lock;
 mod outbound;
 mod told;
 
+use binkp_link::Dice;
 use binkp_mailer::{Ended, refuse_for_memory, run_program};
 use closed::hold_closed;
 use ftn_addr::{Bytes, NoMemory};
@@ -26,6 +27,7 @@ use real_edge::{RealFolder, StdSink, SystemClock, SystemDice, SystemLines, stand
 use std::process::ExitCode;
 use std::rt::{Env, Stdin, Stdout};
 use std::sync::Wait;
+use std::time::Duration;
 use std::{env, io};
 use told::tell;
 
@@ -66,11 +68,20 @@ fn is_word(words: &[Bytes], word: &[u8]) -> bool {
     words.first().is_some_and(|first| first.as_slice() == word)
 }
 
+/// For how long a node that serves waits for a caller before it looks whom to call: 2.5 to 5 seconds, drawn at each start, so that two
+/// nodes that once called each other at the same moment don't go on to do so.
+fn patience(dice: &mut SystemDice) -> Duration {
+    let [high, low, ..] = dice.sixteen();
+    let drawn = u16::from_be_bytes([high, low]);
+    Duration::from_millis(2_500 + u64::from(drawn % 2_500))
+}
+
 /// The lines of the system. The standard streams are one of them where a caller is answered there, and nobody else needs them.
 fn lines(
     rt: &HostRuntime,
     path: &str,
     words: &[Bytes],
+    patience: Duration,
 ) -> io::Result<SystemLines<HostRuntime, Stdin, Stdout>>
     ensures { IfOk result (λ lines. IsFresh (system_lines lines.counts)) }
 {
@@ -80,7 +91,7 @@ fn lines(
     } else {
         None
     };
-    Ok(SystemLines::new(rt.clone()?, standard, stop_file))
+    Ok(SystemLines::new(rt.clone()?, standard, stop_file, patience))
 }
 
 /// Says that the system refused what a call begins with, or that there is no memory for it.
@@ -106,7 +117,7 @@ fn call<W: Wait>(
     dice: &mut SystemDice,
 ) -> Ended {
     let mut folder = folder;
-    let mut lines = match lines(rt, path, words) {
+    let mut lines = match lines(rt, path, words, patience(dice)) {
         Ok(lines) => lines,
         Err(error) => return not_started(rt, error),
     };

@@ -1,5 +1,5 @@
 -- What a call over a disk says of the disk's images.
-use Rattle.std.proofs.Common.{◌≡◌, ◌∙◌, ℕ, ◌≤◌, ◌<◌, arith, Bool, true, false, List, [], Option, Some, None, Ok, Err, option_map, refl, sym, ap, subst, ⊎_elim}
+use Rattle.std.proofs.Common.{◌≡◌, ◌∙◌, ℕ, ◌≤◌, ◌<◌, Bool, true, false, List, [], Option, Some, None, Ok, Err, option_map, refl, sym, ap, subst, ⊎_elim}
 use Rattle.std.specs.Prelude.{if◌then◌else◌}
 use Rattle.std.proofs.lemmas.Bool.{cases_lt}
 use Rattle.ftn_addr.specs.Address.{Address}
@@ -31,8 +31,9 @@ use Rattle.node_store.specs.Stored.{Holding, Memory, state_of, stand_of, stored_
 use Rattle.node_store.specs.Worlds.{OpensAs, Opens}
 use Rattle.node_store.proofs.Openings.{one_shelf, opens_to}
 use Rattle.session_run.specs.Reports.{ReportText}
+use Rattle.command_words.specs.Forms.{Command}
 use Rattle.command_base.specs.Opening.{HasOpened}
-use Rattle.binkp_mailer.specs.DiskCall.{OpensTo, KeepsReceipts, Over_disk, No_words, Not_asked, Not_set, No_call, Not_opened, No_index, Bad_index, No_host, Answered, Called}
+use Rattle.binkp_mailer.specs.DiskCall.{OpensTo, KeepsReceipts, Over_disk, Not_set, No_call, Not_opened, No_index, Bad_index, No_host, Answered, Called}
 use Rattle.binkp_mailer.specs.Inbound.{Gives_behind, Gives_none, Gives_round}
 use Rattle.command_base.specs.Settings.{OnlyRead}
 use Rattle.command_base.specs.Statuses.{Status}
@@ -212,9 +213,9 @@ module _ {D : Type 0} (tells : Bool) (content : D → World) (faults : D → ℕ
   called_since : (d : Durable) (disk : D) (peer : Address) (given : Given) (host : Dialling) (lines : LinesState) (a b : Holding D) (told : Option ReportText) (had : Status) (lines' : LinesState)
       → tells ≡ true → Calls_node tells content faults moment images peer given host lines a told had lines' b → HasSince d disk a → HasSince d disk b
   called_since d disk peer given host lines a b told had lines' telling (No_room none had_is lines_is is) h = same_since d disk a b is h
-  called_since d disk peer given host lines a b told had lines' telling (Is_marked none had_is lines_is time takes stood) h = kept_since d disk a b telling (takes_keep (marked_so (call_mark given.conf peer) (call_text given.conf) time) (Ok Exists) (St a) (St b) takes) h
-  called_since d disk peer given host lines a b told had lines' telling (Not_marked none had_is lines_is time fault takes) h = kept_since d disk a b telling (takes_keep (marked_so (call_mark given.conf peer) (call_text given.conf) time) (Err fault) (St a) (St b) takes) h
-  called_since d disk peer given host lines a b told had lines' telling (Under_mark marked talked was time takes dials frees) h =
+  called_since d disk peer given host lines a b told had lines' telling (Is_marked none had_is lines_is time takes notes stood) h = kept_since d disk a b telling (takes_keep (marked_so (call_mark given.conf peer) (call_text given.conf) time) (Ok Exists) (St a) (St b) takes) h
+  called_since d disk peer given host lines a b told had lines' telling (Not_marked none had_is lines_is time fault takes notes) h = kept_since d disk a b telling (takes_keep (marked_so (call_mark given.conf peer) (call_text given.conf) time) (Err fault) (St a) (St b) takes) h
+  called_since d disk peer given host lines a b told had lines' telling (Under_mark marked talked was time takes notes dials frees) h =
       freed_since d disk (call_mark given.conf peer) (call_text given.conf) was had talked b telling frees
       (dialled_since d disk peer given host lines marked talked told was lines' telling dials
       (kept_since d disk a marked telling (takes_keep (marked_so (call_mark given.conf peer) (call_text given.conf) time) (Ok Made) (St a) (St marked) takes) h))
@@ -241,27 +242,20 @@ module _ {D : Type 0} (tells : Bool) (content : D → World) (faults : D → ℕ
   since_still disk disk' left telling disk_is has = λ d reads all k w e from to image op.
       (has d reads all).each k e from (subst (λ (x : D). k ≤ moment x) disk_is to) (telling, w, subst (λ (x : D). images x k w) disk_is image, op)
 
-  pub keeps_receipts : (words : List (List ℕ)) (challenge : List ℕ) (now : ℕ) (lines : LinesState) (disk : D) (told : Option ReportText) (had : Status) (lines' : LinesState) (disk' : D)
-      → tells ≡ true → Over_disk tells content faults moment images words challenge now lines disk told had lines' disk' → KeepsReceipts content moment images disk disk'
-  keeps_receipts words challenge now lines disk told had lines' disk' telling (Not_asked none why form lines_is disk_is) = λ d reads all k w e from to image op.
-      let here : images disk k w = subst (λ (x : D). images x k w) disk_is image in
-      let until : k ≤ moment disk = subst (λ (x : D). k ≤ moment x) disk_is to in
-      let now_is : images disk (moment disk) w = subst (λ (m : ℕ). images disk m w) (omega (arith, from, until)) here in
-      let opens = all w now_is in
-      opens_still d w opens.0 opens.1 opens.2 e op
-  keeps_receipts words challenge now lines disk told had lines' disk' telling (No_words none is only lines_is) = read_still disk disk' only
-  keeps_receipts words challenge now lines disk told had lines' disk' telling (Not_set none form why only lines_is) = read_still disk disk' only
-  keeps_receipts words challenge now lines disk told had lines' disk' telling (No_call conf settings none why only lines_is) = read_still disk disk' only
-  keeps_receipts words challenge now lines disk told had lines' disk' telling (Not_opened conf settings side are fault none had_is lines_is refused) = λ d reads all k w e from to image op.
+  pub keeps_receipts : (command : Command) (challenge : List ℕ) (now : ℕ) (lines : LinesState) (disk : D) (told : Option ReportText) (had : Status) (lines' : LinesState) (disk' : D)
+      → tells ≡ true → Over_disk tells content faults moment images command challenge now lines disk told had lines' disk' → KeepsReceipts content moment images disk disk'
+  keeps_receipts command challenge now lines disk told had lines' disk' telling (Not_set none why only lines_is) = read_still disk disk' only
+  keeps_receipts command challenge now lines disk told had lines' disk' telling (No_call conf settings none why only lines_is) = read_still disk disk' only
+  keeps_receipts command challenge now lines disk told had lines' disk' telling (Not_opened conf settings side are fault none had_is lines_is refused) = λ d reads all k w e from to image op.
       leaves_still d disk disk' (refused.stop telling) all k w e from to image op
-  keeps_receipts words challenge now lines disk told had lines' disk' telling (No_index conf settings peer are unset none why only lines_is) = read_still disk disk' only
-  keeps_receipts words challenge now lines disk told had lines' disk' telling (Bad_index conf settings peer are unset bad opened h none had_is lines_is disk_is) = opened_still disk disk' opened telling h disk_is
-  keeps_receipts words challenge now lines disk told had lines' disk' telling (No_host conf settings peer are unset index reads unlisted opened h none had_is lines_is disk_is) = opened_still disk disk' opened telling h disk_is
-  keeps_receipts words challenge now lines disk told had lines' disk' telling (Answered conf settings are opened held left h was answers gives disk_is) =
+  keeps_receipts command challenge now lines disk told had lines' disk' telling (No_index conf settings peer are unset none why only lines_is) = read_still disk disk' only
+  keeps_receipts command challenge now lines disk told had lines' disk' telling (Bad_index conf settings peer are unset bad opened h none had_is lines_is disk_is) = opened_still disk disk' opened telling h disk_is
+  keeps_receipts command challenge now lines disk told had lines' disk' telling (No_host conf settings peer are unset index reads unlisted opened h none had_is lines_is disk_is) = opened_still disk disk' opened telling h disk_is
+  keeps_receipts command challenge now lines disk told had lines' disk' telling (Answered conf settings are opened held left h was answers gives disk_is) =
       since_still disk disk' left telling disk_is
       (λ d reads all. kept_since d disk held left telling (behind_keeps conf told was had held left gives)
       (answered_since d disk (record { conf = conf; challenge = challenge; moment = now }) lines opened held told was lines' telling answers (opened_since d disk opened telling h reads all)))
-  keeps_receipts words challenge now lines disk told had lines' disk' telling (Called conf settings peer are host has opened held left h was calls gives disk_is) =
+  keeps_receipts command challenge now lines disk told had lines' disk' telling (Called conf settings peer are host has opened held left h was calls gives disk_is) =
       since_still disk disk' left telling disk_is
       (λ d reads all. kept_since d disk held left telling (behind_keeps conf told was had held left gives)
       (called_since d disk peer (record { conf = conf; challenge = challenge; moment = now }) host lines opened held told was lines' telling calls (opened_since d disk opened telling h reads all)))

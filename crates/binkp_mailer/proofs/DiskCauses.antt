@@ -24,7 +24,8 @@ use Rattle.session_auth.specs.Sides.{Side, Answers, Calls}
 use Rattle.session_core.specs.Ends.{End}
 use Rattle.session_core.specs.Ends as E
 use Rattle.session_run.specs.Reports.{ReportText}
-use Rattle.binkp_mailer.specs.DiskCall.{IsNoCall, Over_disk, No_words, Not_asked, Not_set, No_call, Not_opened, No_index, Bad_index, No_host, Answered, Called}
+use Rattle.binkp_mailer.specs.DiskCall.{IsNoCall, Over_disk, Not_set, No_call, Not_opened, No_index, Bad_index, No_host, Answered, Called}
+use Rattle.command_words.specs.Forms.{Command}
 use Rattle.command_base.specs.Causes.{DiskCause}
 use Rattle.command_base.proofs.Causes.{had_no_memory, printed_disk, refused_so, said_none, unindexed_so, unset_so}
 use Rattle.binkp_mailer.specs.Inbound.{Gives_behind, Gives_none, Gives_round, status_behind, waiting}
@@ -64,9 +65,9 @@ module _ {D : Type 0} (tells : Bool) (content : D → World) (faults : D → ℕ
   abbrev St : Holding D → StoreStand
   St = stand_of tells content faults moment images
 
-  no_call_so : (words : List (List ℕ)) (conf : ConfText) (disk disk' : D) (had : Status) → IsNoCall words conf had → DiskCause tells content faults had disk disk'
-  no_call_so words conf disk disk' had (inl none) = said_none tells content faults moment images disk disk' had none.0
-  no_call_so words conf disk disk' had (inr is) = had_no_memory tells content faults moment images disk disk' had is
+  no_call_so : (command : Command) (conf : ConfText) (disk disk' : D) (had : Status) → IsNoCall command conf had → DiskCause tells content faults had disk disk'
+  no_call_so command conf disk disk' had (inl none) = said_none tells content faults moment images disk disk' had none.0
+  no_call_so command conf disk disk' had (inr is) = had_no_memory tells content faults moment images disk disk' had is
 
   served_so : (limit : ℕ) (had : Status) (line line' : LineState) (opened left : Holding D) (disk : D) → faults opened.disk ≡ faults disk → OfSession had
       → StatusCause limit had line line' (stand_of tells content faults moment images opened).state.counts (stand_of tells content faults moment images left).state.counts → DiskCause tells content faults had disk left.disk
@@ -196,10 +197,10 @@ module _ {D : Type 0} (tells : Bool) (content : D → World) (faults : D → ℕ
       → Calls_node tells content faults moment images peer given host lines a told had lines' b → SoFar had disk b
   called_so peer given host lines a b told had lines' disk calm (No_room none had_is lines_is is) =
       subst (λ (x : Holding D). SoFar had disk x) (sym is) (is_so (λ (x : Status). SoFar x disk a) had S.NoMemory had_is (quiet_so S.NoMemory disk a tt tt calm))
-  called_so peer given host lines a b told had lines' disk calm (Is_marked none had_is lines_is time takes stood) =
+  called_so peer given host lines a b told had lines' disk calm (Is_marked none had_is lines_is time takes notes stood) =
       is_so (λ (x : Status). SoFar x disk b) had (S.Marked (last_part (call_mark given.conf peer))) had_is
       (quiet_so (S.Marked (last_part (call_mark given.conf peer))) disk b tt tt (made_faults (marked_so (call_mark given.conf peer) (call_text given.conf) time) Exists a b takes ∙ calm))
-  called_so peer given host lines a b told had lines' disk calm (Not_marked none had_is lines_is time fault takes) =
+  called_so peer given host lines a b told had lines' disk calm (Not_marked none had_is lines_is time fault takes notes) =
       let rose : Increased (faults a.disk) (faults b.disk) = took_failed (marked_so (call_mark given.conf peer) (call_text given.conf) time) fault (St a).state (St b).state takes.made in
       is_so (λ (x : Status). SoFar x disk b) had (S.DiskFault (faults b.disk)) had_is
       (record {
@@ -207,7 +208,7 @@ module _ {D : Type 0} (tells : Bool) (content : D → World) (faults : D → ℕ
         cause = (subst (λ (n : ℕ). Increased n (faults b.disk)) calm rose, count_grew-refl (faults b.disk));
         grew = subst (λ (n : ℕ). CountGrew n (faults b.disk)) calm (count_grew-increased (faults a.disk) (faults b.disk) rose);
       })
-  called_so peer given host lines a b told had lines' disk calm (Under_mark marked talked was time takes dials frees) =
+  called_so peer given host lines a b told had lines' disk calm (Under_mark marked talked was time takes notes dials frees) =
       freed_so (call_mark given.conf peer) (call_text given.conf) was had talked b disk frees
       (dialled_so peer given host lines marked talked told was lines' disk (made_faults (marked_so (call_mark given.conf peer) (call_text given.conf) time) Made a marked takes ∙ calm) dials)
 
@@ -220,23 +221,21 @@ module _ {D : Type 0} (tells : Bool) (content : D → World) (faults : D → ℕ
       (then_so was held left disk result so (round_keeps St conf.inbound conf.inbound_nonsecure _ held result left gives).faults
       (λ failed. round_failed St conf.inbound conf.inbound_nonsecure (waiting (St held)) held left (subst (λ (r : Result (Unit {0}) StoreFault). GivesFiles St conf.inbound conf.inbound_nonsecure (waiting (St held)) held r left) failed gives))).cause
 
-  had_so : (words : List (List ℕ)) (challenge : List ℕ) (now : ℕ) (lines : LinesState) (disk : D) (told : Option ReportText) (had : Status) (lines' : LinesState) (disk' : D) → Over_disk tells content faults moment images words challenge now lines disk told had lines' disk' → DiskCause tells content faults had disk disk'
-  had_so words challenge now lines disk told had lines' disk' (No_words none is only lines_is) = is_so (λ (x : Status). DiskCause tells content faults x disk disk') had S.NoMemory is tt
-  had_so words challenge now lines disk told had lines' disk' (Not_asked none is form lines_is disk_is) = said_none tells content faults moment images disk disk' had is
-  had_so words challenge now lines disk told had lines' disk' (Not_set none form why only lines_is) = unset_so tells content faults moment images disk disk' had why
-  had_so words challenge now lines disk told had lines' disk' (No_call conf settings none why only lines_is) = no_call_so words conf disk disk' had why
-  had_so words challenge now lines disk told had lines' disk' (Not_opened conf settings side are fault none had_is lines_is refused) = is_so (λ (x : Status). DiskCause tells content faults x disk disk') had (status_unopened fault (faults disk')) had_is (refused_so tells content faults moment images fault disk disk' refused)
-  had_so words challenge now lines disk told had lines' disk' (No_index conf settings peer are unset none why only lines_is) = unindexed_so tells content faults moment images disk disk' had why
-  had_so words challenge now lines disk told had lines' disk' (Bad_index conf settings peer are unset bad opened h none had_is lines_is disk_is) = is_so (λ (x : Status). DiskCause tells content faults x disk disk') had (S.FileBad index_name) had_is (λ telling. inr (refl, bad telling))
-  had_so words challenge now lines disk told had lines' disk' (No_host conf settings peer are unset index reads unlisted opened h none had_is lines_is disk_is) = is_so (λ (x : Status). DiskCause tells content faults x disk disk') had S.NotFound had_is tt
-  had_so words challenge now lines disk told had lines' disk' (Answered conf settings are opened held left h was answers gives disk_is) =
+  had_so : (command : Command) (challenge : List ℕ) (now : ℕ) (lines : LinesState) (disk : D) (told : Option ReportText) (had : Status) (lines' : LinesState) (disk' : D) → Over_disk tells content faults moment images command challenge now lines disk told had lines' disk' → DiskCause tells content faults had disk disk'
+  had_so command challenge now lines disk told had lines' disk' (Not_set none why only lines_is) = unset_so tells content faults moment images disk disk' had why
+  had_so command challenge now lines disk told had lines' disk' (No_call conf settings none why only lines_is) = no_call_so command conf disk disk' had why
+  had_so command challenge now lines disk told had lines' disk' (Not_opened conf settings side are fault none had_is lines_is refused) = is_so (λ (x : Status). DiskCause tells content faults x disk disk') had (status_unopened fault (faults disk')) had_is (refused_so tells content faults moment images fault disk disk' refused)
+  had_so command challenge now lines disk told had lines' disk' (No_index conf settings peer are unset none why only lines_is) = unindexed_so tells content faults moment images disk disk' had why
+  had_so command challenge now lines disk told had lines' disk' (Bad_index conf settings peer are unset bad opened h none had_is lines_is disk_is) = is_so (λ (x : Status). DiskCause tells content faults x disk disk') had (S.FileBad index_name) had_is (λ telling. inr (refl, bad telling))
+  had_so command challenge now lines disk told had lines' disk' (No_host conf settings peer are unset index reads unlisted opened h none had_is lines_is disk_is) = is_so (λ (x : Status). DiskCause tells content faults x disk disk') had S.NotFound had_is tt
+  had_so command challenge now lines disk told had lines' disk' (Answered conf settings are opened held left h was answers gives disk_is) =
       subst (λ (x : D). DiskCause tells content faults had disk x) (sym disk_is)
       (behind_so conf told was had held left disk (answered_so (record { conf = conf; challenge = challenge; moment = now }) lines opened held told was lines' disk h.calm answers) gives)
-  had_so words challenge now lines disk told had lines' disk' (Called conf settings peer are host has opened held left h was calls gives disk_is) =
+  had_so command challenge now lines disk told had lines' disk' (Called conf settings peer are host has opened held left h was calls gives disk_is) =
       subst (λ (x : D). DiskCause tells content faults had disk x) (sym disk_is)
       (behind_so conf told was had held left disk (called_so peer (record { conf = conf; challenge = challenge; moment = now }) host lines opened held told was lines' disk h.calm calls) gives)
 
   -- a status that is told is the one that was had, or one that says nothing of the disk
-  pub told_cause : (words : List (List ℕ)) (challenge : List ℕ) (now : ℕ) (lines : LinesState) (disk : D) (told : Option ReportText) (had status : Status) (lines' : LinesState) (disk' : D) (out out' : SinkState)
-      → Over_disk tells content faults moment images words challenge now lines disk told had lines' disk' → Prints told had status out out' → DiskCause tells content faults status disk disk'
-  told_cause words challenge now lines disk told had status lines' disk' out out' call prints = printed_disk tells content faults moment images (lines_told told) had status disk disk' out out' (had_so words challenge now lines disk told had lines' disk' call) prints
+  pub told_cause : (command : Command) (challenge : List ℕ) (now : ℕ) (lines : LinesState) (disk : D) (told : Option ReportText) (had status : Status) (lines' : LinesState) (disk' : D) (out out' : SinkState)
+      → Over_disk tells content faults moment images command challenge now lines disk told had lines' disk' → Prints told had status out out' → DiskCause tells content faults status disk disk'
+  told_cause command challenge now lines disk told had status lines' disk' out out' call prints = printed_disk tells content faults moment images (lines_told told) had status disk disk' out out' (had_so command challenge now lines disk told had lines' disk' call) prints

@@ -2,6 +2,7 @@ pub mod Completing
 pub mod DiskCalls
 pub mod DiskCauses
 pub mod Failing
+pub mod Forms
 pub mod HeldParts
 pub mod Lines
 pub mod Marked

@@ -19,6 +19,7 @@ use Rattle.mail_conf.specs.Conf.{ConfText}
 use Rattle.session_auth.specs.Sides.{Side, Answers, Calls}
 use Rattle.session_core.specs.Stages.{home_of}
 use Rattle.session_run.specs.Reports.{ReportText}
+use Rattle.command_words.specs.Forms.{Command}
 use Rattle.command_base.specs.Causes.{IsBadIndex, NoIndex}
 use Rattle.command_base.specs.Opening.{HasOpened, HasRefused}
 use Rattle.command_base.specs.Settings.{HasSettings, NoSettings, OnlyRead}
@@ -29,12 +30,11 @@ use Rattle.call_hosts.specs.Hosts.{listed_host, set_host}
 use Rattle.binkp_mailer.specs.Inbound.{Gives_behind}
 use Rattle.binkp_mailer.specs.OverLines.{Answers_next, Calls_node}
 use Rattle.binkp_mailer.specs.Reports.{Prints}
-use Rattle.binkp_mailer.specs.TopCall.{Given}
-use Rattle.binkp_mailer.specs.Words.{AreWords, HaveForm}
+use Rattle.binkp_mailer.specs.Words.{AsksFor}
 
--- the words ask for nothing at that home, or there was no memory to read them
-abbrev pub IsNoCall : List (List ℕ) → ConfText → Status → Type 0
-IsNoCall words conf had = ((had ≡ S.Usage) × ((side : Side) → AreWords words (home_of conf.addresses) side → ⊥)) ⊎ (had ≡ S.NoMemory)
+-- the command asks for nothing at that home, or there was no memory to read its address
+abbrev pub IsNoCall : Command → ConfText → Status → Type 0
+IsNoCall command conf had = ((had ≡ S.Usage) × ((side : Side) → AsksFor command (home_of conf.addresses) side → ⊥)) ⊎ (had ≡ S.NoMemory)
 
 -- an opening of this world finds that durable state
 abbrev pub OpensTo : Durable → World → Type 0
@@ -59,38 +59,36 @@ module _ {D : Type 0} (tells : Bool) (content : D → World) (faults : D → ℕ
     Is_set : set_host conf peer ≡ Some host → HasHost disk conf peer host
     Is_listed : set_host conf peer ≡ None → (index : Option (List ListedNode)) → ReadsIndex disk index → listed_host index peer ≡ Some host → HasHost disk conf peer host
 
-  -- There was no memory for the words, or they have no form of a call, and nothing was done; or the settings weren't read, or ask for no session by these words, or
-  -- have no host for the node that is called and the index couldn't be read, and the disk was read only; or no store was opened; or
-  -- one was, and the index is bad, or has no host for that node either; or who called next was answered, or the node was called,
-  -- over the store of the disk, and then received files were given. But for these two no line was asked for.
-  pub data Over_disk (words : List (List ℕ)) (challenge : List ℕ) (now : ℕ) (lines : LinesState) (disk : D) (told : Option ReportText) (had : Status) (lines' : LinesState) (disk' : D) : Type 0 where
-    No_words : told ≡ None → had ≡ S.NoMemory → OnlyRead tells content faults moment images disk disk' → lines' ≡ lines → Over_disk words challenge now lines disk told had lines' disk'
-    Not_asked : told ≡ None → had ≡ S.Usage → (HaveForm words → ⊥) → lines' ≡ lines → disk' ≡ disk → Over_disk words challenge now lines disk told had lines' disk'
-    Not_set : told ≡ None → HaveForm words → NoSettings tells content faults moment images disk disk' had → OnlyRead tells content faults moment images disk disk' → lines' ≡ lines → Over_disk words challenge now lines disk told had lines' disk'
-    No_call : (conf : ConfText) → HasSettings tells content faults moment images disk conf → told ≡ None → IsNoCall words conf had → OnlyRead tells content faults moment images disk disk' → lines' ≡ lines → Over_disk words challenge now lines disk told had lines' disk'
-    Not_opened : (conf : ConfText) → HasSettings tells content faults moment images disk conf → (side : Side) → AreWords words (home_of conf.addresses) side → (fault : StoreOpenFault) → told ≡ None → had ≡ status_unopened fault (faults disk') → lines' ≡ lines → HasRefused tells content faults moment images fault disk disk' → Over_disk words challenge now lines disk told had lines' disk'
-    No_index : (conf : ConfText) → HasSettings tells content faults moment images disk conf → (peer : Address) → AreWords words (home_of conf.addresses) (Calls peer) → set_host conf peer ≡ None
-        → told ≡ None → NoIndex faults disk disk' had → OnlyRead tells content faults moment images disk disk' → lines' ≡ lines → Over_disk words challenge now lines disk told had lines' disk'
-    Bad_index : (conf : ConfText) → HasSettings tells content faults moment images disk conf → (peer : Address) → AreWords words (home_of conf.addresses) (Calls peer) → set_host conf peer ≡ None
+  -- The settings weren't read, or the command asks for no session by them, or they have no host for the node that is called and the index
+  -- couldn't be read, and the disk was read only; or no store was opened; or one was, and the index is bad, or has no host for that node
+  -- either; or who called next was answered, or the node was called, over the store of the disk, and then received files were given. But
+  -- for these two no line was asked for.
+  pub data Over_disk (command : Command) (challenge : List ℕ) (now : ℕ) (lines : LinesState) (disk : D) (told : Option ReportText) (had : Status) (lines' : LinesState) (disk' : D) : Type 0 where
+    Not_set : told ≡ None → NoSettings tells content faults moment images disk disk' had → OnlyRead tells content faults moment images disk disk' → lines' ≡ lines → Over_disk command challenge now lines disk told had lines' disk'
+    No_call : (conf : ConfText) → HasSettings tells content faults moment images disk conf → told ≡ None → IsNoCall command conf had → OnlyRead tells content faults moment images disk disk' → lines' ≡ lines → Over_disk command challenge now lines disk told had lines' disk'
+    Not_opened : (conf : ConfText) → HasSettings tells content faults moment images disk conf → (side : Side) → AsksFor command (home_of conf.addresses) side → (fault : StoreOpenFault) → told ≡ None → had ≡ status_unopened fault (faults disk') → lines' ≡ lines → HasRefused tells content faults moment images fault disk disk' → Over_disk command challenge now lines disk told had lines' disk'
+    No_index : (conf : ConfText) → HasSettings tells content faults moment images disk conf → (peer : Address) → AsksFor command (home_of conf.addresses) (Calls peer) → set_host conf peer ≡ None
+        → told ≡ None → NoIndex faults disk disk' had → OnlyRead tells content faults moment images disk disk' → lines' ≡ lines → Over_disk command challenge now lines disk told had lines' disk'
+    Bad_index : (conf : ConfText) → HasSettings tells content faults moment images disk conf → (peer : Address) → AsksFor command (home_of conf.addresses) (Calls peer) → set_host conf peer ≡ None
         → (tells ≡ true → IsBadIndex (content disk)) → (opened : Holding D) → HasOpened tells content faults moment images disk opened
-        → told ≡ None → had ≡ S.FileBad index_name → lines' ≡ lines → disk' ≡ opened.disk → Over_disk words challenge now lines disk told had lines' disk'
-    No_host : (conf : ConfText) → HasSettings tells content faults moment images disk conf → (peer : Address) → AreWords words (home_of conf.addresses) (Calls peer) → set_host conf peer ≡ None
+        → told ≡ None → had ≡ S.FileBad index_name → lines' ≡ lines → disk' ≡ opened.disk → Over_disk command challenge now lines disk told had lines' disk'
+    No_host : (conf : ConfText) → HasSettings tells content faults moment images disk conf → (peer : Address) → AsksFor command (home_of conf.addresses) (Calls peer) → set_host conf peer ≡ None
         → (index : Option (List ListedNode)) → ReadsIndex disk index → listed_host index peer ≡ None → (opened : Holding D) → HasOpened tells content faults moment images disk opened
-        → told ≡ None → had ≡ S.NotFound → lines' ≡ lines → disk' ≡ opened.disk → Over_disk words challenge now lines disk told had lines' disk'
-    Answered : (conf : ConfText) → HasSettings tells content faults moment images disk conf → AreWords words (home_of conf.addresses) Answers
+        → told ≡ None → had ≡ S.NotFound → lines' ≡ lines → disk' ≡ opened.disk → Over_disk command challenge now lines disk told had lines' disk'
+    Answered : (conf : ConfText) → HasSettings tells content faults moment images disk conf → AsksFor command (home_of conf.addresses) Answers
         → (opened held left : Holding D) → HasOpened tells content faults moment images disk opened
         → (was : Status) → Answers_next tells content faults moment images (record { conf = conf; challenge = challenge; moment = now }) lines opened told was lines' held
-        → Gives_behind tells content faults moment images conf told was had held left → disk' ≡ left.disk → Over_disk words challenge now lines disk told had lines' disk'
-    Called : (conf : ConfText) → HasSettings tells content faults moment images disk conf → (peer : Address) → AreWords words (home_of conf.addresses) (Calls peer) → (host : Dialling) → HasHost disk conf peer host
+        → Gives_behind tells content faults moment images conf told was had held left → disk' ≡ left.disk → Over_disk command challenge now lines disk told had lines' disk'
+    Called : (conf : ConfText) → HasSettings tells content faults moment images disk conf → (peer : Address) → AsksFor command (home_of conf.addresses) (Calls peer) → (host : Dialling) → HasHost disk conf peer host
         → (opened held left : Holding D) → HasOpened tells content faults moment images disk opened
         → (was : Status) → Calls_node tells content faults moment images peer (record { conf = conf; challenge = challenge; moment = now }) host lines opened told was lines' held
-        → Gives_behind tells content faults moment images conf told was had held left → disk' ≡ left.disk → Over_disk words challenge now lines disk told had lines' disk'
+        → Gives_behind tells content faults moment images conf told was had held left → disk' ≡ left.disk → Over_disk command challenge now lines disk told had lines' disk'
 
   -- The whole call, and then what was printed of it: the session's report where one was held, and the status that it had.
   -- It is Done where that session finished and no disk failed behind it, and nowhere else.
-  pub record DiskCall (words : List (List ℕ)) (challenge : List ℕ) (now : ℕ) (lines : LinesState) (disk : D) (out : SinkState) (status : Status) (lines' : LinesState) (disk' : D) (out' : SinkState) : Type 0 where
+  pub record DiskCall (command : Command) (challenge : List ℕ) (now : ℕ) (lines : LinesState) (disk : D) (out : SinkState) (status : Status) (lines' : LinesState) (disk' : D) (out' : SinkState) : Type 0 where
     pub told : Option ReportText
     pub had : Status
-    pub call : Over_disk words challenge now lines disk told had lines' disk'
+    pub call : Over_disk command challenge now lines disk told had lines' disk'
     pub prints : Prints told had status out out'
     pub done : IsDoneBehind told status out out'

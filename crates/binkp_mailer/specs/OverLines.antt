@@ -4,7 +4,9 @@ use Rattle.std.specs.Prelude.{◌≡◌, ℕ, Bool, List, [], codes, Option, Som
 use Rattle.ftn_addr.specs.Address.{Address}
 use Rattle.bso_outbound.specs.Names.{path_ending}
 use Rattle.bso_outbound.specs.Paths.{last_part}
+use Rattle.busy_marks.specs.Marking.{MarksInPart}
 use Rattle.busy_marks.specs.Text.{mark_text}
+use Rattle.disk_model.specs.Moments.{Leaves}
 use Rattle.disk_model.specs.World.{World}
 use Rattle.disk_model.specs.declared.answers.Marking.TheVariants.{Made, Exists}
 use Rattle.binkp_link.specs.Lines.{LineState}
@@ -15,9 +17,11 @@ use Rattle.mail_conf.specs.Conf.{ConfText}
 use Rattle.node_model.specs.Receipts.{HasOnce, SettledStays}
 use Rattle.node_model.specs.Stores.{StoreStand, IfTold}
 use Rattle.node_model.specs.declared.store.StoreFault.{StoreFault}
+use Rattle.node_store.specs.Names.{mark_name}
 use Rattle.node_store.specs.OutboundMarks.{mark_gone, marked_so}
 use Rattle.node_store.specs.Stored.{Holding, stand_of}
 use Rattle.node_store.specs.Taking.{Takes}
+use Rattle.node_store.specs.declared.names.MarkKind.TheVariants.{Call}
 use Rattle.session_auth.specs.Sides.{Side, Answers, Calls}
 use Rattle.session_core.specs.Stages.{home_of}
 use Rattle.session_run.specs.Reports.{ReportText}
@@ -91,16 +95,21 @@ module _ {D : Type 0} (tells : Bool) (content : D → World) (faults : D → ℕ
     Takes_away : (result : Result (Unit {0}) StoreFault) → Takes (mark_gone path text) result (stand_of tells content faults moment images old) (stand_of tells content faults moment images new)
         → had ≡ status_behind result was (faults new.disk) → Frees path text was had old new
 
+  -- a node's call mark is being made: at every moment it stands beside its own note alone, whole (`busy_marks`)
+  abbrev pub Notes : (peer : Address) → ConfText → (old new : Holding D) → Type 0
+  Notes peer conf old new = (time : ℕ) × Leaves moment images (MarksInPart (mark_name peer Call) (call_mark conf peer) (call_text conf) time) old.disk new.disk
+
   -- A node is called at a host. Its call mark is made first: where there is no memory for it, another program's stands there, or the
   -- disk fails, nobody is dialled. Else that is done under the mark, which is taken away behind it.
   pub data Calls_node (peer : Address) (given : Given) (host : Dialling) (lines : LinesState) (opened : Holding D) (told : Option ReportText) (had : Status) (lines' : LinesState) (left : Holding D) : Type 0 where
     No_room : told ≡ None → had ≡ S.NoMemory → lines' ≡ lines → left ≡ opened → Calls_node peer given host lines opened told had lines' left
     Is_marked : told ≡ None → had ≡ S.Marked (last_part (call_mark given.conf peer)) → lines' ≡ lines → (time : ℕ)
         → Takes (marked_so (call_mark given.conf peer) (call_text given.conf) time) (Ok Exists) (stand_of tells content faults moment images opened) (stand_of tells content faults moment images left)
+        → Notes peer given.conf opened left
         → IfTold (stand_of tells content faults moment images opened).state.content (λ s. IsSome (s.outside (call_mark given.conf peer))) → Calls_node peer given host lines opened told had lines' left
     Not_marked : told ≡ None → had ≡ S.DiskFault (faults left.disk) → lines' ≡ lines → (time : ℕ) (fault : StoreFault)
         → Takes (marked_so (call_mark given.conf peer) (call_text given.conf) time) (Err fault) (stand_of tells content faults moment images opened) (stand_of tells content faults moment images left)
-        → Calls_node peer given host lines opened told had lines' left
+        → Notes peer given.conf opened left → Calls_node peer given host lines opened told had lines' left
     Under_mark : (marked talked : Holding D) (was : Status) (time : ℕ)
         → Takes (marked_so (call_mark given.conf peer) (call_text given.conf) time) (Ok Made) (stand_of tells content faults moment images opened) (stand_of tells content faults moment images marked)
-        → Dials peer given host lines marked told was lines' talked → Frees (call_mark given.conf peer) (call_text given.conf) was had talked left → Calls_node peer given host lines opened told had lines' left
+        → Notes peer given.conf opened marked → Dials peer given host lines marked told was lines' talked → Frees (call_mark given.conf peer) (call_text given.conf) was had talked left → Calls_node peer given host lines opened told had lines' left

@@ -1,12 +1,11 @@
 //! The mark of a node that is called (FTS-5005): other programs leave its outbound to the call.
-ghost use Rattle.std.specs.Prelude.{◌≡◌, [], IfOk, None, codes, true};
+ghost use Rattle.std.specs.Prelude.{◌≡◌, IfOk, true};
 ghost use Rattle.ftn_addr.specs.Address.{address};
 ghost use Rattle.mail_conf.specs.ConfView.{conf_text};
 ghost use Rattle.mail_conf.specs.Limits.{KeepsLimits};
-ghost use Rattle.bso_outbound.specs.Names.{path_ending};
 ghost use Rattle.bso_outbound.specs.Paths.{last_part};
-ghost use Rattle.node_store.specs.Names.{is_note};
-ghost use Rattle.node_store.specs.Stored.{stand_of};
+ghost use Rattle.node_store.specs.Names.{is_note, mark_name};
+ghost use Rattle.node_store.specs.declared.names.MarkKind.TheVariants.{Call};
 ghost use Rattle.binkp_mailer.specs.OverLines.{Frees, call_mark, call_text};
 ghost use Rattle.binkp_mailer.specs.Reports.{FailedIsBroken, had_of, told_of};
 
@@ -46,6 +45,7 @@ impl CallMark {
         requires keeps { KeepsLimits (conf_text conf.now) }
         ensures path { IfOk result (λ mark. mark.path.list ≡ call_mark (conf_text conf.now) (address peer.now)) }
         ensures note { IfOk result (λ mark. is_note mark.note ≡ true) }
+        ensures own { IfOk result (λ mark. mark.note ≡ mark_name (address peer.now) Call) }
         ensures text { IfOk result (λ mark. mark.text.list ≡ call_text (conf_text conf.now)) }
         ensures name { IfOk result (λ mark. mark.name.list ≡ last_part (call_mark (conf_text conf.now) (address peer.now))) }
     {

@@ -2,15 +2,16 @@
 //! a session. What it receives stays on a disk, and what came of a call goes to a sink.
 //!
 //! [`run_program`] is given the words behind the folder, a disk, the lines, a clock, random bytes and a sink, and answers the exit status.
-//! It calls [`run_serve`], which serves until it is told to stop (`binkp_serve`), or [`run_call`], which reads the settings of the disk ([`read_settings`](command_base::read_settings)) and the
-//! words ([`read_words`]), opens its store, and answers who calls next ([`answer_next`]), or calls a node at its host
-//! under its call mark ([`call_node`]). The session begins with the take-in of its peer's outbound
+//! It reads the words once, and hands their form on: to [`run_serve`], which serves until it is told to stop (`binkp_serve`), to
+//! [`run_still`](still_commands::run_still), or to [`run_call`], which reads the settings of the disk
+//! ([`read_settings`](command_base::read_settings)), opens its store, and answers who calls next ([`answer_next`]), or calls a node at
+//! its host under its call mark ([`call_node`]). The session begins with the take-in of its peer's outbound
 //! ([`hold_with_outbound`]); behind it what is received goes to the inbound folders ([`give_behind`]), and what came of it is printed
 //! ([`print`]). Their contracts say what all of it does. That the node below is one of the two that `world_pair` speaks of is the law
 //! [`one_node`].
 //!
 //! ```
-//! let (status, disk) = run_call(alloc, words, disk, &mut lines, now, challenge, &mut out);
+//! let (status, disk) = run_call(alloc, SessionForm::Answer, disk, &mut lines, now, challenge, &mut out);
 //! let exit = status.number();                  // 0 where both ends finished
 //! ```
 //!
@@ -42,4 +43,3 @@ pub use program::{Ended, explanation, refuse_for_memory, run_program};
 pub use report::{Outcome, print};
 pub use settings::hub_conf;
 pub use with_outbound::hold_with_outbound;
-pub use words::{WordsFault, have_form, read_words};

@@ -7,13 +7,13 @@ ghost use Rattle.mail_conf.specs.ConfView.{conf_text};
 ghost use Rattle.mail_conf.specs.Limits.{KeepsLimits};
 ghost use Rattle.node_model.specs.Node.{Settings};
 ghost use Rattle.hub_core.specs.Opening.{IsWhole, no_seats};
-ghost use Rattle.node_store.specs.Names.{is_note};
+ghost use Rattle.node_store.specs.Names.{is_note, mark_name};
+ghost use Rattle.node_store.specs.declared.names.MarkKind.TheVariants.{Call};
 ghost use Rattle.node_store.specs.Stored.{stand_of};
 ghost use Rattle.session_auth.specs.Sides.{side_of};
 ghost use Rattle.call_hosts.specs.Hosts.{host_text};
 ghost use Rattle.binkp_mailer.specs.OverLines.{Answers_next, Calls_node, Dials, HandsBack, IsFresh, call_mark, call_text};
 ghost use Rattle.binkp_mailer.specs.Reports.{FailedIsBroken, had_of, told_of};
-ghost use Rattle.binkp_mailer.specs.TopCall.{Given};
 
 use crate::call_mark::{CallMark, free};
 use crate::{Outcome, hold_with_outbound};
@@ -137,6 +137,7 @@ fn dial_marked<D: Yard, N: Lines>(
     requires fresh { IsFresh (N.state lines.old) }
     requires path { mark.path.list ≡ call_mark (conf_text conf.now) (address peer) }
     requires note { is_note mark.note ≡ true }
+    requires own { mark.note ≡ mark_name (address peer) Call }
     requires text { mark.text.list ≡ call_text (conf_text conf.now) }
     requires name { mark.name.list ≡ last_part (call_mark (conf_text conf.now) (address peer)) }
     ensures calls { Calls_node D.tells D.content D.fault_count D.moment D.images (address peer) (record { conf = conf_text conf.now; challenge = challenge; moment = now }) (host_text host.now) (N.state lines.old) store (told_of result.0) (had_of result.0) (N.state lines.new) result.1 }

@@ -7,18 +7,17 @@ ghost use Rattle.binkp_mailer.specs.OverLines.{IsFresh};
 ghost use Rattle.binkp_mailer.specs.Programs.{EndsByStatus, HadNoWords, IsProgramCall, Runs_over};
 ghost use Rattle.command_base.specs.Statuses.{Usage, number_of_status, status_text};
 ghost use Rattle.command_words.specs.Forms.{texts};
-ghost use Rattle.still_commands.specs.Still.{AreStill};
 
 use crate::over_serve::run_serve;
-use crate::words::is_serving;
 use crate::{Outcome, print, run_call};
 use binkp_link::{Clock, Dice, Lines, Sink};
 use command_base::Status;
+use command_words::{Form, read_form};
 use disk_model::Yard;
 use ftn_addr::{Bytes, NoMemory};
 use std::alloc::Global;
 use std::sync::Wait;
-use still_commands::{is_still, run_still};
+use still_commands::run_still;
 
 /// How the program ends: with this exit status, and, where the words are no command, with this line on standard
 /// error.
@@ -71,33 +70,6 @@ fn end_of(status: &Status) -> Ended
     }
 }
 
-// A node that serves, or a call over a line.
-fn run_over<W: Wait, D: Yard, N: Lines, C: Clock, R: Dice, O: Sink>(
-    rt: &W,
-    alloc: Global,
-    words: &[Bytes],
-    disk: D,
-    lines: &mut N,
-    clock: &mut C,
-    dice: &mut R,
-    out: &mut O,
-) -> (Status, D)
-    requires other { AreStill (texts words.now) → ⊥ }
-    requires ready { D.tells ≡ true → Every (Now D.moment D.images disk) (IsReady (D.content disk)) }
-    requires fresh { IsFresh (N.state lines.old) }
-    ensures { Runs_over D.files D.tells D.content D.fault_count D.moment D.images (texts words.now) (N.state lines.old) disk (O.state out.old) (status_text result.0) (N.state lines.new) result.1 (O.state out.new) }
-{
-    match is_serving(alloc, words) {
-        Ok(true) => run_serve(rt, alloc, disk, lines, clock, dice, out),
-        Ok(false) => {
-            let now = clock.now();
-            let random = dice.sixteen();
-            run_call(alloc, words, disk, lines, now, random, out)
-        }
-        Err(NoMemory) => (print(alloc, Outcome::NoMemory, out), disk),
-    }
-}
-
 // What the words ask for.
 fn run_words<W: Wait, D: Yard, N: Lines, C: Clock, R: Dice, O: Sink>(
     rt: &W,
@@ -113,9 +85,15 @@ fn run_words<W: Wait, D: Yard, N: Lines, C: Clock, R: Dice, O: Sink>(
     requires fresh { IsFresh (N.state lines.old) }
     ensures { Runs_over D.files D.tells D.content D.fault_count D.moment D.images (texts words.now) (N.state lines.old) disk (O.state out.old) (status_text result.0) (N.state lines.new) result.1 (O.state out.new) }
 {
-    match is_still(alloc, words) {
-        Ok(true) => run_still(alloc, words, disk, clock.now(), out),
-        Ok(false) => run_over(rt, alloc, words, disk, lines, clock, dice, out),
+    match read_form(alloc, words) {
+        Ok(Some(Form::Session(form))) => {
+            let now = clock.now();
+            let random = dice.sixteen();
+            run_call(alloc, form, disk, lines, now, random, out)
+        }
+        Ok(Some(Form::Serve)) => run_serve(rt, alloc, disk, lines, clock, dice, out),
+        Ok(Some(Form::Still(form))) => run_still(alloc, form, disk, clock.now(), out),
+        Ok(None) => (print(alloc, Outcome::Usage, out), disk),
         Err(NoMemory) => (print(alloc, Outcome::NoMemory, out), disk),
     }
 }

@@ -12,10 +12,11 @@ ghost use Rattle.session_core.specs.Stages.{home_of};
 ghost use Rattle.call_hosts.specs.Hosts.{host_text, listed_host, set_host};
 ghost use Rattle.command_base.specs.Causes.{IsBadIndex};
 ghost use Rattle.command_base.specs.Settings.{HasSettings};
+ghost use Rattle.command_words.specs.Forms.{Command};
 ghost use Rattle.binkp_mailer.specs.DiskCall.{HasHost, Over_disk, ReadsIndex};
 ghost use Rattle.binkp_mailer.specs.OverLines.{IsFresh};
 ghost use Rattle.binkp_mailer.specs.Reports.{had_of, told_of};
-ghost use Rattle.binkp_mailer.specs.Words.{AreWords};
+ghost use Rattle.binkp_mailer.specs.Words.{AsksFor};
 
 use crate::{Outcome, call_node, give_behind};
 use binkp_link::Lines;
@@ -43,7 +44,7 @@ pub(crate) fn call_peer<D: Yard, N: Lines>(
     requires keeps { KeepsLimits (conf_text conf.now) }
     requires ready { D.tells ≡ true → Every (Now D.moment D.images disk) (IsReady (D.content disk)) }
     requires fresh { IsFresh (N.state lines.old) }
-    ensures { (words : List (List ℕ)) → AreWords words (home_of (conf_text conf.now).addresses) (Calls (address peer)) → Over_disk D.tells D.content D.fault_count D.moment D.images words random now (N.state lines.old) disk (told_of result.0) (had_of result.0) (N.state lines.new) result.1 }
+    ensures { (command : Command) → AsksFor command (home_of (conf_text conf.now).addresses) (Calls (address peer)) → Over_disk D.tells D.content D.fault_count D.moment D.images command random now (N.state lines.old) disk (told_of result.0) (had_of result.0) (N.state lines.new) result.1 }
 {
     match set_host(alloc, conf, &peer) {
         Ok(Some(host)) => call_host(alloc, peer, host, conf, disk, lines, now, random),
@@ -67,7 +68,7 @@ fn call_by_index<D: Yard, N: Lines>(
     requires unset { set_host (conf_text conf.now) (address peer) ≡ None }
     requires ready { D.tells ≡ true → Every (Now D.moment D.images disk) (IsReady (D.content disk)) }
     requires fresh { IsFresh (N.state lines.old) }
-    ensures { (words : List (List ℕ)) → AreWords words (home_of (conf_text conf.now).addresses) (Calls (address peer)) → Over_disk D.tells D.content D.fault_count D.moment D.images words random now (N.state lines.old) disk (told_of result.0) (had_of result.0) (N.state lines.new) result.1 }
+    ensures { (command : Command) → AsksFor command (home_of (conf_text conf.now).addresses) (Calls (address peer)) → Over_disk D.tells D.content D.fault_count D.moment D.images command random now (N.state lines.old) disk (told_of result.0) (had_of result.0) (N.state lines.new) result.1 }
 {
     let mut disk = disk;
     match read_index(alloc, &mut disk) {
@@ -98,7 +99,7 @@ fn call_listed<D: Yard, N: Lines>(
     requires index { ReadsIndex D.tells D.content D.fault_count D.moment D.images disk index.now }
     requires ready { D.tells ≡ true → Every (Now D.moment D.images disk) (IsReady (D.content disk)) }
     requires fresh { IsFresh (N.state lines.old) }
-    ensures { (words : List (List ℕ)) → AreWords words (home_of (conf_text conf.now).addresses) (Calls (address peer)) → Over_disk D.tells D.content D.fault_count D.moment D.images words random now (N.state lines.old) disk (told_of result.0) (had_of result.0) (N.state lines.new) result.1 }
+    ensures { (command : Command) → AsksFor command (home_of (conf_text conf.now).addresses) (Calls (address peer)) → Over_disk D.tells D.content D.fault_count D.moment D.images command random now (N.state lines.old) disk (told_of result.0) (had_of result.0) (N.state lines.new) result.1 }
 {
     match listed_host(alloc, index, &peer) {
         Ok(Some(host)) => call_host(alloc, peer, host, conf, disk, lines, now, random),
@@ -114,7 +115,7 @@ fn refuse_index<D: Yard>(alloc: Global, peer: Addr, conf: &Conf, disk: D) -> (Ou
     requires unset { set_host (conf_text conf.now) (address peer) ≡ None }
     requires ready { D.tells ≡ true → Every (Now D.moment D.images disk) (IsReady (D.content disk)) }
     requires bad { D.tells ≡ true → IsBadIndex (D.content disk) }
-    ensures { (words : List (List ℕ)) (challenge : List ℕ) (now : ℕ) (lines : LinesState) → AreWords words (home_of (conf_text conf.now).addresses) (Calls (address peer)) → Over_disk D.tells D.content D.fault_count D.moment D.images words challenge now lines disk (told_of result.0) (had_of result.0) lines result.1 }
+    ensures { (command : Command) (challenge : List ℕ) (now : ℕ) (lines : LinesState) → AsksFor command (home_of (conf_text conf.now).addresses) (Calls (address peer)) → Over_disk D.tells D.content D.fault_count D.moment D.images command challenge now lines disk (told_of result.0) (had_of result.0) lines result.1 }
 {
     match NodeStore::open(alloc, disk, home_of(conf)) {
         Ok((store, _recovery)) => (
@@ -142,7 +143,7 @@ fn refuse_node<D: Yard>(
     requires index { ReadsIndex D.tells D.content D.fault_count D.moment D.images disk index.now }
     requires unlisted { listed_host index.now (address peer) ≡ None }
     requires ready { D.tells ≡ true → Every (Now D.moment D.images disk) (IsReady (D.content disk)) }
-    ensures { (words : List (List ℕ)) (challenge : List ℕ) (now : ℕ) (lines : LinesState) → AreWords words (home_of (conf_text conf.now).addresses) (Calls (address peer)) → Over_disk D.tells D.content D.fault_count D.moment D.images words challenge now lines disk (told_of result.0) (had_of result.0) lines result.1 }
+    ensures { (command : Command) (challenge : List ℕ) (now : ℕ) (lines : LinesState) → AsksFor command (home_of (conf_text conf.now).addresses) (Calls (address peer)) → Over_disk D.tells D.content D.fault_count D.moment D.images command challenge now lines disk (told_of result.0) (had_of result.0) lines result.1 }
 {
     match NodeStore::open(alloc, disk, home_of(conf)) {
         Ok((store, _recovery)) => (Outcome::NotFound, store.into_disk()),
@@ -169,7 +170,7 @@ fn call_host<D: Yard, N: Lines>(
     requires host { HasHost D.tells D.content D.fault_count D.moment D.images disk (conf_text conf.now) (address peer) (host_text host) }
     requires ready { D.tells ≡ true → Every (Now D.moment D.images disk) (IsReady (D.content disk)) }
     requires fresh { IsFresh (N.state lines.old) }
-    ensures { (words : List (List ℕ)) → AreWords words (home_of (conf_text conf.now).addresses) (Calls (address peer)) → Over_disk D.tells D.content D.fault_count D.moment D.images words random now (N.state lines.old) disk (told_of result.0) (had_of result.0) (N.state lines.new) result.1 }
+    ensures { (command : Command) → AsksFor command (home_of (conf_text conf.now).addresses) (Calls (address peer)) → Over_disk D.tells D.content D.fault_count D.moment D.images command random now (N.state lines.old) disk (told_of result.0) (had_of result.0) (N.state lines.new) result.1 }
 {
     let store = match NodeStore::open(alloc, disk, home_of(conf)) {
         Ok((store, _recovery)) => store,

@@ -12,10 +12,11 @@ ghost use Rattle.outbound_desk.specs.Lines.{IsReadyAlone};
 ghost use Rattle.session_auth.specs.Sides.{side_of};
 ghost use Rattle.session_core.specs.Stages.{home_of};
 ghost use Rattle.binkp_mailer.specs.Reports.{FailedIsBroken, had_of, told_of};
-ghost use Rattle.binkp_mailer.specs.TopCall.{Given, new_hub, IfTells, IsCall, OnceAfter, StatusCause, StaysTold};
+ghost use Rattle.binkp_mailer.specs.TopCall.{new_hub, IfTells, IsCall, OnceAfter, StatusCause, StaysTold};
 
 use crate::{Outcome, hub_conf};
 use binkp_link::Line;
+use binkp_serve::hold;
 use disk_model::Yard;
 use ftn_addr::NoMemory;
 use hub_core::{Hub, HubDesk};
@@ -24,7 +25,6 @@ use node_store::NodeStore;
 use outbound_desk::{DeskOutbound, LineDesk};
 use outbound_store::TakingStore;
 use session_core::{Side, home_of};
-use session_run::run_session;
 use std::alloc::Global;
 
 // The outbound of the settings.
@@ -101,7 +101,7 @@ pub fn hold_with_outbound<D: Yard, L: Line>(
         Ok(desk) => desk,
         Err(store) => return (Outcome::NoMemory, store),
     };
-    let report = run_session(alloc, side, line, &mut desk, conf, challenge, now);
+    let report = hold(alloc, side, conf, challenge, &mut desk, line, now);
     (
         Outcome::Held(report),
         desk.desk.hub.into_store().into_store(),

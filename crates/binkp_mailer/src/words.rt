@@ -1,68 +1,21 @@
-//! The words that ask for a session.
-ghost use Rattle.std.specs.Prelude.{◌≡◌, ℕ, List, IfOk, Err, Ok, true, false};
+//! What a command that holds one session asks for.
+ghost use Rattle.std.specs.Prelude.{◌≡◌, IfOk, Err};
 ghost use Rattle.ftn_addr.specs.Address.{Address, address};
 ghost use Rattle.session_auth.specs.Sides.{Calls, Side as AnySide, side_of};
-ghost use Rattle.command_words.specs.Forms.{HasForm, Serving, texts};
-ghost use Rattle.binkp_mailer.specs.Words.{AreWords, HaveForm, Spells};
+ghost use Rattle.command_words.specs.Forms.{session_command};
+ghost use Rattle.binkp_mailer.specs.Words.{AsksFor, Spells};
 ghost use Rattle.binkp_mailer.specs.declared.words.WordsFault.TheVariants.{Usage};
 
-use command_words::{Form, one_form, read_form};
-use ftn_addr::{Addr, AddrFault, Bytes, NoMemory, read_addr};
+use command_words::SessionForm;
+use ftn_addr::{Addr, AddrFault, Bytes, read_addr};
 use session_core::Side;
 use std::alloc::Global;
-use thiserror::Error;
 
-/// Why the words aren't taken.
-#[derive(Clone, Copy, Debug, PartialEq, Eq, Error)]
-pub enum WordsFault {
-    #[error("the words are `answer` or `call ADDR`")]
+/// Why a command asks for nothing.
+#[derive(Clone, Copy)]
+pub(crate) enum WordsFault {
     Usage,
-    #[error("out of memory")]
     NoMemory,
-}
-
-/// Whether the words have the form of a call: `answer`, or `call` and one more.
-///
-/// # Errors
-/// Want of memory.
-pub fn have_form(alloc: Global, words: &[Bytes]) -> Result<bool, NoMemory>
-    ensures yes { result ≡ Ok true → HaveForm (texts words.now) }
-    ensures no { result ≡ Ok false → HaveForm (texts words.now) → ⊥ }
-{
-    one_form();
-    match read_form(alloc, words) {
-        Ok(Some(Form::Answer)) => Ok(true),
-        Ok(Some(Form::Call(_))) => Ok(true),
-        Ok(Some(Form::Lookup(_))) => Ok(false),
-        Ok(Some(Form::Compile(_))) => Ok(false),
-        Ok(Some(Form::List)) => Ok(false),
-        Ok(Some(Form::Take)) => Ok(false),
-        Ok(Some(Form::Serve)) => Ok(false),
-        Ok(None) => Ok(false),
-        Err(NoMemory) => Err(NoMemory),
-    }
-}
-
-/// Whether the words are `serve`.
-///
-/// # Errors
-/// Want of memory.
-pub(crate) fn is_serving(alloc: Global, words: &[Bytes]) -> Result<bool, NoMemory>
-    ensures yes { result ≡ Ok true → HasForm (texts words.now) Serving }
-    ensures no { result ≡ Ok false → HasForm (texts words.now) Serving → ⊥ }
-{
-    one_form();
-    match read_form(alloc, words) {
-        Ok(Some(Form::Serve)) => Ok(true),
-        Ok(Some(Form::Answer)) => Ok(false),
-        Ok(Some(Form::Call(_))) => Ok(false),
-        Ok(Some(Form::Lookup(_))) => Ok(false),
-        Ok(Some(Form::Compile(_))) => Ok(false),
-        Ok(Some(Form::List)) => Ok(false),
-        Ok(Some(Form::Take)) => Ok(false),
-        Ok(None) => Ok(false),
-        Err(NoMemory) => Err(NoMemory),
-    }
 }
 
 /// The address in the home's domain that a text spells.
@@ -93,22 +46,18 @@ fn read_side(alloc: Global, text: &Bytes, home: &Addr) -> Result<Side, WordsFaul
     }
 }
 
-/// What the words ask for at a node with that home: `answer` to answer a caller, and `call ADDR` to call the node of that
-/// address, which has the home's domain. What the address leaves out is the home's. No other words are taken.
-pub fn read_words(alloc: Global, words: &[Bytes], home: &Addr) -> Result<Side, WordsFault>
-    ensures ok { IfOk result (λ side. AreWords (texts words.now) (address home.now) (side_of side)) }
-    ensures usage { result ≡ Err Usage → (side : AnySide) → AreWords (texts words.now) (address home.now) side → ⊥ }
+/// What a command asks for at a node with that home: to answer a caller, or to call the node of an address, which has the home's
+/// domain. What the address leaves out is the home's.
+pub(crate) fn asked_side(
+    alloc: Global,
+    form: SessionForm<'_>,
+    home: &Addr,
+) -> Result<Side, WordsFault>
+    ensures ok { IfOk result (λ side. AsksFor (session_command form.entry) (address home.now) (side_of side)) }
+    ensures usage { result ≡ Err Usage → (side : AnySide) → AsksFor (session_command form.entry) (address home.now) side → ⊥ }
 {
-    one_form();
-    match read_form(alloc, words) {
-        Ok(Some(Form::Answer)) => Ok(Side::Answers),
-        Ok(Some(Form::Call(text))) => read_side(alloc, text, home),
-        Ok(Some(Form::Lookup(_))) => Err(WordsFault::Usage),
-        Ok(Some(Form::Compile(_))) => Err(WordsFault::Usage),
-        Ok(Some(Form::List)) => Err(WordsFault::Usage),
-        Ok(Some(Form::Take)) => Err(WordsFault::Usage),
-        Ok(Some(Form::Serve)) => Err(WordsFault::Usage),
-        Ok(None) => Err(WordsFault::Usage),
-        Err(NoMemory) => Err(WordsFault::NoMemory),
+    match form {
+        SessionForm::Answer => Ok(Side::Answers),
+        SessionForm::Call(text) => read_side(alloc, text, home),
     }
 }

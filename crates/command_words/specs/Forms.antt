@@ -3,6 +3,10 @@ use Rattle.std.specs.Prelude.{◌≡◌, ◌≢◌, ◌≤◌, ℕ, List, [], �
 use Rattle.ftn_addr.specs.Content.{Content}
 use Rattle.command_words.specs.declared.form.Form.{Form}
 use Rattle.command_words.specs.declared.form.Form.TheVariants as V
+use Rattle.command_words.specs.declared.form.SessionForm.{SessionForm}
+use Rattle.command_words.specs.declared.form.SessionForm.TheVariants as S
+use Rattle.command_words.specs.declared.form.StillForm.{StillForm}
+use Rattle.command_words.specs.declared.form.StillForm.TheVariants as T
 
 abbrev pub texts : List Content → List (List ℕ)
 texts words = map (λ word. word.list) words
@@ -17,13 +21,19 @@ pub data Command : Type 0 where
   Taking : Command
   Serving : Command
 
+abbrev pub session_command : SessionForm → Command
+session_command S.Answer = Answer
+session_command (S.Call text) = Call text.now.list
+
+abbrev pub still_command : StillForm → Command
+still_command (T.Lookup text) = Lookup text.now.list
+still_command (T.Compile path) = Compile path.now.list
+still_command T.List = Listing
+still_command T.Take = Taking
+
 abbrev pub command_of : Form → Command
-command_of V.Answer = Answer
-command_of (V.Call text) = Call text.now.list
-command_of (V.Lookup text) = Lookup text.now.list
-command_of (V.Compile path) = Compile path.now.list
-command_of V.List = Listing
-command_of V.Take = Taking
+command_of (V.Session form) = session_command form
+command_of (V.Still form) = still_command form
 command_of V.Serve = Serving
 
 -- a word that may stand behind a command: it isn't empty, doesn't begin with `-`, and is UTF-8

@@ -1,5 +1,5 @@
 //! The forms of words.
-ghost use Rattle.std.specs.Prelude.{◌≡◌, ◌∷◌, [], ◌↔◌, IfOk, IfSome, List, None, Ok, ℕ};
+ghost use Rattle.std.specs.Prelude.{◌≡◌, ◌∷◌, [], IfOk, IfSome, List, None, Ok, ℕ};
 ghost use Rattle.command_words.specs.Forms.{Command, HasForm, IsPlain, command_of, texts};
 ghost use Rattle.command_words.specs.Line.{IsLineOf};
 ghost use Rattle.std.specs.List.{All};
@@ -12,13 +12,18 @@ use std::alloc::Global;
 /// The most bytes of a path.
 const MOST_PATH: usize = 1024;
 
-/// What the words ask for.
+/// A command that holds one session.
 #[derive(Clone, Copy, Debug)]
-pub enum Form<'a> {
+pub enum SessionForm<'a> {
     /// `answer`
     Answer,
     /// `call`, and the text of an address
     Call(&'a Bytes),
+}
+
+/// A command without a session.
+#[derive(Clone, Copy, Debug)]
+pub enum StillForm<'a> {
     /// `lookup`, and the text of an address
     Lookup(&'a Bytes),
     /// `compile`, and the path of a nodelist, of at most 1,024 bytes
@@ -27,6 +32,13 @@ pub enum Form<'a> {
     List,
     /// `take`
     Take,
+}
+
+/// What the words ask for.
+#[derive(Clone, Copy, Debug)]
+pub enum Form<'a> {
+    Session(SessionForm<'a>),
+    Still(StillForm<'a>),
     /// `serve`
     Serve,
 }
@@ -37,11 +49,11 @@ fn form_of_one<'a>(command: &[u8]) -> Option<Form<'a>>
     ensures none { result ≡ None → (asked : Command) → HasForm (command.now ∷ []) asked → ⊥ }
 {
     if command == b"answer".as_slice() {
-        Some(Form::Answer)
+        Some(Form::Session(SessionForm::Answer))
     } else if command == b"list".as_slice() {
-        Some(Form::List)
+        Some(Form::Still(StillForm::List))
     } else if command == b"take".as_slice() {
-        Some(Form::Take)
+        Some(Form::Still(StillForm::Take))
     } else if command == b"serve".as_slice() {
         Some(Form::Serve)
     } else {
@@ -56,11 +68,11 @@ fn form_of_two<'a>(command: &[u8], word: &'a Bytes) -> Option<Form<'a>>
     ensures none { result ≡ None → (asked : Command) → HasForm (command.now ∷ word.now.list ∷ []) asked → ⊥ }
 {
     if command == b"call".as_slice() {
-        Some(Form::Call(word))
+        Some(Form::Session(SessionForm::Call(word)))
     } else if command == b"lookup".as_slice() {
-        Some(Form::Lookup(word))
+        Some(Form::Still(StillForm::Lookup(word)))
     } else if command == b"compile".as_slice() && word.len() <= MOST_PATH {
-        Some(Form::Compile(word))
+        Some(Form::Still(StillForm::Compile(word)))
     } else {
         None
     }

@@ -7,8 +7,9 @@
 //!
 //! ```
 //! match read_form(alloc, words)? {
-//!     Some(Form::Call(text)) => { .. }
-//!     Some(Form::Answer | Form::Lookup(_) | Form::Compile(_) | Form::List | Form::Take | Form::Serve) => { .. }
+//!     Some(Form::Session(form)) => { .. }  // SessionForm::Answer, SessionForm::Call(text)
+//!     Some(Form::Still(form)) => { .. }    // StillForm::Lookup(text), ::Compile(path), ::List, ::Take
+//!     Some(Form::Serve) => { .. }
 //!     None => { .. }                       // no command
 //! }
 //! ```
@@ -24,4 +25,4 @@ mod form;
 mod line;
 mod plain;
 
-pub use form::{Form, one_form, read_form};
+pub use form::{Form, SessionForm, StillForm, one_form, read_form};

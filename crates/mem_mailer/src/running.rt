@@ -8,8 +8,11 @@ use crate::lines::{line_of, slow_line, words_of};
 use crate::ran::Ran;
 use crate::script::{Found, Takes, scripted_line};
 use binkp_link::{MemClock, MemDice, MemLine, MemLines, MemSink, NextAct};
-use binkp_mailer::{run_call, run_program};
+use binkp_mailer::{Outcome, print, run_call, run_program};
+use command_base::Status;
+use command_words::{Form, read_form};
 use ftn_addr::{Bytes, NoMemory};
+use mem_disk::MemDisk;
 use mem_node::Resting;
 use std::alloc::Global;
 use std::sync::Wait;
@@ -52,6 +55,30 @@ fn heard(alloc: Global, lines: &MemLines) -> Result<Bytes, NoMemory> {
     }
 }
 
+// Makes the call of this form over these lines. Words of another are told as such, as the program tells those of none.
+fn call_form(
+    alloc: Global,
+    form: Option<Form<'_>>,
+    disk: Resting,
+    lines: &mut MemLines,
+    out: &mut MemSink,
+) -> (Status, MemDisk)
+    requires { lines_state lines.old ≡ new_lines }
+{
+    match form {
+        Some(Form::Session(form)) => run_call(
+            alloc,
+            form,
+            disk.into_ready(),
+            lines,
+            1_000_000_000,
+            [0; 16],
+            out,
+        ),
+        _ => (print(alloc, Outcome::Usage, out), disk.into_disk()),
+    }
+}
+
 // Makes the call of these words over that line, of whose puts to the output these fail.
 fn run_over(
     alloc: Global,
@@ -63,17 +90,10 @@ fn run_over(
     requires { IsUnused (mem_state line) }
 {
     let words = words_of(alloc, texts)?;
+    let form = read_form(alloc, words.as_slice())?;
     let mut lines = source(alloc, texts, line)?;
     let mut out = MemSink::new(alloc, failing);
-    let (status, disk) = run_call(
-        alloc,
-        words.as_slice(),
-        disk.into_ready(),
-        &mut lines,
-        1_000_000_000,
-        [0; 16],
-        &mut out,
-    );
+    let (status, disk) = call_form(alloc, form, disk, &mut lines, &mut out);
     let heard = heard(alloc, &lines)?;
     let printed = Bytes::from_slice(alloc, out.written())?;
     Ok(Box::new(alloc, Ran::new(status, heard, printed, disk))?)
@@ -114,17 +134,25 @@ pub fn call_over(
     run_over(alloc, disk, texts, line, failing)
 }
 
+// Runs the command of this form, which holds no session. Words of another are told as such.
+fn run_form(
+    alloc: Global,
+    form: Option<Form<'_>>,
+    disk: Resting,
+    out: &mut MemSink,
+) -> (Status, MemDisk) {
+    match form {
+        Some(Form::Still(form)) => run_still(alloc, form, disk.into_ready(), 1_000_000_000, out),
+        _ => (print(alloc, Outcome::Usage, out), disk.into_disk()),
+    }
+}
+
 /// Runs the command of these words, which holds no session. What is told is what it printed.
 pub fn run(alloc: Global, disk: Resting, texts: &[&[u8]]) -> Result<Box<Ran>, NoMemory> {
     let words = words_of(alloc, texts)?;
+    let form = read_form(alloc, words.as_slice())?;
     let mut out = MemSink::new(alloc, Vec::new(alloc));
-    let (status, disk) = run_still(
-        alloc,
-        words.as_slice(),
-        disk.into_ready(),
-        1_000_000_000,
-        &mut out,
-    );
+    let (status, disk) = run_form(alloc, form, disk, &mut out);
     let told = Bytes::from_slice(alloc, out.written())?;
     Ok(Box::new(alloc, Ran::new(status, told, Bytes::new(alloc), disk))?)
 }

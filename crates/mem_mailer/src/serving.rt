@@ -78,10 +78,9 @@ fn heard(alloc: Global, lines: &MemLines) -> Result<Bytes, NoMemory> {
     Ok(all)
 }
 
-/// Serves while these call, one after another, and each dial reaches a peer that says such pieces one after another, or nobody where
-/// there is none, with a clock of these moments, of which there is one at
-/// least. Behind the last caller it is told to stop. Where it is deaf it can't listen. What is told is what all peers heard, and what is
-/// printed what it told of them.
+/// Serves while these call, one after another, with a clock of these moments, of which there is one at least. Each dial reaches a peer
+/// that says such pieces one after another, or nobody where there is none. Behind the last caller it is told to stop. Where it is deaf it
+/// can't listen. What is told is what all peers heard, and what is printed what it told of them.
 pub fn serve_by<W: Wait>(
     rt: &W,
     alloc: Global,

@@ -29,7 +29,7 @@
 //!
 //! ```text
 //! let standard = standard_line(&rt, rt.stdin(), rt.stdout())?;
-//! let mut lines = SystemLines::new(rt, Some(standard), stop_file);
+//! let mut lines = SystemLines::new(rt, Some(standard), stop_file, Duration::from_secs(5));
 //! match lines.next() {                         // a caller, once it listens: it waits for one
 //!     NextLine::Came(line) => talk(line),
 //!     NextLine::Nothing => {}

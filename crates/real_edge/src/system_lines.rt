@@ -18,9 +18,6 @@ use std::rt::{Clock, Files};
 use std::time::Duration;
 use std::{fs, io, str};
 
-// For how many seconds a listener waits for a caller.
-const PATIENCE: u64 = 5;
-
 /// A listener, and what waits for it.
 #[derive(Drop)]
 struct Listening<L> {
@@ -46,8 +43,8 @@ fn is_nobody(kind: ErrorKind) -> bool {
 
 impl<L: OpenListener> Listening<L> {
     // The socket of a caller who comes in time.
-    fn later(&mut self) -> io::Result<Option<L::Stream>> {
-        if self.waits.for_input(Duration::from_secs(PATIENCE))? {
+    fn later(&mut self, patience: Duration) -> io::Result<Option<L::Stream>> {
+        if self.waits.for_input(patience)? {
             accepted(&self.listener)
         } else {
             Ok(None)
@@ -65,6 +62,7 @@ pub struct SystemLines<R: Net, I, O> {
     standard: Option<SystemLine<R::Stream, I, O>>,
     listening: Option<Listening<R::Listener>>,
     stop_file: String,
+    patience: Duration,
     counts: LineCounts,
     ghost unused: { ForSome standard (λ line. line.tally ≡ nothing_counted) },
 }
@@ -75,11 +73,13 @@ impl<R: Net + Files + Clock + Eprint + AllocGlobal, I: Read + Drop, O: Write + D
     O,
 > {
     /// The lines of a runtime: that of the standard streams, until they listen; none until then where there is no such line, as in a
-    /// program that dials alone. The stop file is that of a path.
+    /// program that dials alone. The stop file is that of a path. Once they listen, `next` waits for a caller for as long as the patience
+    /// is.
     pub fn new(
         runtime: R,
         standard: Option<SystemLine<R::Stream, I, O>>,
         stop_file: String,
+        patience: Duration,
     ) -> SystemLines<R, I, O>
         requires { ForSome standard (λ line. line.tally ≡ nothing_counted) }
         ensures { system_lines result.counts ≡ system_lines none_counted }
@@ -89,6 +89,7 @@ impl<R: Net + Files + Clock + Eprint + AllocGlobal, I: Read + Drop, O: Write + D
             standard,
             listening: None,
             stop_file,
+            patience,
             counts: LineCounts {
                 faults: 0,
                 misses: 0,
@@ -144,7 +145,7 @@ impl<R: Net + Files + Clock + Eprint + AllocGlobal, I: Read + Drop, O: Write + D
         };
         let socket = match accepted(&listening.listener)? {
             Some(socket) => Some(socket),
-            None => listening.later()?,
+            None => listening.later(self.patience)?,
         };
         match socket {
             Some(socket) => Ok(Some(socket_line(&self.runtime, socket)?)),

@@ -1,5 +1,5 @@
 -- A command over a disk that was read before.
-use Rattle.std.proofs.Common.{◌<◌, [], ◌∷◌, length, arith, ◌≡◌, ◌⊎◌, ◌∙◌, ℕ, Bool, true, List, Option, Some, IfSome, Result, Ok, Err, inl, inr, subst, sym}
+use Rattle.std.proofs.Common.{◌<◌, [], ◌∷◌, length, arith, ◌≡◌, ◌⊎◌, ◌∙◌, ℕ, Bool, true, List, Result, Ok, Err, inl, inr, subst, sym}
 use Rattle.std.specs.List.{All}
 use Rattle.std.proofs.lemmas.List.Elements.{All-head}
 use Rattle.ftn_addr.specs.Address.{Address}
@@ -10,8 +10,7 @@ use Rattle.session_core.specs.Stages.{home_of}
 use Rattle.ftn_addr.specs.Reading.{reading}
 use Rattle.ftn_addr.specs.declared.reading.AddrFault.{AddrFault}
 use Rattle.ftn_addr.specs.declared.reading.AddrFault.TheVariants.{NoMemory}
-use Rattle.command_words.specs.Forms.{Command, Compile, HasForm, Listing, Lookup, Taking, command_of}
-use Rattle.command_words.specs.declared.form.Form.{Form}
+use Rattle.command_words.specs.Forms.{Command}
 use Rattle.nodelist_files.specs.declared.fault.CompileFault.{CompileFault}
 use Rattle.disk_model.specs.Changes.{Every, Same}
 use Rattle.disk_model.specs.Moments.{Leaves}
@@ -22,34 +21,32 @@ use Rattle.command_base.specs.Causes.{IsBadIndex}
 use Rattle.command_base.specs.Settings.{OnlyRead}
 use Rattle.command_base.proofs.ReadOnly.{no_index_before, opened_before, refused_before, settings_before, then_read, unset_before}
 use Rattle.still_commands.specs.Came.{Told}
-use Rattle.still_commands.specs.Still.{AreStill, a_lookup, a_compile, a_list, a_take, CompilesFile, Over_still, No_words, Not_asked, Not_set, No_address, No_index, Not_opened, Bad_index, Looked_up, Compiled, Listed, Runs_still, Before_takes, Taken_in}
+use Rattle.still_commands.specs.Still.{IsStill, CompilesFile, Over_still, Not_set, No_address, No_index, Not_opened, Bad_index, Looked_up, Compiled, Listed, Runs_still, Before_takes, Taken_in}
 
 module _ {D : Type 0} (files : D → World → Type 0) (tells : Bool) (content : D → World) (faults : D → ℕ) (moment : D → ℕ) (images : D → ℕ → World → Type 0) where
-  pub still_before : (words : List (List ℕ)) (old mid new : D) (told : Told) → AreStill words → OnlyRead tells content faults moment images old mid → faults mid ≡ faults old
-      → Over_still files tells content faults moment images words mid told new → Over_still files tells content faults moment images words old told new
-  still_before words old mid new told still only calm (No_words is more) = No_words is (then_read tells content faults moment images old mid new only more)
-  still_before words old mid new told still only calm (Not_asked none is disk_is) = absurd (none still)
-  still_before words old mid new told still only calm (Not_set are had is why more) =
+  pub still_before : (command : Command) (old mid new : D) (told : Told) → IsStill command → OnlyRead tells content faults moment images old mid → faults mid ≡ faults old
+      → Over_still files tells content faults moment images command mid told new → Over_still files tells content faults moment images command old told new
+  still_before command old mid new told still only calm (Not_set are had is why more) =
       Not_set are had is (unset_before tells content faults moment images old mid new had only calm why) (then_read tells content faults moment images old mid new only more)
-  still_before words old mid new told still only calm (No_address conf settings text form none more) =
+  still_before command old mid new told still only calm (No_address conf settings text form none more) =
       No_address conf (settings_before tells content faults moment images old mid conf only settings) text form none (then_read tells content faults moment images old mid new only more)
-  still_before words old mid new told still only calm (No_index conf settings asks had is why more) =
+  still_before command old mid new told still only calm (No_index conf settings asks had is why more) =
       No_index conf (settings_before tells content faults moment images old mid conf only settings) asks had is (no_index_before faults old mid new had calm why) (then_read tells content faults moment images old mid new only more)
-  still_before words old mid new told still only calm (Not_opened conf settings asks fault is refused) =
+  still_before command old mid new told still only calm (Not_opened conf settings asks fault is refused) =
       Not_opened conf (settings_before tells content faults moment images old mid conf only settings) asks fault is (refused_before tells content faults moment images old mid new fault only calm refused)
-  still_before words old mid new told still only calm (Bad_index conf settings text a form reads opened h disk_is bad is) =
+  still_before command old mid new told still only calm (Bad_index conf settings text a form reads opened h disk_is bad is) =
       Bad_index conf (settings_before tells content faults moment images old mid conf only settings) text a form reads opened (opened_before tells content faults moment images old mid opened only calm h) disk_is (λ telling. subst IsBadIndex (only.same telling) (bad telling)) is
-  still_before words old mid new told still only calm (Looked_up conf settings text a form reads opened h disk_is index at is) =
+  still_before command old mid new told still only calm (Looked_up conf settings text a form reads opened h disk_is index at is) =
       Looked_up conf (settings_before tells content faults moment images old mid conf only settings) text a form reads opened (opened_before tells content faults moment images old mid opened only calm h) disk_is index (λ telling. subst (λ (w : World). index_at (w.own index_name) ≡ Ok index) (only.same telling) (at telling)) is
-  still_before words old mid new told still only calm (Compiled conf settings path form opened h result does is) =
+  still_before command old mid new told still only calm (Compiled conf settings path form opened h result does is) =
       Compiled conf (settings_before tells content faults moment images old mid conf only settings) path form opened (opened_before tells content faults moment images old mid opened only calm h) result does is
-  still_before words old mid new told still only calm (Listed conf settings form opened h disk_is is) =
+  still_before command old mid new told still only calm (Listed conf settings form opened h disk_is is) =
       Listed conf (settings_before tells content faults moment images old mid conf only settings) form opened (opened_before tells content faults moment images old mid opened only calm h) disk_is is
 
-  pub runs_before : (words : List (List ℕ)) (now : ℕ) (old mid new : D) (told : Told) → AreStill words → OnlyRead tells content faults moment images old mid → faults mid ≡ faults old
-      → Runs_still files tells content faults moment images words now mid told new → Runs_still files tells content faults moment images words now old told new
-  runs_before words now old mid new told still only calm (Before_takes over) = Before_takes (still_before words old mid new told still only calm over)
-  runs_before words now old mid new told still only calm (Taken_in conf settings form opened h takes) =
+  pub runs_before : (command : Command) (now : ℕ) (old mid new : D) (told : Told) → IsStill command → OnlyRead tells content faults moment images old mid → faults mid ≡ faults old
+      → Runs_still files tells content faults moment images command now mid told new → Runs_still files tells content faults moment images command now old told new
+  runs_before command now old mid new told still only calm (Before_takes over) = Before_takes (still_before command old mid new told still only calm over)
+  runs_before command now old mid new told still only calm (Taken_in conf settings form opened h takes) =
       Taken_in conf (settings_before tells content faults moment images old mid conf only settings) form opened (opened_before tells content faults moment images old mid opened only calm h) takes
 
   -- a disk of which more was read
@@ -58,8 +55,8 @@ module _ {D : Type 0} (files : D → World → Type 0) (tells : Bool) (content :
   much_read reads told old new read stop = record { same = λ telling. (reads old (content new) (read (content new) (told telling new))).1; stop = stop }
 
   -- a command that hands a disk on
-  pub left_so : (words : List (List ℕ)) (disk mid disk' : D) (told : Told) → disk' ≡ mid → Over_still files tells content faults moment images words disk told mid → Over_still files tells content faults moment images words disk told disk'
-  left_so words disk mid disk' told is over = subst (λ (d : D). Over_still files tells content faults moment images words disk told d) (sym is) over
+  pub left_so : (command : Command) (disk mid disk' : D) (told : Told) → disk' ≡ mid → Over_still files tells content faults moment images command disk told mid → Over_still files tells content faults moment images command disk told disk'
+  left_so command disk mid disk' told is over = subst (λ (d : D). Over_still files tells content faults moment images command disk told d) (sym is) over
 
   pub compiles_from : (path : List ℕ) (result : Result ℕ CompileFault) (old mid new : D) → mid ≡ old → CompilesFile files faults moment images path result mid new → CompilesFile files faults moment images path result old new
   compiles_from path result old mid new is does = subst (λ (d : D). CompilesFile files faults moment images path result d new) is does
@@ -72,19 +69,6 @@ reads_at t t' h h' r text home reads = subst (λ (x : List ℕ). reading x h' �
 pub spells_none : (t t' : List ℕ) (h h' : Address) (fault : AddrFault) → t ≡ t' → h ≡ h' → (fault ≡ NoMemory → ⊥) → (fault ≡ NoMemory) ⊎ (reading t h ≡ Err fault) → (a : Address) → reading t' h' ≡ Ok a → ⊥
 spells_none t t' h h' fault text home other (inl memory) a reads = other memory
 spells_none t t' h h' fault text home other (inr refused) a reads = let clash : Err fault ≡ Ok a = sym (reads_at t t' h h' (Err fault) text home refused) ∙ reads in cc
-
--- words of no form are no such command
-pub no_still : (words : List (List ℕ)) → ((command : Command) → HasForm words command → ⊥) → AreStill words → ⊥
-no_still words none (a_lookup text form) = none (Lookup text) form
-no_still words none (a_compile path form) = none (Compile path) form
-no_still words none (a_list form) = none Listing form
-no_still words none (a_take form) = none Taking form
-
--- the form that was read, by its kind
-pub form_is : (words : List (List ℕ)) (o : Option Form) (form known : Form) → o ≡ Some form → form ≡ known → IfSome o (λ (f : Form). HasForm words (command_of f)) → HasForm words (command_of known)
-form_is words o form known some is has =
-    let at : HasForm words (command_of form) = subst (λ (x : Option Form). IfSome x (λ (f : Form). HasForm words (command_of f))) some has in
-    subst (λ (f : Form). HasForm words (command_of f)) is at
 
 -- the home of settings that keep their limits
 pub home_within : (c : ConfText) → KeepsLimits c → IsAddress (home_of c.addresses)

@@ -14,9 +14,10 @@ use Rattle.still_lines.specs.Lists.{lookup_text}
 use Rattle.command_base.specs.Causes.{DiskCause, NoIndex}
 use Rattle.command_base.specs.Settings.{NoSettings, Is_refused, Has_failed, Had_no_memory}
 use Rattle.command_base.specs.Statuses as S
-use Rattle.command_base.specs.Statuses.{Status, status_unopened, status_unset}
+use Rattle.command_base.specs.Statuses.{Status, status_unopened}
 use Rattle.command_base.proofs.Causes.{refused_so, unindexed_so, unset_so}
 use Rattle.command_base.proofs.Printed.{NotOut}
+use Rattle.command_words.specs.Forms.{Command}
 use Rattle.node_store.specs.declared.opening.fault.StoreOpenFault.{StoreOpenFault}
 use Rattle.node_store.specs.declared.opening.fault.StoreOpenFault.TheVariants as F
 use Rattle.node_store.specs.Finding.{IsNewMemory}
@@ -25,7 +26,7 @@ use Rattle.outbound_round.specs.declared.words.RoundFault.{RoundFault}
 use Rattle.outbound_round.specs.declared.words.RoundFault.TheVariants as RF
 use Rattle.outbound_store.specs.GoesOn.{BrokeSince}
 use Rattle.still_commands.specs.Came.{Told, IsTold, looked, only, round_status, told_compiled, told_line, told_listed, told_taken}
-use Rattle.still_commands.specs.Still.{CompilesFile, Over_still, No_words, Not_asked, Not_set, No_address, No_index, Not_opened, Bad_index, Looked_up, Compiled, Listed, Runs_still, Before_takes, Taken_in, TakesIn}
+use Rattle.still_commands.specs.Still.{CompilesFile, Over_still, Not_set, No_address, No_index, Not_opened, Bad_index, Looked_up, Compiled, Listed, Runs_still, Before_takes, Taken_in, TakesIn}
 
 -- No put failed yet.
 
@@ -74,18 +75,16 @@ module _ {D : Type 0} (files : D → World → Type 0) (tells : Bool) (content :
   unindexed_not_out disk disk' had (inl failed) = subst NotOut (sym failed.0) tt
   unindexed_not_out disk disk' had (inr is) = subst NotOut (sym is) tt
 
-  pub still_not_out : (words : List (List ℕ)) (disk : D) (told : Told) (disk' : D) → Over_still files tells content faults moment images words disk told disk' → NotOut told.status
-  still_not_out words disk told disk' (No_words is more) = is_so told (only S.NoMemory) is tt
-  still_not_out words disk told disk' (Not_asked none is disk_is) = is_so told (only S.Usage) is tt
-  still_not_out words disk told disk' (Not_set are had is why more) = is_so told (only had) is (unset_not_out disk disk' had why)
-  still_not_out words disk told disk' (No_address conf settings text form (inl none) more) = is_so told (only S.Usage) none.0 tt
-  still_not_out words disk told disk' (No_address conf settings text form (inr is) more) = is_so told (only S.NoMemory) is tt
-  still_not_out words disk told disk' (No_index conf settings asks had is why more) = is_so told (only had) is (unindexed_not_out disk disk' had why)
-  still_not_out words disk told disk' (Not_opened conf settings asks fault is refused) = is_so told (only (status_unopened fault (faults disk'))) is (unopened_not_out fault (faults disk'))
-  still_not_out words disk told disk' (Bad_index conf settings text a form reads opened h disk_is bad is) = is_so told (only (S.FileBad index_name)) is tt
-  still_not_out words disk told disk' (Looked_up conf settings text a form reads opened h disk_is index at is) = told_so (looked index a) told is (looked_not_out index a)
-  still_not_out words disk told disk' (Compiled conf settings path form opened h result does is) = told_so (told_compiled result (faults disk')) told is (compiled_not_out result (faults disk'))
-  still_not_out words disk told disk' (Listed conf settings form opened h disk_is is) = told_so (told_listed opened.memory.books.folding.state) told is tt
+  pub still_not_out : (command : Command) (disk : D) (told : Told) (disk' : D) → Over_still files tells content faults moment images command disk told disk' → NotOut told.status
+  still_not_out command disk told disk' (Not_set are had is why more) = is_so told (only had) is (unset_not_out disk disk' had why)
+  still_not_out command disk told disk' (No_address conf settings text form (inl none) more) = is_so told (only S.Usage) none.0 tt
+  still_not_out command disk told disk' (No_address conf settings text form (inr is) more) = is_so told (only S.NoMemory) is tt
+  still_not_out command disk told disk' (No_index conf settings asks had is why more) = is_so told (only had) is (unindexed_not_out disk disk' had why)
+  still_not_out command disk told disk' (Not_opened conf settings asks fault is refused) = is_so told (only (status_unopened fault (faults disk'))) is (unopened_not_out fault (faults disk'))
+  still_not_out command disk told disk' (Bad_index conf settings text a form reads opened h disk_is bad is) = is_so told (only (S.FileBad index_name)) is tt
+  still_not_out command disk told disk' (Looked_up conf settings text a form reads opened h disk_is index at is) = told_so (looked index a) told is (looked_not_out index a)
+  still_not_out command disk told disk' (Compiled conf settings path form opened h result does is) = told_so (told_compiled result (faults disk')) told is (compiled_not_out result (faults disk'))
+  still_not_out command disk told disk' (Listed conf settings form opened h disk_is is) = told_so (told_listed opened.memory.books.folding.state) told is tt
 
   -- What is told of the disk.
 
@@ -114,24 +113,22 @@ module _ {D : Type 0} (files : D → World → Type 0) (tells : Bool) (content :
   compiled_cause disk mid disk' path (Err (M.ListBad fault)) calm does = tt
   compiled_cause disk mid disk' path (Err M.NoMemory) calm does = tt
 
-  pub still_cause : (words : List (List ℕ)) (disk : D) (told : Told) (disk' : D) → Over_still files tells content faults moment images words disk told disk' → DiskCause tells content faults told.status disk disk'
-  still_cause words disk told disk' (No_words is more) = cause_of disk disk' told (only S.NoMemory) is tt
-  still_cause words disk told disk' (Not_asked none is disk_is) = cause_of disk disk' told (only S.Usage) is tt
-  still_cause words disk told disk' (Not_set are had is why more) = cause_of disk disk' told (only had) is (unset_so tells content faults moment images disk disk' had why)
-  still_cause words disk told disk' (No_address conf settings text form (inl none) more) = cause_of disk disk' told (only S.Usage) none.0 tt
-  still_cause words disk told disk' (No_address conf settings text form (inr is) more) = cause_of disk disk' told (only S.NoMemory) is tt
-  still_cause words disk told disk' (No_index conf settings asks had is why more) = cause_of disk disk' told (only had) is (unindexed_so tells content faults moment images disk disk' had why)
-  still_cause words disk told disk' (Not_opened conf settings asks fault is refused) = cause_of disk disk' told (only (status_unopened fault (faults disk'))) is (refused_so tells content faults moment images fault disk disk' refused)
-  still_cause words disk told disk' (Bad_index conf settings text a form reads opened h disk_is bad is) = cause_of disk disk' told (only (S.FileBad index_name)) is (λ telling. inr (refl, bad telling))
-  still_cause words disk told disk' (Looked_up conf settings text a form reads opened h disk_is index at is) = told_cause disk disk' (looked index a) told is (looked_cause disk disk' index a)
-  still_cause words disk told disk' (Compiled conf settings path form opened h result does is) = told_cause disk disk' (told_compiled result (faults disk')) told is (compiled_cause disk opened.disk disk' path result h.calm does)
-  still_cause words disk told disk' (Listed conf settings form opened h disk_is is) = told_cause disk disk' (told_listed opened.memory.books.folding.state) told is tt
+  pub still_cause : (command : Command) (disk : D) (told : Told) (disk' : D) → Over_still files tells content faults moment images command disk told disk' → DiskCause tells content faults told.status disk disk'
+  still_cause command disk told disk' (Not_set are had is why more) = cause_of disk disk' told (only had) is (unset_so tells content faults moment images disk disk' had why)
+  still_cause command disk told disk' (No_address conf settings text form (inl none) more) = cause_of disk disk' told (only S.Usage) none.0 tt
+  still_cause command disk told disk' (No_address conf settings text form (inr is) more) = cause_of disk disk' told (only S.NoMemory) is tt
+  still_cause command disk told disk' (No_index conf settings asks had is why more) = cause_of disk disk' told (only had) is (unindexed_so tells content faults moment images disk disk' had why)
+  still_cause command disk told disk' (Not_opened conf settings asks fault is refused) = cause_of disk disk' told (only (status_unopened fault (faults disk'))) is (refused_so tells content faults moment images fault disk disk' refused)
+  still_cause command disk told disk' (Bad_index conf settings text a form reads opened h disk_is bad is) = cause_of disk disk' told (only (S.FileBad index_name)) is (λ telling. inr (refl, bad telling))
+  still_cause command disk told disk' (Looked_up conf settings text a form reads opened h disk_is index at is) = told_cause disk disk' (looked index a) told is (looked_cause disk disk' index a)
+  still_cause command disk told disk' (Compiled conf settings path form opened h result does is) = told_cause disk disk' (told_compiled result (faults disk')) told is (compiled_cause disk opened.disk disk' path result h.calm does)
+  still_cause command disk told disk' (Listed conf settings form opened h disk_is is) = told_cause disk disk' (told_listed opened.memory.books.folding.state) told is tt
 
   -- Taking in.
 
-  pub runs_not_out : (words : List (List ℕ)) (now : ℕ) (disk : D) (told : Told) (disk' : D) → Runs_still files tells content faults moment images words now disk told disk' → NotOut told.status
-  runs_not_out words now disk told disk' (Before_takes over) = still_not_out words disk told disk' over
-  runs_not_out words now disk told disk' (Taken_in conf settings form opened h takes) =
+  pub runs_not_out : (command : Command) (now : ℕ) (disk : D) (told : Told) (disk' : D) → Runs_still files tells content faults moment images command now disk told disk' → NotOut told.status
+  runs_not_out command now disk told disk' (Before_takes over) = still_not_out command disk told disk' over
+  runs_not_out command now disk told disk' (Taken_in conf settings form opened h takes) =
       is_so told (told_taken takes.round (faults disk')) takes.told_is (round_not_out takes.round.marked takes.round.fault (faults disk'))
 
   -- a store that was just opened isn't broken
@@ -155,7 +152,7 @@ module _ {D : Type 0} (files : D → World → Type 0) (tells : Bool) (content :
   round_cause disk disk' (Some name) None rose = tt
   round_cause disk disk' None None rose = tt
 
-  pub runs_cause : (words : List (List ℕ)) (now : ℕ) (disk : D) (told : Told) (disk' : D) → Runs_still files tells content faults moment images words now disk told disk' → DiskCause tells content faults told.status disk disk'
-  runs_cause words now disk told disk' (Before_takes over) = still_cause words disk told disk' over
-  runs_cause words now disk told disk' (Taken_in conf settings form opened h takes) =
+  pub runs_cause : (command : Command) (now : ℕ) (disk : D) (told : Told) (disk' : D) → Runs_still files tells content faults moment images command now disk told disk' → DiskCause tells content faults told.status disk disk'
+  runs_cause command now disk told disk' (Before_takes over) = still_cause command disk told disk' over
+  runs_cause command now disk told disk' (Taken_in conf settings form opened h takes) =
       cause_of disk disk' told (told_taken takes.round (faults disk')) takes.told_is (round_cause disk disk' takes.round.marked takes.round.fault (failed_since conf now disk opened told disk' h takes))

@@ -33,13 +33,12 @@ use Rattle.command_base.specs.Printing.{PrintsLines, all_put, lines_put, no_room
 use Rattle.command_base.specs.Settings.{OnlyRead}
 use Rattle.command_base.specs.Statuses as S
 use Rattle.command_base.specs.Statuses.{Status}
-use Rattle.command_base.proofs.ReadOnly.{no_read}
-use Rattle.command_words.specs.Forms.{Compile, HasForm, Taking}
+use Rattle.command_words.specs.Forms.{Command, Compile, Taking}
 use Rattle.still_commands.specs.Came.{IsTold, Told, round_status, told_compiled}
 use Rattle.still_commands.specs.Lists.{IsListRefused, ListsSo, Throughout}
 use Rattle.outbound_round.specs.declared.words.RoundFault.{RoundFault}
 use Rattle.outbound_round.specs.declared.words.RoundFault.TheVariants as RF
-use Rattle.still_commands.specs.Still.{Bad_index, Before_takes, Compiled, CompilesFile, Listed, Looked_up, No_address, No_index, No_words, Not_asked, Not_opened, Not_set, Over_still, Runs_still, Taken_in}
+use Rattle.still_commands.specs.Still.{Bad_index, Before_takes, Compiled, CompilesFile, Listed, Looked_up, No_address, No_index, Not_opened, Not_set, Over_still, Runs_still, Taken_in}
 
 -- List, index and the file in which they are made are none of a store's files. All three names begin with `n`.
 
@@ -199,14 +198,12 @@ printed_refused lines had status out out' (lines_put (put_failed is puts)) refus
 printed_refused lines had status out out' (no_room (all_put is puts)) refused = absurd (no_memory_refused (subst IsListRefused is refused))
 printed_refused lines had status out out' (no_room (put_failed is puts)) refused = absurd (out_refused (subst IsListRefused is refused))
 
-module _ {D : Type 0} (files : D → World → Type 0) (tells : Bool) (content : D → World) (faults : D → ℕ) (moment : D → ℕ) (images : D → ℕ → World → Type 0) (words : List (List ℕ)) (disk : D) (told : Told) where
+module _ {D : Type 0} (files : D → World → Type 0) (tells : Bool) (content : D → World) (faults : D → ℕ) (moment : D → ℕ) (images : D → ℕ → World → Type 0) (command : Command) (disk : D) (told : Told) where
   -- what holds of the disk that is left, by what was done over it
   over_so : (P : D → Type 0) → ((d : D) → OnlyRead tells content faults moment images disk d → P d) → ((fault : StoreOpenFault) (d : D) → HasRefused tells content faults moment images fault disk d → P d)
       → ((opened : Holding D) → HasOpened tells content faults moment images disk opened → P opened.disk)
-      → ((path : List ℕ) (opened : Holding D) (result : Result ℕ CompileFault) (d : D) → HasForm words (Compile path) → HasOpened tells content faults moment images disk opened → CompilesFile files faults moment images path result opened.disk d → IsTold (told_compiled result (faults d)) told → P d)
-      → (disk' : D) → Over_still files tells content faults moment images words disk told disk' → P disk'
-  over_so P read refused opening compile disk' (No_words is more) = read disk' more
-  over_so P read refused opening compile disk' (Not_asked none is disk_is) = subst P (sym disk_is) (read disk (no_read tells content faults moment images disk))
+      → ((path : List ℕ) (opened : Holding D) (result : Result ℕ CompileFault) (d : D) → command ≡ Compile path → HasOpened tells content faults moment images disk opened → CompilesFile files faults moment images path result opened.disk d → IsTold (told_compiled result (faults d)) told → P d)
+      → (disk' : D) → Over_still files tells content faults moment images command disk told disk' → P disk'
   over_so P read refused opening compile disk' (Not_set are had is why more) = read disk' more
   over_so P read refused opening compile disk' (No_address conf settings text form none more) = read disk' more
   over_so P read refused opening compile disk' (No_index conf settings asks had is why more) = read disk' more
@@ -240,29 +237,29 @@ module _ {D : Type 0} (files : D → World → Type 0) (tells : Bool) (content :
           steps (content disk) (content mid) (content d) read (subst (λ (w : World). S w (content d)) (reads mid p.0 p.1).1 p.2);
     }
 
-    pub still_recovers : (disk' : D) → Over_still files tells content faults moment images words disk told disk' → Stays Recovers disk'
+    pub still_recovers : (disk' : D) → Over_still files tells content faults moment images command disk told disk' → Stays Recovers disk'
     still_recovers = over_so (Stays Recovers) (read_so Recovers recovers-refl t)
         (λ fault d h. record { stop = h.stop t; read = h.read t })
         (λ opened h. record { stop = h.stop t; read = h.read t })
         (λ path opened result d form h does is. then_so Recovers (Compiles (files opened.disk) path) Recovers (λ w c r. r) (λ w e c r on. recovers-then w e c r (lists_recovers _ e c on)) opened.disk d (h.stop t) (h.read t) does.stop does.read)
 
-    pub still_lists : (disk' : D) → Over_still files tells content faults moment images words disk told disk' → Stays (ListsSo (files disk) words) disk'
-    still_lists = over_so (Stays (ListsSo (files disk) words)) (read_so (ListsSo (files disk) words) (λ w. inl (pair_refl w)) t)
-        (λ fault d h. weaker SameAside (ListsSo (files disk) words) (λ w c same. inl (pair_aside w c same)) d (h.aside_stop t) (h.aside_read t))
-        (λ opened h. weaker SameAside (ListsSo (files disk) words) (λ w c same. inl (pair_aside w c same)) opened.disk (h.aside_stop t) (h.aside_read t))
-        (λ path opened result d form h does is. then_so SameAside (Compiles (files opened.disk) path) (ListsSo (files disk) words) (λ w c same. inl (pair_aside w c same)) (compiles_so path opened form h) opened.disk d (h.aside_stop t) (h.aside_read t) does.stop does.read)
+    pub still_lists : (disk' : D) → Over_still files tells content faults moment images command disk told disk' → Stays (ListsSo (files disk) command) disk'
+    still_lists = over_so (Stays (ListsSo (files disk) command)) (read_so (ListsSo (files disk) command) (λ w. inl (pair_refl w)) t)
+        (λ fault d h. weaker SameAside (ListsSo (files disk) command) (λ w c same. inl (pair_aside w c same)) d (h.aside_stop t) (h.aside_read t))
+        (λ opened h. weaker SameAside (ListsSo (files disk) command) (λ w c same. inl (pair_aside w c same)) opened.disk (h.aside_stop t) (h.aside_read t))
+        (λ path opened result d form h does is. then_so SameAside (Compiles (files opened.disk) path) (ListsSo (files disk) command) (λ w c same. inl (pair_aside w c same)) (compiles_so path opened form h) opened.disk d (h.aside_stop t) (h.aside_read t) does.stop does.read)
       where
-        compiles_so : (path : List ℕ) (opened : Holding D) → HasForm words (Compile path) → HasOpened tells content faults moment images disk opened → (w e c : World) → SameAside w e → Compiles (files opened.disk) path e c → ListsSo (files disk) words w c
+        compiles_so : (path : List ℕ) (opened : Holding D) → command ≡ Compile path → HasOpened tells content faults moment images disk opened → (w e c : World) → SameAside w e → Compiles (files opened.disk) path e c → ListsSo (files disk) command w c
         compiles_so path opened form h w e c same on = go on.both
           where
             stood : (text : List ℕ) → Every (files opened.disk) (λ v. text_at path v ≡ Some text) → Every (files disk) (λ v. text_at path v ≡ Some text)
             stood text stands v is = subst (λ (x : World). text_at path x ≡ Some text) (sym (reads disk v is).1) (text_before path text (content disk) (content opened.disk) opened.memory (h.told t) (stands (content opened.disk) (tell t opened.disk)))
 
-            go : OldPair e c ⊎ NewList (files opened.disk) path e c → ListsSo (files disk) words w c
+            go : OldPair e c ⊎ NewList (files opened.disk) path e c → ListsSo (files disk) command w c
             go (inl old) = inl (pair_then w e c (pair_aside w e same) old)
             go (inr new) = inr (path, form, new_before (files disk) (files opened.disk) path w e c stood (pair_aside w e same) new)
 
-    pub still_refused : IsListRefused told.status → (disk' : D) → Over_still files tells content faults moment images words disk told disk' → Stays OldPair disk'
+    pub still_refused : IsListRefused told.status → (disk' : D) → Over_still files tells content faults moment images command disk told disk' → Stays OldPair disk'
     still_refused refused = over_so (Stays OldPair) (read_so OldPair pair_refl t)
         (λ fault d h. weaker SameAside OldPair pair_aside d (h.aside_stop t) (h.aside_read t))
         (λ opened h. weaker SameAside OldPair pair_aside opened.disk (h.aside_stop t) (h.aside_read t))
@@ -294,12 +291,12 @@ round_refused marked (Some RF.NoMemory) faults refused = no_refusal refused tt
 round_refused (Some name) None faults refused = no_refusal refused tt
 round_refused None None faults refused = no_refusal refused tt
 
-module _ {D : Type 0} (files : D → World → Type 0) (tells : Bool) (content : D → World) (faults : D → ℕ) (moment : D → ℕ) (images : D → ℕ → World → Type 0) (words : List (List ℕ)) (now : ℕ) (disk : D) (told : Told) (disk' : D) where
-  pub over_unless_take : (HasForm words Taking → ⊥) → Runs_still files tells content faults moment images words now disk told disk' → Over_still files tells content faults moment images words disk told disk'
+module _ {D : Type 0} (files : D → World → Type 0) (tells : Bool) (content : D → World) (faults : D → ℕ) (moment : D → ℕ) (images : D → ℕ → World → Type 0) (command : Command) (now : ℕ) (disk : D) (told : Told) (disk' : D) where
+  pub over_unless_take : (command ≡ Taking → ⊥) → Runs_still files tells content faults moment images command now disk told disk' → Over_still files tells content faults moment images command disk told disk'
   over_unless_take other (Before_takes over) = over
   over_unless_take other (Taken_in conf settings form opened h takes) = absurd (other form)
 
-  pub refused_over : IsListRefused told.status → Runs_still files tells content faults moment images words now disk told disk' → Over_still files tells content faults moment images words disk told disk'
+  pub refused_over : IsListRefused told.status → Runs_still files tells content faults moment images command now disk told disk' → Over_still files tells content faults moment images command disk told disk'
   refused_over refused (Before_takes over) = over
   refused_over refused (Taken_in conf settings form opened h takes) =
       absurd (round_refused takes.round.marked takes.round.fault (faults disk') (subst (λ (t : Told). IsListRefused t.status) takes.told_is refused))

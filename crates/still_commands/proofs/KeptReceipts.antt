@@ -1,5 +1,5 @@
 -- What was received stays while a command without a session runs.
-use Rattle.std.proofs.Common.{◌≡◌, ℕ, ◌≤◌, ◌<◌, Bool, true, false, List, Option, Some, None, refl, sym, ap, subst, ⊎_elim}
+use Rattle.std.proofs.Common.{◌≡◌, ℕ, ◌≤◌, ◌<◌, Bool, true, false, Option, Some, None, refl, sym, ap, subst, ⊎_elim}
 use Rattle.std.specs.Prelude.{if◌then◌else◌}
 use Rattle.std.proofs.lemmas.Bool.{cases_lt}
 use Rattle.disk_model.specs.Changes.{Every}
@@ -16,6 +16,7 @@ use Rattle.node_store.proofs.Openings.{one_shelf, opens_to, opens_weaker}
 use Rattle.outbound_store.specs.GoesOn.{SameReceived}
 use Rattle.outbound_store.proofs.GoesOnLemmas.{same_then}
 use Rattle.command_base.specs.Opening.{HasOpened}
+use Rattle.command_words.specs.Forms.{Command}
 use Rattle.still_commands.specs.Came.{Told}
 use Rattle.still_commands.specs.Receipts.{KeepsReceived, OpensSo}
 use Rattle.still_commands.specs.Still.{Before_takes, Runs_still, Taken_in, TakesIn}
@@ -78,8 +79,8 @@ module _ {D : Type 0} (tells : Bool) (content : D → World) (faults : D → ℕ
 
 module _ {D : Type 0} (files : D → World → Type 0) (tells : Bool) (content : D → World) (faults : D → ℕ) (moment : D → ℕ) (images : D → ℕ → World → Type 0)
     (reads : (d : D) (w : World) → files d w → (tells ≡ true) × (w ≡ content d)) (tell : tells ≡ true → (d : D) → files d (content d)) where
-  pub runs_keep : (words : List (List ℕ)) (now : ℕ) (disk : D) (told : Told) (disk' : D) → tells ≡ true
-      → Runs_still files tells content faults moment images words now disk told disk' → KeepsReceived content moment images disk disk'
-  runs_keep words now disk told disk' t (Before_takes over) =
-      recovers_keep tells content faults moment images disk disk' (still_recovers files tells content faults moment images words disk told reads tell t disk' over).stop
-  runs_keep words now disk told disk' t (Taken_in conf settings form opened h takes) = takes_keep tells content faults moment images files conf now disk opened told disk' t h takes
+  pub runs_keep : (command : Command) (now : ℕ) (disk : D) (told : Told) (disk' : D) → tells ≡ true
+      → Runs_still files tells content faults moment images command now disk told disk' → KeepsReceived content moment images disk disk'
+  runs_keep command now disk told disk' t (Before_takes over) =
+      recovers_keep tells content faults moment images disk disk' (still_recovers files tells content faults moment images command disk told reads tell t disk' over).stop
+  runs_keep command now disk told disk' t (Taken_in conf settings form opened h takes) = takes_keep tells content faults moment images files conf now disk opened told disk' t h takes

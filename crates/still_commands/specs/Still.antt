@@ -25,27 +25,27 @@ use Rattle.command_base.specs.Settings.{HasSettings, NoSettings, OnlyRead}
 use Rattle.command_base.specs.Statuses as S
 use Rattle.command_base.specs.Statuses.{Status, status_unopened}
 use Rattle.command_words.specs.Forms as W
-use Rattle.command_words.specs.Forms.{Command, HasForm}
+use Rattle.command_words.specs.Forms.{Command}
 use Rattle.outbound_round.specs.Round.{RoundTold, TakesRound}
 use Rattle.outbound_round.specs.declared.words.RoundFault.TheVariants as RF
 use Rattle.outbound_round.specs.declared.words.Telling.TheVariants as RT
 use Rattle.outbound_store.specs.GoesOn.{GoesOn}
 use Rattle.still_commands.specs.Came.{Told, IsTold, looked, only, told_compiled, told_listed, told_taken}
 
--- the words are such a command
-pub data AreStill (words : List (List ℕ)) : Type 0 where
-  a_lookup : (text : List ℕ) → HasForm words (W.Lookup text) → AreStill words
-  a_compile : (path : List ℕ) → HasForm words (W.Compile path) → AreStill words
-  a_list : HasForm words W.Listing → AreStill words
-  a_take : HasForm words W.Taking → AreStill words
+-- a command without a session
+pub data IsStill (command : Command) : Type 0 where
+  a_lookup : (text : List ℕ) → command ≡ W.Lookup text → IsStill command
+  a_compile : (path : List ℕ) → command ≡ W.Compile path → IsStill command
+  a_list : command ≡ W.Listing → IsStill command
+  a_take : command ≡ W.Taking → IsStill command
 
--- what they ask for by settings: to look up the node of an address, read with the home's parts, to compile a file, to list what the
+-- what it asks for by settings: to look up the node of an address, read with the home's parts, to compile a file, to list what the
 -- store keeps, or to take in the outbound
-pub data Asks (words : List (List ℕ)) (conf : ConfText) : Type 0 where
-  To_look_up : (text : List ℕ) (a : Address) → HasForm words (W.Lookup text) → reading text (home_of conf.addresses) ≡ Ok a → Asks words conf
-  To_compile : (path : List ℕ) → HasForm words (W.Compile path) → Asks words conf
-  To_list : HasForm words W.Listing → Asks words conf
-  To_take : HasForm words W.Taking → Asks words conf
+pub data Asks (command : Command) (conf : ConfText) : Type 0 where
+  To_look_up : (text : List ℕ) (a : Address) → command ≡ W.Lookup text → reading text (home_of conf.addresses) ≡ Ok a → Asks command conf
+  To_compile : (path : List ℕ) → command ≡ W.Compile path → Asks command conf
+  To_list : command ≡ W.Listing → Asks command conf
+  To_take : command ≡ W.Taking → Asks command conf
 
 -- the word behind `lookup` spells no address, or there was no memory to read it
 abbrev pub IsNoAddress : List ℕ → ConfText → Told → Type 0
@@ -65,29 +65,27 @@ pub record CompilesFile {D : Type 0} (files : D → World → Type 0) (faults : 
   pub cleared : IfErr result (λ fault. (fault ≡ M.Disk) ⊎ Follows Clears (files old) (files new))
 
 module _ {D : Type 0} (files : D → World → Type 0) (tells : Bool) (content : D → World) (faults : D → ℕ) (moment : D → ℕ) (images : D → ℕ → World → Type 0) where
-  -- There was no memory for the words, or they are no such command, and nothing was done; or the settings weren't read, or by them the word behind `lookup` is no
-  -- no address, or the index couldn't be read, and the disk was read only; or no store was opened; or one was, and over its disk the
-  -- index is bad, or the node was looked up in it, or the file was compiled, or what the store keeps was listed.
-  pub data Over_still (words : List (List ℕ)) (disk : D) (told : Told) (disk' : D) : Type 0 where
-    No_words : told ≡ only S.NoMemory → OnlyRead tells content faults moment images disk disk' → Over_still words disk told disk'
-    Not_asked : (AreStill words → ⊥) → told ≡ only S.Usage → disk' ≡ disk → Over_still words disk told disk'
-    Not_set : AreStill words → (had : Status) → told ≡ only had → NoSettings tells content faults moment images disk disk' had → OnlyRead tells content faults moment images disk disk' → Over_still words disk told disk'
-    No_address : (conf : ConfText) → HasSettings tells content faults moment images disk conf → (text : List ℕ) → HasForm words (W.Lookup text) → IsNoAddress text conf told
-        → OnlyRead tells content faults moment images disk disk' → Over_still words disk told disk'
-    No_index : (conf : ConfText) → HasSettings tells content faults moment images disk conf → Asks words conf → (had : Status) → told ≡ only had → NoIndex faults disk disk' had → OnlyRead tells content faults moment images disk disk' → Over_still words disk told disk'
-    Not_opened : (conf : ConfText) → HasSettings tells content faults moment images disk conf → Asks words conf → (fault : StoreOpenFault) → told ≡ only (status_unopened fault (faults disk'))
-        → HasRefused tells content faults moment images fault disk disk' → Over_still words disk told disk'
-    Bad_index : (conf : ConfText) → HasSettings tells content faults moment images disk conf → (text : List ℕ) (a : Address) → HasForm words (W.Lookup text) → reading text (home_of conf.addresses) ≡ Ok a
+  -- The settings weren't read, or by them the word behind `lookup` is no address, or the index couldn't be read, and the disk was read
+  -- only; or no store was opened; or one was, and over its disk the index is bad, or the node was looked up in it, or the file was
+  -- compiled, or what the store keeps was listed.
+  pub data Over_still (command : Command) (disk : D) (told : Told) (disk' : D) : Type 0 where
+    Not_set : IsStill command → (had : Status) → told ≡ only had → NoSettings tells content faults moment images disk disk' had → OnlyRead tells content faults moment images disk disk' → Over_still command disk told disk'
+    No_address : (conf : ConfText) → HasSettings tells content faults moment images disk conf → (text : List ℕ) → command ≡ W.Lookup text → IsNoAddress text conf told
+        → OnlyRead tells content faults moment images disk disk' → Over_still command disk told disk'
+    No_index : (conf : ConfText) → HasSettings tells content faults moment images disk conf → Asks command conf → (had : Status) → told ≡ only had → NoIndex faults disk disk' had → OnlyRead tells content faults moment images disk disk' → Over_still command disk told disk'
+    Not_opened : (conf : ConfText) → HasSettings tells content faults moment images disk conf → Asks command conf → (fault : StoreOpenFault) → told ≡ only (status_unopened fault (faults disk'))
+        → HasRefused tells content faults moment images fault disk disk' → Over_still command disk told disk'
+    Bad_index : (conf : ConfText) → HasSettings tells content faults moment images disk conf → (text : List ℕ) (a : Address) → command ≡ W.Lookup text → reading text (home_of conf.addresses) ≡ Ok a
         → (opened : Holding D) → HasOpened tells content faults moment images disk opened → disk' ≡ opened.disk
-        → (tells ≡ true → IsBadIndex (content disk)) → told ≡ only (S.FileBad index_name) → Over_still words disk told disk'
-    Looked_up : (conf : ConfText) → HasSettings tells content faults moment images disk conf → (text : List ℕ) (a : Address) → HasForm words (W.Lookup text) → reading text (home_of conf.addresses) ≡ Ok a
+        → (tells ≡ true → IsBadIndex (content disk)) → told ≡ only (S.FileBad index_name) → Over_still command disk told disk'
+    Looked_up : (conf : ConfText) → HasSettings tells content faults moment images disk conf → (text : List ℕ) (a : Address) → command ≡ W.Lookup text → reading text (home_of conf.addresses) ≡ Ok a
         → (opened : Holding D) → HasOpened tells content faults moment images disk opened → disk' ≡ opened.disk
-        → (index : Option (List ListedNode)) → (tells ≡ true → index_at ((content disk).own index_name) ≡ Ok index) → IsTold (looked index a) told → Over_still words disk told disk'
-    Compiled : (conf : ConfText) → HasSettings tells content faults moment images disk conf → (path : List ℕ) → HasForm words (W.Compile path)
+        → (index : Option (List ListedNode)) → (tells ≡ true → index_at ((content disk).own index_name) ≡ Ok index) → IsTold (looked index a) told → Over_still command disk told disk'
+    Compiled : (conf : ConfText) → HasSettings tells content faults moment images disk conf → (path : List ℕ) → command ≡ W.Compile path
         → (opened : Holding D) → HasOpened tells content faults moment images disk opened
-        → (result : Result ℕ CompileFault) → CompilesFile files faults moment images path result opened.disk disk' → IsTold (told_compiled result (faults disk')) told → Over_still words disk told disk'
-    Listed : (conf : ConfText) → HasSettings tells content faults moment images disk conf → HasForm words W.Listing
-        → (opened : Holding D) → HasOpened tells content faults moment images disk opened → disk' ≡ opened.disk → IsTold (told_listed opened.memory.books.folding.state) told → Over_still words disk told disk'
+        → (result : Result ℕ CompileFault) → CompilesFile files faults moment images path result opened.disk disk' → IsTold (told_compiled result (faults disk')) told → Over_still command disk told disk'
+    Listed : (conf : ConfText) → HasSettings tells content faults moment images disk conf → command ≡ W.Listing
+        → (opened : Holding D) → HasOpened tells content faults moment images disk opened → disk' ≡ opened.disk → IsTold (told_listed opened.memory.books.folding.state) told → Over_still command disk told disk'
 
   -- The outbound of the settings was taken in, address by address, over a store that was opened; what it received stays so at each
   -- moment, and where the disk failed it is broken.
@@ -101,13 +99,13 @@ module _ {D : Type 0} (files : D → World → Type 0) (tells : Bool) (content :
     pub told_is : told ≡ told_taken round (faults disk')
 
   -- One of these; or a store was opened, and the outbound taken in at that moment.
-  pub data Runs_still (words : List (List ℕ)) (now : ℕ) (disk : D) (told : Told) (disk' : D) : Type 0 where
-    Before_takes : Over_still words disk told disk' → Runs_still words now disk told disk'
-    Taken_in : (conf : ConfText) → HasSettings tells content faults moment images disk conf → HasForm words W.Taking
-        → (opened : Holding D) → HasOpened tells content faults moment images disk opened → TakesIn conf now opened told disk' → Runs_still words now disk told disk'
+  pub data Runs_still (command : Command) (now : ℕ) (disk : D) (told : Told) (disk' : D) : Type 0 where
+    Before_takes : Over_still command disk told disk' → Runs_still command now disk told disk'
+    Taken_in : (conf : ConfText) → HasSettings tells content faults moment images disk conf → command ≡ W.Taking
+        → (opened : Holding D) → HasOpened tells content faults moment images disk opened → TakesIn conf now opened told disk' → Runs_still command now disk told disk'
 
   -- the whole command, and then what was printed of it
-  pub record StillCall (words : List (List ℕ)) (now : ℕ) (disk : D) (out : SinkState) (status : Status) (disk' : D) (out' : SinkState) : Type 0 where
+  pub record StillCall (command : Command) (now : ℕ) (disk : D) (out : SinkState) (status : Status) (disk' : D) (out' : SinkState) : Type 0 where
     pub told : Told
-    pub does : Runs_still words now disk told disk'
+    pub does : Runs_still command now disk told disk'
     pub prints : PrintsLines told.lines told.status status out out'

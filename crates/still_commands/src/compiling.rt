@@ -1,12 +1,12 @@
 //! `compile FILE`.
-ghost use Rattle.std.specs.Prelude.{◌≡◌, List, Ok, Result, true, ℕ};
+ghost use Rattle.std.specs.Prelude.{◌≡◌, Ok, Result, true, ℕ};
 ghost use Rattle.disk_model.specs.Changes.{Every};
 ghost use Rattle.disk_model.specs.Moments.{Now};
 ghost use Rattle.mail_conf.specs.ConfView.{conf_text};
 ghost use Rattle.mail_conf.specs.Limits.{KeepsLimits};
 ghost use Rattle.node_store.specs.Opening.{IsReady};
 ghost use Rattle.command_base.specs.Settings.{HasSettings};
-ghost use Rattle.command_words.specs.Forms.{Compile, HasForm};
+ghost use Rattle.command_words.specs.Forms.{Compile};
 ghost use Rattle.still_commands.specs.Came.{IsTold, told_compiled, told_of};
 ghost use Rattle.still_commands.specs.Still.{CompilesFile, Over_still};
 ghost use Rattle.nodelist_files.specs.declared.fault.CompileFault.{CompileFault};
@@ -54,7 +54,7 @@ fn compile_by<D: Yard>(alloc: Global, path: &Bytes, conf: &Conf, disk: D) -> (Ca
     requires settings { HasSettings D.tells D.content D.fault_count D.moment D.images disk (conf_text conf.now) }
     requires keeps { KeepsLimits (conf_text conf.now) }
     requires ready { D.tells ≡ true → Every (Now D.moment D.images disk) (IsReady (D.content disk)) }
-    ensures { (words : List (List ℕ)) → HasForm words (Compile path.now.list) → Over_still D.files D.tells D.content D.fault_count D.moment D.images words disk (told_of result.0) result.1 }
+    ensures { Over_still D.files D.tells D.content D.fault_count D.moment D.images (Compile path.now.list) disk (told_of result.0) result.1 }
 {
     match NodeStore::open(alloc, disk, home_of(conf)) {
         Ok((store, _recovery)) => compile_opened(alloc, path, store.into_disk()),
@@ -65,7 +65,7 @@ fn compile_by<D: Yard>(alloc: Global, path: &Bytes, conf: &Conf, disk: D) -> (Ca
 /// Compiles the file of that path into the own folder of the disk.
 pub(crate) fn compile_file<D: Yard>(alloc: Global, path: &Bytes, disk: D) -> (Came, D)
     requires ready { D.tells ≡ true → Every (Now D.moment D.images disk) (IsReady (D.content disk)) }
-    ensures { (words : List (List ℕ)) → HasForm words (Compile path.now.list) → Over_still D.files D.tells D.content D.fault_count D.moment D.images words disk (told_of result.0) result.1 }
+    ensures { Over_still D.files D.tells D.content D.fault_count D.moment D.images (Compile path.now.list) disk (told_of result.0) result.1 }
 {
     let mut disk = disk;
     match read_settings(alloc, &mut disk) {

@@ -1,12 +1,12 @@
 //! `list`.
-ghost use Rattle.std.specs.Prelude.{◌≡◌, List, true, ℕ};
+ghost use Rattle.std.specs.Prelude.{◌≡◌, true};
 ghost use Rattle.disk_model.specs.Changes.{Every};
 ghost use Rattle.disk_model.specs.Moments.{Now};
 ghost use Rattle.mail_conf.specs.ConfView.{conf_text};
 ghost use Rattle.mail_conf.specs.Limits.{KeepsLimits};
 ghost use Rattle.node_store.specs.Opening.{IsReady};
 ghost use Rattle.command_base.specs.Settings.{HasSettings};
-ghost use Rattle.command_words.specs.Forms.{HasForm, Listing};
+ghost use Rattle.command_words.specs.Forms.{Listing};
 ghost use Rattle.still_commands.specs.Came.{IsTold, told_listed, told_of};
 ghost use Rattle.still_commands.specs.Still.{Over_still};
 
@@ -39,7 +39,7 @@ fn list_by<D: Yard>(alloc: Global, conf: &Conf, disk: D) -> (Came, D)
     requires settings { HasSettings D.tells D.content D.fault_count D.moment D.images disk (conf_text conf.now) }
     requires keeps { KeepsLimits (conf_text conf.now) }
     requires ready { D.tells ≡ true → Every (Now D.moment D.images disk) (IsReady (D.content disk)) }
-    ensures { (words : List (List ℕ)) → HasForm words Listing → Over_still D.files D.tells D.content D.fault_count D.moment D.images words disk (told_of result.0) result.1 }
+    ensures { Over_still D.files D.tells D.content D.fault_count D.moment D.images Listing disk (told_of result.0) result.1 }
 {
     match NodeStore::open(alloc, disk, home_of(conf)) {
         Ok((store, _recovery)) => (listed(alloc, store.state()), store.into_disk()),
@@ -50,7 +50,7 @@ fn list_by<D: Yard>(alloc: Global, conf: &Conf, disk: D) -> (Came, D)
 /// Tells what the store of the disk keeps.
 pub(crate) fn list_store<D: Yard>(alloc: Global, disk: D) -> (Came, D)
     requires ready { D.tells ≡ true → Every (Now D.moment D.images disk) (IsReady (D.content disk)) }
-    ensures { (words : List (List ℕ)) → HasForm words Listing → Over_still D.files D.tells D.content D.fault_count D.moment D.images words disk (told_of result.0) result.1 }
+    ensures { Over_still D.files D.tells D.content D.fault_count D.moment D.images Listing disk (told_of result.0) result.1 }
 {
     let mut disk = disk;
     match read_settings(alloc, &mut disk) {

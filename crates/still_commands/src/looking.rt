@@ -12,7 +12,7 @@ ghost use Rattle.nodelist_files.specs.IndexFile.{index_at};
 ghost use Rattle.session_core.specs.Stages.{home_of};
 ghost use Rattle.command_base.specs.Causes.{IsBadIndex};
 ghost use Rattle.command_base.specs.Settings.{HasSettings};
-ghost use Rattle.command_words.specs.Forms.{HasForm, Lookup};
+ghost use Rattle.command_words.specs.Forms.{Lookup};
 ghost use Rattle.still_commands.specs.Came.{IsTold, looked, told_of};
 ghost use Rattle.still_commands.specs.Still.{Over_still};
 
@@ -57,7 +57,7 @@ fn look_opened<D: Yard>(
     requires keeps { KeepsLimits (conf_text conf.now) }
     requires ready { D.tells ≡ true → Every (Now D.moment D.images disk) (IsReady (D.content disk)) }
     requires index { D.tells ≡ true → index_at ((D.content disk).own index_name) ≡ Ok index }
-    ensures { (words : List (List ℕ)) (text : List ℕ) → HasForm words (Lookup text) → reading text (home_of (conf_text conf.now).addresses) ≡ Ok (address addr.now) → Over_still D.files D.tells D.content D.fault_count D.moment D.images words disk (told_of result.0) result.1 }
+    ensures { (text : List ℕ) → reading text (home_of (conf_text conf.now).addresses) ≡ Ok (address addr.now) → Over_still D.files D.tells D.content D.fault_count D.moment D.images (Lookup text) disk (told_of result.0) result.1 }
 {
     match NodeStore::open(alloc, disk, home_of(conf)) {
         Ok((store, _recovery)) => (look(alloc, index, addr), store.into_disk()),
@@ -71,7 +71,7 @@ fn refuse_opened<D: Yard>(alloc: Global, conf: &Conf, addr: &Addr, disk: D) -> (
     requires keeps { KeepsLimits (conf_text conf.now) }
     requires ready { D.tells ≡ true → Every (Now D.moment D.images disk) (IsReady (D.content disk)) }
     requires bad { D.tells ≡ true → IsBadIndex (D.content disk) }
-    ensures { (words : List (List ℕ)) (text : List ℕ) → HasForm words (Lookup text) → reading text (home_of (conf_text conf.now).addresses) ≡ Ok (address addr.now) → Over_still D.files D.tells D.content D.fault_count D.moment D.images words disk (told_of result.0) result.1 }
+    ensures { (text : List ℕ) → reading text (home_of (conf_text conf.now).addresses) ≡ Ok (address addr.now) → Over_still D.files D.tells D.content D.fault_count D.moment D.images (Lookup text) disk (told_of result.0) result.1 }
 {
     match NodeStore::open(alloc, disk, home_of(conf)) {
         Ok((store, _recovery)) => (
@@ -87,7 +87,7 @@ fn look_in_index<D: Yard>(alloc: Global, conf: &Conf, addr: &Addr, disk: D) -> (
     requires settings { HasSettings D.tells D.content D.fault_count D.moment D.images disk (conf_text conf.now) }
     requires keeps { KeepsLimits (conf_text conf.now) }
     requires ready { D.tells ≡ true → Every (Now D.moment D.images disk) (IsReady (D.content disk)) }
-    ensures { (words : List (List ℕ)) (text : List ℕ) → HasForm words (Lookup text) → reading text (home_of (conf_text conf.now).addresses) ≡ Ok (address addr.now) → Over_still D.files D.tells D.content D.fault_count D.moment D.images words disk (told_of result.0) result.1 }
+    ensures { (text : List ℕ) → reading text (home_of (conf_text conf.now).addresses) ≡ Ok (address addr.now) → Over_still D.files D.tells D.content D.fault_count D.moment D.images (Lookup text) disk (told_of result.0) result.1 }
 {
     let mut disk = disk;
     match read_index(alloc, &mut disk) {
@@ -106,7 +106,7 @@ fn look_by<D: Yard>(alloc: Global, text: &Bytes, conf: &Conf, disk: D) -> (Came,
     requires settings { HasSettings D.tells D.content D.fault_count D.moment D.images disk (conf_text conf.now) }
     requires keeps { KeepsLimits (conf_text conf.now) }
     requires ready { D.tells ≡ true → Every (Now D.moment D.images disk) (IsReady (D.content disk)) }
-    ensures { (words : List (List ℕ)) → HasForm words (Lookup text.now.list) → Over_still D.files D.tells D.content D.fault_count D.moment D.images words disk (told_of result.0) result.1 }
+    ensures { Over_still D.files D.tells D.content D.fault_count D.moment D.images (Lookup text.now.list) disk (told_of result.0) result.1 }
 {
     match read_addr(alloc, text.as_slice(), home_of(conf)) {
         Ok(addr) => look_in_index(alloc, conf, &addr, disk),
@@ -118,7 +118,7 @@ fn look_by<D: Yard>(alloc: Global, text: &Bytes, conf: &Conf, disk: D) -> (Came,
 /// Looks the node of an address up in the index of the disk.
 pub(crate) fn look_up<D: Yard>(alloc: Global, text: &Bytes, disk: D) -> (Came, D)
     requires ready { D.tells ≡ true → Every (Now D.moment D.images disk) (IsReady (D.content disk)) }
-    ensures { (words : List (List ℕ)) → HasForm words (Lookup text.now.list) → Over_still D.files D.tells D.content D.fault_count D.moment D.images words disk (told_of result.0) result.1 }
+    ensures { Over_still D.files D.tells D.content D.fault_count D.moment D.images (Lookup text.now.list) disk (told_of result.0) result.1 }
 {
     let mut disk = disk;
     match read_settings(alloc, &mut disk) {

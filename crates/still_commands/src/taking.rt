@@ -1,5 +1,5 @@
 //! `take`.
-ghost use Rattle.std.specs.Prelude.{◌≡◌, List, None, option_map, true, ℕ};
+ghost use Rattle.std.specs.Prelude.{◌≡◌, None, option_map, true};
 ghost use Rattle.disk_model.specs.Changes.{Every};
 ghost use Rattle.disk_model.specs.Moments.{Now};
 ghost use Rattle.mail_conf.specs.ConfView.{conf_text};
@@ -8,7 +8,7 @@ ghost use Rattle.node_store.specs.Opening.{IsReady};
 ghost use Rattle.outbound_round.specs.Round.{told_of as round_told};
 ghost use Rattle.command_base.specs.Settings.{HasSettings};
 ghost use Rattle.command_base.specs.Statuses.{status_text};
-ghost use Rattle.command_words.specs.Forms.{HasForm, Taking};
+ghost use Rattle.command_words.specs.Forms.{Taking};
 ghost use Rattle.still_commands.specs.Came.{round_status, told_of, told_taken};
 ghost use Rattle.still_commands.specs.Still.{Runs_still, TakesIn};
 
@@ -77,7 +77,7 @@ fn take_by<D: Yard>(alloc: Global, conf: &Conf, disk: D, now: u64) -> (Came, D)
     requires settings { HasSettings D.tells D.content D.fault_count D.moment D.images disk (conf_text conf.now) }
     requires keeps { KeepsLimits (conf_text conf.now) }
     requires ready { D.tells ≡ true → Every (Now D.moment D.images disk) (IsReady (D.content disk)) }
-    ensures { (words : List (List ℕ)) → HasForm words Taking → Runs_still D.files D.tells D.content D.fault_count D.moment D.images words now disk (told_of result.0) result.1 }
+    ensures { Runs_still D.files D.tells D.content D.fault_count D.moment D.images Taking now disk (told_of result.0) result.1 }
 {
     match NodeStore::open(alloc, disk, home_of(conf)) {
         Ok((store, _recovery)) => take_opened(alloc, conf, store, now),
@@ -88,7 +88,7 @@ fn take_by<D: Yard>(alloc: Global, conf: &Conf, disk: D, now: u64) -> (Came, D)
 /// Takes the outbound of the settings of the disk in. Packets and requests have the moment `now` as their time.
 pub(crate) fn take_outbound<D: Yard>(alloc: Global, disk: D, now: u64) -> (Came, D)
     requires ready { D.tells ≡ true → Every (Now D.moment D.images disk) (IsReady (D.content disk)) }
-    ensures { (words : List (List ℕ)) → HasForm words Taking → Runs_still D.files D.tells D.content D.fault_count D.moment D.images words now disk (told_of result.0) result.1 }
+    ensures { Runs_still D.files D.tells D.content D.fault_count D.moment D.images Taking now disk (told_of result.0) result.1 }
 {
     let mut disk = disk;
     match read_settings(alloc, &mut disk) {

@@ -18,7 +18,7 @@
 //! told                                   prints it with the last reason
 //! answer b1 \x80\x01\x05 frames:2        the mailer answers over that folder, and its caller says one piece after another: prints
 //!                                        `answer: exit 0, sync b1,` with all syncs that the system was asked for
-//! run b1 take                            the same of any words of the mailer, without a caller
+//! run b1 take                            its outbound is taken in, and the same is printed
 //! ```
 //!
 //! Between the lines `prepare` and `ready` stands what `again` does anew, and what `each CALL` does before it lets each call of the

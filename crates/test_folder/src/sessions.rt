@@ -8,6 +8,7 @@ ghost use Rattle.binkp_link.specs.Scripts.{GivesSome, act_of};
 use anyhow::Result;
 use binkp_link::{MemLine, MemLines, MemSink, NextAct, ReadAct};
 use binkp_mailer::run_call;
+use command_words::{SessionForm, StillForm};
 use ftn_addr::{Bytes, NoMemory};
 use real_edge::RealFolder;
 use std::alloc::Global;
@@ -76,15 +77,6 @@ fn caller(alloc: Global, pieces: &[&str]) -> Result<MemLines, NoMemory>
     Ok(MemLines::new(alloc, next, Vec::new(alloc)))
 }
 
-// The words of the mailer.
-fn named(alloc: Global, words: &[&str]) -> Result<Vec<Bytes>, NoMemory> {
-    let mut all = Vec::new(alloc);
-    for word in words {
-        all.push(bytes(alloc, word)?)?;
-    }
-    Ok(all)
-}
-
 // Answers over that folder and those lines: the exit status.
 fn answer_over<R: Files + AllocGlobal + Clone + Drop>(
     alloc: Global,
@@ -93,9 +85,16 @@ fn answer_over<R: Files + AllocGlobal + Clone + Drop>(
 ) -> Result<u8, NoMemory>
     requires { lines_state lines.old ≡ new_lines }
 {
-    let named = named(alloc, &["answer"])?;
     let mut out = MemSink::new(alloc, Vec::new(alloc));
-    let (status, _) = run_call(alloc, named.as_slice(), folder, lines, 0, [0; 16], &mut out);
+    let (status, _) = run_call(
+        alloc,
+        SessionForm::Answer,
+        folder,
+        lines,
+        0,
+        [0; 16],
+        &mut out,
+    );
     Ok(status.number())
 }
 
@@ -106,22 +105,17 @@ fn answer_at(rt: HostRuntime, seen: &Seen, path: &str, pieces: &[&str]) -> Resul
     answer_over(rt.alloc(), folder, &mut lines)
 }
 
-// Runs a command without a session over that folder: the exit status.
-fn run_over<R: Files + AllocGlobal + Clone + Drop>(
-    alloc: Global,
-    folder: RealFolder<R>,
-    words: &[&str],
-) -> Result<u8, NoMemory> {
-    let named = named(alloc, words)?;
+// Takes the outbound in over that folder: the exit status.
+fn take_over<R: Files + AllocGlobal + Clone + Drop>(alloc: Global, folder: RealFolder<R>) -> u8 {
     let mut out = MemSink::new(alloc, Vec::new(alloc));
-    let (status, _) = run_still(alloc, named.as_slice(), folder, 0, &mut out);
-    Ok(status.number())
+    let (status, _) = run_still(alloc, StillForm::Take, folder, 0, &mut out);
+    status.number()
 }
 
 // The same over the folder of that path.
-fn run_at(rt: HostRuntime, seen: &Seen, path: &str, words: &[&str]) -> Result<u8, NoMemory> {
+fn take_at(rt: HostRuntime, seen: &Seen, path: &str) -> Result<u8, NoMemory> {
     let folder = RealFolder::new(Watched { rt, seen }, path)?;
-    run_over(rt.alloc(), folder, words)
+    Ok(take_over(rt.alloc(), folder))
 }
 
 // Prints the exit status of what was run, and the syncs that it asked for.
@@ -137,7 +131,7 @@ pub fn session(rt: HostRuntime, words: &[&str]) -> Result<bool> {
     let seen = Seen::of_syncs();
     let (name, exit) = match word(words, 0) {
         "answer" => ("answer", answer_at(rt, &seen, path, rest)?),
-        "run" => (word(rest, 0), run_at(rt, &seen, path, rest)?),
+        "run" => ("take", take_at(rt, &seen, path)?),
         _ => return Ok(false),
     };
     tell(rt, name, exit, &seen)?;

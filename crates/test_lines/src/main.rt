@@ -24,7 +24,8 @@
 //!                                        with what waits and finds nothing; `socket time` prints that alone, without the calls
 //! # Lines of the system
 //! lines pipes                            new ones, whose standard streams are pipes; with `lines files hello` they are a file of these
-//!                                        bytes and an empty one, and with `lines none` there are none
+//!                                        bytes and an empty one, and with `lines none` there are none. Where these listen they wait for
+//!                                        a caller for a second, and the others for five
 //! says hello                             the other end of the pipes says that; `ends`: it says no more
 //! hears                                  it reads a piece of what was written; `leaves`: it reads no more
 //! put stop                               makes an empty file, `folder stop` a folder; `show sent` prints a file

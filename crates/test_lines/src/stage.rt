@@ -15,7 +15,7 @@ use std::{fs, io};
 use test_script::{behind, number, word, words_from, words_of};
 
 /// After so many seconds a call has waited.
-const PATIENCE: u64 = 5;
+pub const PATIENCE: u64 = 5;
 
 #[derive(Drop)]
 pub struct Stage<'a, 't> {

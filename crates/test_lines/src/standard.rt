@@ -1,11 +1,13 @@
 //! Lines of the system whose standard streams are pipes, or files.
 use crate::front::Front;
 use crate::given::{Input, Output};
+use crate::stage::PATIENCE;
 use crate::wires::Source;
 use anyhow::{Context, Result};
 use real_edge::{SystemLines, standard_line};
 use std::fs::File;
 use std::io::{PipeReader, PipeWriter, Read, Write, pipe};
+use std::time::Duration;
 use std::{fs, io, str};
 
 /// The other ends of the pipes.
@@ -56,13 +58,13 @@ impl Peer {
 fn over<'a, 't>(front: Front<'a, 't>, input: Input, output: Output) -> io::Result<Source<'a, 't>> {
     let stop_file = String::from_str(front.rt.alloc(), "stop")?;
     let line = standard_line(&front, input, output)?;
-    Ok(SystemLines::new(front, Some(line), stop_file))
+    Ok(SystemLines::new(front, Some(line), stop_file, Duration::from_secs(PATIENCE)))
 }
 
-/// The lines without standard streams.
+/// The lines without standard streams, which wait for a caller for a second; the others do so for five.
 pub fn over_nothing<'a, 't>(front: Front<'a, 't>) -> io::Result<Source<'a, 't>> {
     let stop_file = String::from_str(front.rt.alloc(), "stop")?;
-    Ok(SystemLines::new(front, None, stop_file))
+    Ok(SystemLines::new(front, None, stop_file, Duration::from_secs(1)))
 }
 
 pub fn over_pipes<'a, 't>(front: Front<'a, 't>, peer: &mut Peer) -> io::Result<Source<'a, 't>> {

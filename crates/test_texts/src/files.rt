@@ -1,7 +1,7 @@
 //! Names, the words of a command, flow files and file requests.
 use crate::shown::{behind_bars, lists, or_none, quoted};
 use anyhow::Result;
-use command_words::{Form, read_form};
+use command_words::{Form, SessionForm, StillForm, read_form};
 use disk_model::Name;
 use file_request::{Share, answer_request};
 use flow_file::{FlowLine, read_flow};
@@ -34,13 +34,13 @@ pub fn own_name(alloc: Global, text: &[u8]) -> Result<String> {
 // A command, and the word behind it.
 fn parts<'a>(form: Form<'a>) -> (&'static str, &'a [u8]) {
     match form {
-        Form::Answer => ("answer", &[]),
-        Form::List => ("list", &[]),
-        Form::Take => ("take", &[]),
+        Form::Session(SessionForm::Answer) => ("answer", &[]),
+        Form::Session(SessionForm::Call(text)) => ("call", text.as_slice()),
+        Form::Still(StillForm::Lookup(text)) => ("lookup", text.as_slice()),
+        Form::Still(StillForm::Compile(path)) => ("compile", path.as_slice()),
+        Form::Still(StillForm::List) => ("list", &[]),
+        Form::Still(StillForm::Take) => ("take", &[]),
         Form::Serve => ("serve", &[]),
-        Form::Call(text) => ("call", text.as_slice()),
-        Form::Lookup(text) => ("lookup", text.as_slice()),
-        Form::Compile(path) => ("compile", path.as_slice()),
     }
 }
 

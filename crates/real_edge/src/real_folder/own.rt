@@ -13,7 +13,7 @@ use std::fs::{DirEntry, OpenFile};
 use std::rt::Files;
 use std::{fs, io};
 
-/// The file that was used last.
+/// A file that was used.
 #[derive(Drop)]
 pub struct Held<F> {
     name: Name,
@@ -25,7 +25,9 @@ pub struct Held<F> {
 pub struct Folder<R: Files> {
     pub(super) files: R,
     pub(super) paths: Paths,
+    // The file that was used last, and the one before it: a session that sends a file and takes one uses both in turn.
     held: Option<Held<R::File>>,
+    before: Option<Held<R::File>>,
     // A name was made or taken away, perhaps by a program that was stopped, and the folder wasn't synced
     // since.
     pub(super) has_new_names: bool,
@@ -38,6 +40,7 @@ impl<R: Files + Drop> Folder<R> {
             files,
             paths: Paths::new(alloc, path)?,
             held: None,
+            before: None,
             has_new_names: true,
             refusals: Refusals::new(),
         })
@@ -121,28 +124,35 @@ impl<R: Files + Drop> Folder<R> {
 
     /// Drops the handle of a file that will not be that one.
     pub(super) fn forget(&mut self, name: &Name) {
-        if let Some(held) = self.held.take()
-            && held.name != *name
-        {
-            self.held = Some(held);
+        let _ = self.taken(name);
+    }
+
+    // The handle of a file, where it is held, which it isn't any more then.
+    fn taken(&mut self, name: &Name) -> Option<Placed<R::File>> {
+        match take_named(&mut self.held, name) {
+            Some(opened) => Some(opened),
+            None => take_named(&mut self.before, name),
         }
     }
 
     pub(super) fn hold(&mut self, name: &Name, opened: Placed<R::File>) {
-        self.held = Some(Held {
+        let held = Held {
             name: *name,
             opened,
-        });
+        };
+        if let Some(last) = self.held.replace(held) {
+            self.before = Some(last);
+        }
     }
 
     // The file that is held, or else it is opened.
     fn open(&mut self, name: &Name) -> Answer<Placed<R::File>> {
-        match self.held.take() {
-            Some(held) if held.name == *name => Ok(held.opened),
-            _ => match open_own(&self.files, self.paths.own(name)?)? {
-                Some(file) => Ok(Placed::new(file, 0)),
-                None => Err(refused(SystemCall::Open, io::ErrorKind::NotFound)),
-            },
+        if let Some(opened) = self.taken(name) {
+            return Ok(opened);
+        }
+        match open_own(&self.files, self.paths.own(name)?)? {
+            Some(file) => Ok(Placed::new(file, 0)),
+            None => Err(refused(SystemCall::Open, io::ErrorKind::NotFound)),
         }
     }
 
@@ -172,6 +182,17 @@ impl<R: Files + AllocGlobal + Clone + Drop> Folder<R> {
         }
         names.sort()?;
         Ok(names)
+    }
+}
+
+// The handle in a place, where it is that of the file of this name.
+fn take_named<F: Drop>(place: &mut Option<Held<F>>, name: &Name) -> Option<Placed<F>> {
+    match place.take() {
+        Some(held) if held.name == *name => Some(held.opened),
+        other => {
+            *place = other;
+            None
+        }
     }
 }
 

@@ -15,6 +15,7 @@ returns-in-Ok-Made-clause-calls g c =
     rw c.free.ensures.told
     (Under_mark _ _ _ _
     (rw c.requires.path at rw c.requires.text at rw c.in-Ok-Made.field-0-is at c.in-Ok-Made.ensures.marks.1)
+    (c.in-Ok-Made.ensures.noted.0, (rw c.requires.path at rw c.requires.text at rw c.requires.own at c.in-Ok-Made.ensures.noted.1.stop))
     c.dial-outcome.ensures.dials
     (rw c.requires.path at rw c.requires.text at c.free.ensures.frees))
 
@@ -22,9 +23,11 @@ pub returns-in-Ok-Exists-clause-calls : goal.returns-in-Ok-Exists-clause-calls
 returns-in-Ok-Exists-clause-calls g c =
     Is_marked refl (ap S.Marked c.requires.name) refl _
     (rw c.requires.path at rw c.requires.text at rw c.in-Ok-Exists.field-0-is at c.in-Ok-Exists.ensures.marks.1)
+    (c.in-Ok-Exists.ensures.noted.0, (rw c.requires.path at rw c.requires.text at rw c.requires.own at c.in-Ok-Exists.ensures.noted.1.stop))
     (rw c.requires.path at rw c.in-Ok-Exists.field-0-is at c.in-Ok-Exists.ensures.told)
 
 pub returns-in-Err-clause-calls : goal.returns-in-Err-clause-calls
 returns-in-Err-clause-calls g c =
     Not_marked refl (ap S.DiskFault c.faults-faults.ensures) refl _ c.in-Err.field-0
     (rw c.requires.path at rw c.requires.text at c.in-Err.ensures.marks.1)
+    (c.in-Err.ensures.noted.0, (rw c.requires.path at rw c.requires.text at rw c.requires.own at c.in-Err.ensures.noted.1.stop))

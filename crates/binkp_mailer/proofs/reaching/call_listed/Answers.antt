@@ -15,7 +15,7 @@ pub returns-in-Ok-Some : goal.returns-in-Ok-Some
 returns-in-Ok-Some g c = c.call_host.ensures
 
 pub returns-in-Ok-None : goal.returns-in-Ok-None
-returns-in-Ok-None g c = λ words are. c.refuse_node.ensures words _ _ _ are
+returns-in-Ok-None g c = λ command are. c.refuse_node.ensures command _ _ _ are
 
 pub returns-in-Err : goal.returns-in-Err
-returns-in-Err g c = λ words are. No_call (conf_text c.args.conf.now) c.requires.settings refl (inr refl) (no_read g.D.Disk.tells g.D.Disk.content g.D.Disk.fault_count g.D.Disk.moment g.D.Disk.images c.args.disk) refl
+returns-in-Err g c = λ command are. No_call (conf_text c.args.conf.now) c.requires.settings refl (inr refl) (no_read g.D.Disk.tells g.D.Disk.content g.D.Disk.fault_count g.D.Disk.moment g.D.Disk.images c.args.disk) refl

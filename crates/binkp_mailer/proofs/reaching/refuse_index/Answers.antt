@@ -7,13 +7,13 @@ use Rattle.binkp_mailer.specs.DiskCall.{Bad_index, Not_opened}
 use Rattle.binkp_mailer.proofs.reaching.refuse_index.Goals as goal
 
 pub returns-in-Ok : goal.returns-in-Ok
-returns-in-Ok g c = λ words challenge now lines are.
+returns-in-Ok g c = λ command challenge now lines are.
     Bad_index (conf_text c.args.conf.now) c.requires.settings (address c.args.peer) are c.requires.unset c.requires.bad c.in-Ok.store
     (record { memory = c.in-Ok.ensures.memory; told = c.in-Ok.ensures.told; stop = c.in-Ok.ensures.stop; read = c.in-Ok.ensures.read; aside_stop = c.in-Ok.ensures.aside_stop; aside_read = c.in-Ok.ensures.aside_read; calm = c.in-Ok.ensures.calm })
     refl refl refl c.into_disk.ensures
 
 pub returns : goal.returns
-returns g c = λ words challenge now lines are.
+returns g c = λ command challenge now lines are.
     Not_opened (conf_text c.args.conf.now) c.requires.settings (Calls (address c.args.peer)) are
     c.in-Err.fault refl (ap (status_unopened c.in-Err.fault) c.faults-faults.ensures) refl
     (record { why = c.in-Err.ensures.refused; failed = c.in-Err.ensures.failed; stop = c.in-Err.ensures.stop; read = c.in-Err.ensures.read; aside_stop = c.in-Err.ensures.aside_stop; aside_read = c.in-Err.ensures.aside_read })

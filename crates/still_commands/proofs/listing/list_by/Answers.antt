@@ -1,17 +1,17 @@
-use Rattle.std.proofs.Common.{rules}
+use Rattle.std.proofs.Common.{refl, rules}
 use Rattle.mail_conf.specs.ConfView.{conf_text}
 use Rattle.still_commands.specs.Still.{Listed, Not_opened, To_list}
 use Rattle.still_commands.proofs.Before.{left_so}
 use Rattle.still_commands.proofs.listing.list_by.Goals as goal
 
 pub returns-in-Ok : goal.returns-in-Ok
-returns-in-Ok g c = λ words form.
-    Listed (conf_text c.args.conf.now) c.requires.settings form c.in-Ok.store
+returns-in-Ok g c =
+    Listed (conf_text c.args.conf.now) c.requires.settings refl c.in-Ok.store
     (record { memory = c.in-Ok.ensures.memory; told = c.in-Ok.ensures.told; stop = c.in-Ok.ensures.stop; read = c.in-Ok.ensures.read; aside_stop = c.in-Ok.ensures.aside_stop; aside_read = c.in-Ok.ensures.aside_read; calm = c.in-Ok.ensures.calm })
     c.into_disk.ensures (search rules)
 
 pub returns-in-Err : goal.returns-in-Err
-returns-in-Err g c = λ words form.
-    left_so g.D.Disk.files g.D.Disk.tells g.D.Disk.content g.D.Disk.fault_count g.D.Disk.moment g.D.Disk.images words c.args.disk c.in-Err.disk c.unopened.result.1 _ c.unopened.ensures.disk
-    (Not_opened (conf_text c.args.conf.now) c.requires.settings (To_list form) c.in-Err.fault c.unopened.ensures.told
+returns-in-Err g c =
+    left_so g.D.Disk.files g.D.Disk.tells g.D.Disk.content g.D.Disk.fault_count g.D.Disk.moment g.D.Disk.images _ c.args.disk c.in-Err.disk c.unopened.result.1 _ c.unopened.ensures.disk
+    (Not_opened (conf_text c.args.conf.now) c.requires.settings (To_list refl) c.in-Err.fault c.unopened.ensures.told
     (record { why = c.in-Err.ensures.refused; failed = c.in-Err.ensures.failed; stop = c.in-Err.ensures.stop; read = c.in-Err.ensures.read; aside_stop = c.in-Err.ensures.aside_stop; aside_read = c.in-Err.ensures.aside_read }))

@@ -1,3 +1,4 @@
+use Rattle.std.proofs.Common.{refl}
 use Rattle.ftn_addr.specs.Address.{address}
 use Rattle.mail_conf.specs.ConfView.{conf_text}
 use Rattle.still_commands.specs.Still.{Looked_up, Not_opened, To_look_up}
@@ -5,13 +6,13 @@ use Rattle.still_commands.proofs.Before.{left_so}
 use Rattle.still_commands.proofs.looking.look_opened.Goals as goal
 
 pub returns-in-Ok : goal.returns-in-Ok
-returns-in-Ok g c = λ words text form reads.
-    Looked_up (conf_text c.args.conf.now) c.requires.settings text (address c.args.addr.now) form reads c.in-Ok.store
+returns-in-Ok g c = λ text reads.
+    Looked_up (conf_text c.args.conf.now) c.requires.settings text (address c.args.addr.now) refl reads c.in-Ok.store
     (record { memory = c.in-Ok.ensures.memory; told = c.in-Ok.ensures.told; stop = c.in-Ok.ensures.stop; read = c.in-Ok.ensures.read; aside_stop = c.in-Ok.ensures.aside_stop; aside_read = c.in-Ok.ensures.aside_read; calm = c.in-Ok.ensures.calm })
     c.into_disk.ensures c.args.index c.requires.index c.look.ensures
 
 pub returns-in-Err : goal.returns-in-Err
-returns-in-Err g c = λ words text form reads.
-    left_so g.D.Disk.files g.D.Disk.tells g.D.Disk.content g.D.Disk.fault_count g.D.Disk.moment g.D.Disk.images words c.args.disk c.in-Err.disk c.unopened.result.1 _ c.unopened.ensures.disk
-    (Not_opened (conf_text c.args.conf.now) c.requires.settings (To_look_up text (address c.args.addr.now) form reads) c.in-Err.fault c.unopened.ensures.told
+returns-in-Err g c = λ text reads.
+    left_so g.D.Disk.files g.D.Disk.tells g.D.Disk.content g.D.Disk.fault_count g.D.Disk.moment g.D.Disk.images _ c.args.disk c.in-Err.disk c.unopened.result.1 _ c.unopened.ensures.disk
+    (Not_opened (conf_text c.args.conf.now) c.requires.settings (To_look_up text (address c.args.addr.now) refl reads) c.in-Err.fault c.unopened.ensures.told
     (record { why = c.in-Err.ensures.refused; failed = c.in-Err.ensures.failed; stop = c.in-Err.ensures.stop; read = c.in-Err.ensures.read; aside_stop = c.in-Err.ensures.aside_stop; aside_read = c.in-Err.ensures.aside_read }))

@@ -1,3 +1,4 @@
+use Rattle.std.proofs.Common.{refl}
 use Rattle.mail_conf.specs.ConfView.{conf_text}
 use Rattle.still_commands.specs.Still.{Before_takes, Not_opened, Taken_in, To_take}
 use Rattle.still_commands.proofs.Before.{left_so}
@@ -8,14 +9,14 @@ pub take_opened-requires-clause-whole : goal.take_opened-requires-clause-whole
 take_opened-requires-clause-whole g c = new_whole g.D.Disk.files g.D.Disk.tells g.D.Disk.content g.D.Disk.fault_count g.D.Disk.moment g.D.Disk.images _ c.in-Ok.ensures.memory
 
 pub returns-in-Ok : goal.returns-in-Ok
-returns-in-Ok g c = λ words form.
-    Taken_in (conf_text c.args.conf.now) c.requires.settings form c.in-Ok.store
+returns-in-Ok g c =
+    Taken_in (conf_text c.args.conf.now) c.requires.settings refl c.in-Ok.store
     (record { memory = c.in-Ok.ensures.memory; told = c.in-Ok.ensures.told; stop = c.in-Ok.ensures.stop; read = c.in-Ok.ensures.read; aside_stop = c.in-Ok.ensures.aside_stop; aside_read = c.in-Ok.ensures.aside_read; calm = c.in-Ok.ensures.calm })
     c.take_opened.ensures
 
 pub returns-in-Err : goal.returns-in-Err
-returns-in-Err g c = λ words form.
+returns-in-Err g c =
     Before_takes
-    (left_so g.D.Disk.files g.D.Disk.tells g.D.Disk.content g.D.Disk.fault_count g.D.Disk.moment g.D.Disk.images words c.args.disk c.in-Err.disk c.unopened.result.1 _ c.unopened.ensures.disk
-    (Not_opened (conf_text c.args.conf.now) c.requires.settings (To_take form) c.in-Err.fault c.unopened.ensures.told
+    (left_so g.D.Disk.files g.D.Disk.tells g.D.Disk.content g.D.Disk.fault_count g.D.Disk.moment g.D.Disk.images _ c.args.disk c.in-Err.disk c.unopened.result.1 _ c.unopened.ensures.disk
+    (Not_opened (conf_text c.args.conf.now) c.requires.settings (To_take refl) c.in-Err.fault c.unopened.ensures.told
     (record { why = c.in-Err.ensures.refused; failed = c.in-Err.ensures.failed; stop = c.in-Err.ensures.stop; read = c.in-Err.ensures.read; aside_stop = c.in-Err.ensures.aside_stop; aside_read = c.in-Err.ensures.aside_read })))
