@@ -264,6 +264,21 @@ def difference(result, given, told, status):
     return "; ".join(faults)
 
 
+def frames(written):
+    """Frames that were written, one by one."""
+    while written:
+        end = 2 + (int.from_bytes(written[:2], "big") & 0x7FFF)
+        yield written[:end]
+        written = written[end:]
+
+
+def with_end_anywhere(login, given):
+    """What may be written in place of that where the peer's bytes come one at a time. A node that has nothing to send says M_EOB as soon as
+    none of them waits, so its place behind the login is open; and where the peer breaks the session off, whether it came to that."""
+    said = [frame for frame in frames(given[len(login) :]) if frame != END]
+    return {given} | {login + b"".join(said[:at] + [END] + said[at:]) for at in range(len(said) + 1)}
+
+
 def ended(status, line, reason=b""):
     """What stands on standard error where no session was held."""
     return b"status %d %s\n%s" % (status, line, reason)
