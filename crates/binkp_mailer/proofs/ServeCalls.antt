@@ -1,16 +1,13 @@
 -- What `serve` over a disk says of the disk: the cause of its status, and what was received.
-use Rattle.std.proofs.Common.{◌≡◌, ◌⊎◌, ◌∙◌, ℕ, ◌≤◌, ◌<◌, Bool, true, false, List, Option, Some, None, Ok, option_map, refl, sym, ap, subst, inl, inr, ⊎_elim}
+use Rattle.std.proofs.Common.{◌≡◌, ◌⊎◌, ◌∙◌, ℕ, ◌≤◌, ◌<◌, Bool, true, false, List, Option, Some, None, Ok, refl, sym, ap, subst, inr, ⊎_elim}
 use Rattle.std.specs.Prelude.{if◌then◌else◌, ◌==◌}
 use Rattle.std.proofs.lemmas.Bool.{cases_lt}
 use Rattle.ftn_addr.specs.Address.{Address}
 use Rattle.ftn_addr.specs.Counts.{CountGrew, Increased}
-use Rattle.disk_model.specs.Changes.{Every}
-use Rattle.disk_model.specs.Moments.{Now}
 use Rattle.disk_model.specs.World.{World}
 use Rattle.binkp_link.specs.Lines.{SinkState}
 use Rattle.binkp_link.specs.LineSources.{LinesState, listening}
 use Rattle.binkp_serve.specs.Rests.{IsAtRest, Rest, StaysReceived, StillTold}
-use Rattle.binkp_serve.specs.Serving.{Serves, at_start}
 use Rattle.binkp_serve.specs.declared.words.ServeEnd.{ServeEnd}
 use Rattle.binkp_serve.specs.declared.words.ServeEnd.TheVariants as E
 use Rattle.binkp_serve.proofs.Ending.{disk_rose}
@@ -27,7 +24,7 @@ use Rattle.node_store.specs.declared.opening.fault.StoreOpenFault.{StoreOpenFaul
 use Rattle.nodelist_comp.specs.Node.{ListedNode}
 use Rattle.nodelist_files.specs.Files.{index_name}
 use Rattle.nodelist_files.specs.IndexFile.{index_at}
-use Rattle.outbound_desk.specs.Lines.{IsReadyAlone}
+use Rattle.outbound_desk.specs.Lines.{IsDeskReady}
 use Rattle.command_base.specs.Causes.{DiskCause, IsBadIndex}
 use Rattle.command_base.specs.Opening.{HasOpened, HasRefused}
 use Rattle.command_base.specs.Settings.{OnlyRead}
@@ -35,7 +32,7 @@ use Rattle.command_base.specs.Statuses as S
 use Rattle.command_base.specs.Statuses.{Status, status_unopened}
 use Rattle.command_base.proofs.Causes.{had_no_memory, refused_so, unindexed_so, unset_so}
 use Rattle.command_base.proofs.ReadOnly.{no_index_before, opened_before, refused_before, settings_before, then_read, unset_before}
-use Rattle.binkp_mailer.specs.DiskCall.{KeepsReceipts, OpensTo, ReadsIndex}
+use Rattle.binkp_mailer.specs.DiskCall.{KeepsReceipts, ReadsIndex}
 use Rattle.binkp_mailer.specs.ServeCall.{Bad_index, Is_served, Is_unheard, No_index, No_room, Not_opened, Not_set, Over_serve, Served_so, ServesAt, status_served, status_told}
 use Rattle.binkp_mailer.specs.TopCall.{new_hub}
 use Rattle.binkp_mailer.proofs.DiskCalls.{HasSince, leaves_still, opened_since, opened_still, read_still, since_still, then_opens, told_is, St}
@@ -159,7 +156,7 @@ module _ {D : Type 0} (tells : Bool) (content : D → World) (faults : D → ℕ
   new_free : (conf : ConfText) (h : HubState) (seat : ℕ) → h ≡ new_hub conf → seat ≡ 0 → (seat_part h seat).open_now ≡ false
   new_free conf h seat hub_is seat_is = ap (λ (x : HubState). (seat_part x seat).open_now) hub_is ∙ ap (λ (k : ℕ). (seat_part (new_hub conf) k).open_now) seat_is
 
-  pub new_rest : (conf : ConfText) (home : Address) (store : Holding D) (h : HubState) (seat : ℕ) → h ≡ new_hub conf → seat ≡ 0 → IsReadyAlone (St tells content faults moment images store) h seat home
+  pub new_rest : (conf : ConfText) (home : Address) (store : Holding D) (h : HubState) (seat : ℕ) → h ≡ new_hub conf → seat ≡ 0 → IsDeskReady (St tells content faults moment images store) h seat home
       → IsAtRest tells content faults moment images home (record { store = store; hub = h; seat = seat })
   new_rest conf home store h seat hub_is seat_is ready = record { ready = ready; free = λ _. new_free conf h seat hub_is seat_is }
 

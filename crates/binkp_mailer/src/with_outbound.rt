@@ -8,7 +8,7 @@ ghost use Rattle.node_model.specs.Receipts.{HasOnce, SettledStays};
 ghost use Rattle.node_store.specs.Stored.{stand_of};
 ghost use Rattle.hub_core.specs.Hubs.{hub_state};
 ghost use Rattle.hub_core.specs.Opening.{IsWhole, no_seats};
-ghost use Rattle.outbound_desk.specs.Lines.{IsReadyAlone};
+ghost use Rattle.outbound_desk.specs.Lines.{IsDeskReady};
 ghost use Rattle.session_auth.specs.Sides.{side_of};
 ghost use Rattle.session_core.specs.Stages.{home_of};
 ghost use Rattle.binkp_mailer.specs.Reports.{FailedIsBroken, had_of, told_of};
@@ -50,7 +50,7 @@ pub(crate) fn desk_over<D: Yard>(
     ensures store { IfOk result (λ desk. desk.desk.hub.store.store ≡ store) }
     ensures hub { IfOk result (λ desk. hub_state desk.desk.hub.seats ≡ new_hub (conf_text conf.now)) }
     ensures seat { IfOk result (λ desk. desk.desk.seat ≡ 0) }
-    ensures ready { IfOk result (λ desk. IsReadyAlone (stand_of D.tells D.content D.fault_count D.moment D.images desk.desk.hub.store.store) (hub_state desk.desk.hub.seats) desk.desk.seat (address desk.outbound.home)) }
+    ensures ready { IfOk result (λ desk. IsDeskReady (stand_of D.tells D.content D.fault_count D.moment D.images desk.desk.hub.store.store) (hub_state desk.desk.hub.seats) desk.desk.seat (address desk.outbound.home)) }
     ensures err { IfErr result (λ left. left ≡ store) }
 {
     let hub_conf = match hub_conf(alloc, conf) {

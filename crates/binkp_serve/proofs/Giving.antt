@@ -1,9 +1,11 @@
--- A round of giving at a hub without sessions: its rows, and that the hub still fits its store.
+-- A round of giving at a hub whose sessions look anew: its rows, and that the hub still fits its store.
 use Rattle.std.proofs.Common.{◌≡◌, ◌≢◌, ◌⊎◌, inl, inr, ℕ, ◌+◌, ◌==◌, arith, Bool, true, false, if◌then◌else◌, List, [], ◌∷◌, map, length, Option, Some, None, Result, refl, sym, ◌∙◌, ap, subst}
 use Rattle.std.proofs.lemmas.List.{append-nil}
+use Rattle.hub_core.specs.Anew.{LooksAnew}
 use Rattle.hub_core.specs.HubCalls.{ShelfPasses}
 use Rattle.hub_core.specs.Hubs.{Fitted, HubFits, HubState, IsSettled, knows_over, node_with}
 use Rattle.hub_core.specs.Steps.{Broke, Stays}
+use Rattle.hub_core.proofs.Anew.{sitting_on}
 use Rattle.hub_core.proofs.Breaking.{broken_known, same_but}
 use Rattle.hub_core.proofs.Keeping.{counts_over}
 use Rattle.hub_core.proofs.Stepping.{passes_by, stepped_fitted, stepped_known}
@@ -26,9 +28,8 @@ use Rattle.node_model.specs.declared.store.StoreFault.{StoreFault}
 use Rattle.node_model.specs.declared.store.StoreFault.TheVariants as SF
 use Rattle.node_model.proofs.Changes.{given_flags}
 use Rattle.node_model.proofs.StockMaps.{map-map_as, on_state-map}
-use Rattle.outbound_desk.specs.TakenIn.{NoSittings}
 use Rattle.outbound_desk.proofs.Joining.{told_by}
-use Rattle.outbound_desk.proofs.OneRow.{Change, IsPlain, option_same, option_twice, step_made, stepped}
+use Rattle.outbound_desk.proofs.OneRow.{Change, IsPlain, option_same, option_twice, stays_anew, step_made, stepped}
 use Rattle.binkp_serve.specs.GiveSteps.{answer_of}
 use Rattle.binkp_serve.proofs.GiveSteps.{next_with, there_with}
 use Rattle.binkp_serve.proofs.Reaching.{Rows, rows_then}
@@ -60,11 +61,12 @@ given_change h s a gift time f = record {
   content = option_twice (gift_made gift time) (stored_after (on_state (with_given gift.receipt)) s.seat []) s.content;
   stock = ap (on_state (with_given gift.receipt)) f.stock ∙ sym (sizes_given gift.receipt a);
   parts = λ p there. let fit = f.parts p there in record { marks = fit.marks; receipts = still_apart gift.receipt p.number a.stock.state.inbox fit.receipts };
+  sittings = λ x fresh fits. sitting_on s (given gift time s) x fresh refl (λ e there. (e, there, refl, refl)) fits;
   seat = refl;
 }
 
 held_change : (h : HubState) (s : StoreState) (a : Stored) (number : ℕ) → HubFits a s h → Change h s a (record s { last_given = number })
-held_change h s a number f = record { change = λ x. x; content = sym (option_same s.content); stock = f.stock; parts = f.parts; seat = refl }
+held_change h s a number f = record { change = λ x. x; content = sym (option_same s.content); stock = f.stock; parts = f.parts; sittings = λ x fresh fits. sitting_on s (record s { last_given = number }) x fresh refl (λ e there. (e, there, refl, refl)) fits; seat = refl }
 
 given_node : (h : HubState) (s : StoreState) (a : Stored) (number : ℕ) (gift : Gift) (time : ℕ) → gift.receipt ≡ number
     → node_with (gift_made gift time (stored_after (on_state (with_given gift.receipt)) s.seat [] a)) (given gift time s) h ≡ record (node_with a s h) { state = with_given number a.stock.state; last_given = number }
@@ -84,52 +86,52 @@ record GaveSo (h : HubState) (answer : Answer) (s t : StoreState) : Type 0 where
   step : KnownStep s.seat (knows_over s.content s h s.seat) Give_call answer (knows_over t.content t h s.seat)
   seat : t.seat ≡ s.seat
 
-gave_row : (h : HubState) (answer : Answer) (s t : StoreState) (f : Fitted s h) (change : Change h s f.keeps t) → NoSittings h → s.counts.broken ≡ None → t.counts.broken ≡ None → IsMade answer → IsPlain answer → Made s.seat (node_with f.keeps s h) Give_call answer (node_with (change.change f.keeps) t h) → GaveSo h answer s t
-gave_row h answer s t f change none whole still made plain does =
-    let x = stepped h Give_call answer s f.keeps t change none plain still f.fits.sound (step_made s.seat (node_with f.keeps s h) Give_call answer (node_with (change.change f.keeps) t h) made whole does) in
+gave_row : (h : HubState) (answer : Answer) (s t : StoreState) (f : Fitted s h) (change : Change h s f.keeps t) → LooksAnew h → s.counts.broken ≡ None → t.counts.broken ≡ None → IsMade answer → IsPlain answer → Made s.seat (node_with f.keeps s h) Give_call answer (node_with (change.change f.keeps) t h) → GaveSo h answer s t
+gave_row h answer s t f change anew whole still made plain does =
+    let x = stepped h Give_call answer s f.keeps t change (stays_anew h s f.keeps t change anew) plain still f.fits (step_made s.seat (node_with f.keeps s h) Give_call answer (node_with (change.change f.keeps) t h) made whole does) in
     record { fitted = stepped_fitted s.seat Give_call answer s h f t h x; step = stepped_known s.seat Give_call answer s h f t h x; seat = change.seat }
 
-given_fits : (h : HubState) (inbound nonsecure : List ℕ) (number : ℕ) (s t : StoreState) → NoSittings h → s.counts.broken ≡ None → Fitted s h → GivesNext inbound nonsecure number s t → GaveSo h (C.Given number) s t
+given_fits : (h : HubState) (inbound nonsecure : List ℕ) (number : ℕ) (s t : StoreState) → LooksAnew h → s.counts.broken ≡ None → Fitted s h → GivesNext inbound nonsecure number s t → GaveSo h (C.Given number) s t
 unfolding given_change
-given_fits h inbound nonsecure number s t none whole f does =
+given_fits h inbound nonsecure number s t anew whole f does =
     subst (λ (x : StoreState). GaveSo h (C.Given number) s x) (sym does.after)
-    (gave_row h (C.Given number) s (given does.gift does.time s) f (given_change h s f.keeps does.gift does.time f.fits) none whole whole tt tt
+    (gave_row h (C.Given number) s (given does.gift does.time s) f (given_change h s f.keeps does.gift does.time f.fits) anew whole whole tt tt
     (record { next = next_kept h s f.keeps number f.fits does.next; after = given_node h s f.keeps number does.gift does.time does.receipt }))
 
-held_fits : (h : HubState) (inbound nonsecure : List ℕ) (number : ℕ) (s t : StoreState) → NoSittings h → s.counts.broken ≡ None → Fitted s h → HoldsNext inbound nonsecure number s t → GaveSo h (C.Held number) s t
+held_fits : (h : HubState) (inbound nonsecure : List ℕ) (number : ℕ) (s t : StoreState) → LooksAnew h → s.counts.broken ≡ None → Fitted s h → HoldsNext inbound nonsecure number s t → GaveSo h (C.Held number) s t
 unfolding held_change
-held_fits h inbound nonsecure number s t none whole f does =
+held_fits h inbound nonsecure number s t anew whole f does =
     subst (λ (x : StoreState). GaveSo h (C.Held number) s x) (sym does.after)
-    (gave_row h (C.Held number) s (record s { last_given = number }) f (held_change h s f.keeps number f.fits) none whole whole tt tt (record { next = next_kept h s f.keeps number f.fits does.next; after = refl }))
+    (gave_row h (C.Held number) s (record s { last_given = number }) f (held_change h s f.keeps number f.fits) anew whole whole tt tt (record { next = next_kept h s f.keeps number f.fits does.next; after = refl }))
 
-none_fits : (h : HubState) (s t : StoreState) → NoSittings h → s.counts.broken ≡ None → Fitted s h → ((r : ReceiptOf ℕ) → Member r s.stock.state.inbox → may_go r ≡ true → ⊥) → t ≡ s → GaveSo h C.Nothing s t
-none_fits h s t none whole f left is =
+none_fits : (h : HubState) (s t : StoreState) → LooksAnew h → s.counts.broken ≡ None → Fitted s h → ((r : ReceiptOf ℕ) → Member r s.stock.state.inbox → may_go r ≡ true → ⊥) → t ≡ s → GaveSo h C.Nothing s t
+none_fits h s t anew whole f left is =
     subst (λ (x : StoreState). GaveSo h C.Nothing s x) (sym is)
-    (gave_row h C.Nothing s s f (record { change = λ x. x; content = sym (option_same s.content); stock = f.fits.stock; parts = f.fits.parts; seat = refl }) none whole whole tt tt
+    (gave_row h C.Nothing s s f (record { change = λ x. x; content = sym (option_same s.content); stock = f.fits.stock; parts = f.fits.parts; sittings = λ x fresh fits. fits; seat = refl }) anew whole whole tt tt
     (record {
       none = λ r there may. left (receipt_map length r) (subst (λ (x : Sizes). Member (receipt_map length r) x.state.inbox) (sym f.fits.stock) (there_with (receipt_map length) f.keeps.stock.state.inbox r there)) may;
       after = refl;
     }))
 
-gave_fits : (h : HubState) (inbound nonsecure : List ℕ) (s t : StoreState) (gave : Gave) → NoSittings h → s.counts.broken ≡ None → Fitted s h → StoreDoes s (Give_next inbound nonsecure) (Gave_so gave) t → GaveSo h (answer_of gave) s t
-gave_fits h inbound nonsecure s t (Given number) none whole f does = given_fits h inbound nonsecure number s t none whole f does
-gave_fits h inbound nonsecure s t (Held number) none whole f does = held_fits h inbound nonsecure number s t none whole f does
-gave_fits h inbound nonsecure s t Nothing none whole f does = none_fits h s t none whole f does.0 does.1
+gave_fits : (h : HubState) (inbound nonsecure : List ℕ) (s t : StoreState) (gave : Gave) → LooksAnew h → s.counts.broken ≡ None → Fitted s h → StoreDoes s (Give_next inbound nonsecure) (Gave_so gave) t → GaveSo h (answer_of gave) s t
+gave_fits h inbound nonsecure s t (Given number) anew whole f does = given_fits h inbound nonsecure number s t anew whole f does
+gave_fits h inbound nonsecure s t (Held number) anew whole f does = held_fits h inbound nonsecure number s t anew whole f does
+gave_fits h inbound nonsecure s t Nothing anew whole f does = none_fits h s t anew whole f does.0 does.1
 
 -- A call at which the disk failed.
 
-gives_pass : (h : HubState) (inbound nonsecure : List ℕ) (s : StoreState) (d : Shelf) → NoSittings h → s.counts.broken ≡ None → (f : Fitted s h) → StorePasses s (Give_next inbound nonsecure) d → ShelfPasses s.content s h s.seat Give_call d
+gives_pass : (h : HubState) (inbound nonsecure : List ℕ) (s : StoreState) (d : Shelf) → LooksAnew h → s.counts.broken ≡ None → (f : Fitted s h) → StorePasses s (Give_next inbound nonsecure) d → ShelfPasses s.content s h s.seat Give_call d
 unfolding given_change
-gives_pass h inbound nonsecure s d none whole f (Before_it is) = before_passes s.content s h s.seat Give_call d is
-gives_pass h inbound nonsecure s d none whole f (Source_first first) = absurd first
-gives_pass h inbound nonsecure s d none whole f (After_it (Gave_so (Given number)) t does is) =
+gives_pass h inbound nonsecure s d anew whole f (Before_it is) = before_passes s.content s h s.seat Give_call d is
+gives_pass h inbound nonsecure s d anew whole f (Source_first first) = absurd first
+gives_pass h inbound nonsecure s d anew whole f (After_it (Gave_so (Given number)) t does is) =
     let change = given_change h s f.keeps does.gift does.time f.fits in
     passes_by s.content change.change s h s.seat Give_call f.keeps d f.tells
     (C.After_it whole (C.Given number) (node_with (change.change f.keeps) (given does.gift does.time s) h) (record { next = next_kept h s f.keeps number f.fits does.next; after = given_node h s f.keeps number does.gift does.time does.receipt }) refl)
     (subst (λ (c : Option Stored). IsShelf c d) (ap (λ (x : StoreState). x.content) does.after ∙ change.content) is)
-gives_pass h inbound nonsecure s d none whole f (After_it (Gave_so (Held number)) t does is) = before_passes s.content s h s.seat Give_call d (subst (λ (x : StoreState). IsShelf x.content d) does.after is)
-gives_pass h inbound nonsecure s d none whole f (After_it (Gave_so Nothing) t does is) = before_passes s.content s h s.seat Give_call d (subst (λ (x : StoreState). IsShelf x.content d) does.1 is)
-gives_pass h inbound nonsecure s d none whole f (After_it answer t does is) = absurd does
+gives_pass h inbound nonsecure s d anew whole f (After_it (Gave_so (Held number)) t does is) = before_passes s.content s h s.seat Give_call d (subst (λ (x : StoreState). IsShelf x.content d) does.after is)
+gives_pass h inbound nonsecure s d anew whole f (After_it (Gave_so Nothing) t does is) = before_passes s.content s h s.seat Give_call d (subst (λ (x : StoreState). IsShelf x.content d) does.1 is)
+gives_pass h inbound nonsecure s d anew whole f (After_it answer t does is) = absurd does
 
 broke_so : (inbound nonsecure : List ℕ) (s t : StoreState) → BreaksStore (Give_next inbound nonsecure) s t → Broke (StorePasses s (Give_next inbound nonsecure)) (λ p. false) s t
 broke_so inbound nonsecure s t broke = record { rose = broke.rose; counts = broke.counts; content = go s.content t.content broke.content; seat = broke.seat }
@@ -175,10 +177,10 @@ gave_made (Given number) = tt
 gave_made (Held number) = tt
 gave_made Nothing = tt
 
-gave_goes : (h : HubState) (seat : ℕ) (base : Knows) (inbound nonsecure : List ℕ) (old new : StoreStand) (gave : Gave) → NoSittings h → Goes h seat base old → StoreKept old (Give_next inbound nonsecure) (Gave_so gave) new → Goes h seat base new
-gave_goes h seat base inbound nonsecure old new gave none g kept =
+gave_goes : (h : HubState) (seat : ℕ) (base : Knows) (inbound nonsecure : List ℕ) (old new : StoreStand) (gave : Gave) → LooksAnew h → Goes h seat base old → StoreKept old (Give_next inbound nonsecure) (Gave_so gave) new → Goes h seat base new
+gave_goes h seat base inbound nonsecure old new gave anew g kept =
     let whole = still_whole inbound nonsecure old.state new.state gave kept.made g.whole in
-    let x = gave_fits h inbound nonsecure old.state new.state gave none g.whole g.fitted kept.made in
+    let x = gave_fits h inbound nonsecure old.state new.state gave anew g.whole g.fitted kept.made in
     let same = gave_counts inbound nonsecure old.state new.state gave kept.made in
     record {
       whole = whole;
@@ -188,10 +190,10 @@ gave_goes h seat base inbound nonsecure old new gave none g kept =
       rows = rows_then seat base (told_by h seat old) (told_by h seat new) g.rows (one_row h seat (answer_of gave) old new g.turn (caused_so h seat (answer_of gave) old.state new.state (gave_made gave) g.whole same) x.step);
     }
 
-deals_go : {S : Type 0} (stand : S → StoreStand) (h : HubState) (seat : ℕ) (base : Knows) (inbound nonsecure : List ℕ) (old : S) (n : ℕ) (new : S) → NoSittings h → Goes h seat base (stand old) → Deals_with stand inbound nonsecure old n new → Goes h seat base (stand new)
-deals_go stand h seat base inbound nonsecure old _ _ none g None_yet = g
-deals_go stand h seat base inbound nonsecure old _ new none g (One_more {n} {mid} deals gave dealt kept) =
-    gave_goes h seat base inbound nonsecure (stand mid) (stand new) gave none (deals_go stand h seat base inbound nonsecure old n mid none g deals) kept
+deals_go : {S : Type 0} (stand : S → StoreStand) (h : HubState) (seat : ℕ) (base : Knows) (inbound nonsecure : List ℕ) (old : S) (n : ℕ) (new : S) → LooksAnew h → Goes h seat base (stand old) → Deals_with stand inbound nonsecure old n new → Goes h seat base (stand new)
+deals_go stand h seat base inbound nonsecure old _ _ anew g None_yet = g
+deals_go stand h seat base inbound nonsecure old _ new anew g (One_more {n} {mid} deals gave dealt kept) =
+    gave_goes h seat base inbound nonsecure (stand mid) (stand new) gave anew (deals_go stand h seat base inbound nonsecure old n mid anew g deals) kept
 
 -- what is known behind a round
 pub record RoundGoes (h : HubState) (seat : ℕ) (base : Knows) (w : StoreStand) : Type 0 where
@@ -205,8 +207,8 @@ round_so h seat base w g = record { fitted = λ _. g.fitted; settled = λ _. g.s
 broken_now : {X : Type 0} (b : Option ℕ) (n : ℕ) → b ≡ Some n → b ≡ None → X
 broken_now b n some none = absurd (cc)
 
-refused_goes : (h : HubState) (seat : ℕ) (base : Knows) (inbound nonsecure : List ℕ) (old new : StoreStand) (fault : StoreFault) → NoSittings h → Goes h seat base old → StoreKept old (Give_next inbound nonsecure) (Refuses fault) new → RoundGoes h seat base new
-refused_goes h seat base inbound nonsecure old new SF.Disk none g kept =
+refused_goes : (h : HubState) (seat : ℕ) (base : Knows) (inbound nonsecure : List ℕ) (old new : StoreStand) (fault : StoreFault) → LooksAnew h → Goes h seat base old → StoreKept old (Give_next inbound nonsecure) (Refuses fault) new → RoundGoes h seat base new
+refused_goes h seat base inbound nonsecure old new SF.Disk anew g kept =
     let s = old.state in
     let t = new.state in
     let broken : t.counts.broken ≡ Some t.counts.faults = ap (λ (c : Counts). c.broken) kept.made.counts in
@@ -219,25 +221,25 @@ refused_goes h seat base inbound nonsecure old new SF.Disk none g kept =
           rows_then seat base (told_by h seat old) (told_by h seat new) g.rows
           (one_row h seat fails old new g.turn
           (subst (λ (c : Counts). Caused c Give_call fails (counts_of (told_by h seat new))) (sym (counts_over s.content s h seat)) (subst (λ (c : Counts). Caused s.counts Give_call fails c) (sym (counts_over t.content t h seat)) caused))
-          (broken_known (StorePasses s (Give_next inbound nonsecure)) (λ p. false) s t h h s.seat Give_call g.whole refl g.fitted (broke_so inbound nonsecure s t kept.made) (λ k x hold apart sits holds. refl) (λ d passes. gives_pass h inbound nonsecure s d none g.whole g.fitted passes) (λ skips. skips) (same_but h s.seat)));
+          (broken_known (StorePasses s (Give_next inbound nonsecure)) (λ p. false) s t h h s.seat Give_call g.whole refl g.fitted (broke_so inbound nonsecure s t kept.made) (λ k x hold apart sits holds. refl) (λ d passes. gives_pass h inbound nonsecure s d anew g.whole g.fitted passes) (λ skips. skips) (same_but h s.seat)));
     }
-refused_goes h seat base inbound nonsecure old new SF.Read none g kept = absurd kept.made.0
-refused_goes h seat base inbound nonsecure old new SF.Full none g kept = absurd kept.made.0
-refused_goes h seat base inbound nonsecure old new SF.NoMemory none g kept = record {
+refused_goes h seat base inbound nonsecure old new SF.Read anew g kept = absurd kept.made.0
+refused_goes h seat base inbound nonsecure old new SF.Full anew g kept = absurd kept.made.0
+refused_goes h seat base inbound nonsecure old new SF.NoMemory anew g kept = record {
   fitted = λ _. subst (λ (x : StoreState). Fitted x h) (sym kept.made.1) g.fitted;
   settled = λ whole. kept.now whole;
   rows = subst (λ (x : StoreState). Rows seat base (knows_over x.content x h seat)) (sym kept.made.1) g.rows;
 }
 
-pub round_goes : {S : Type 0} (stand : S → StoreStand) (h : HubState) (seat : ℕ) (base : Knows) (inbound nonsecure : List ℕ) (files : ℕ) (old : S) (result : Result (Unit {0}) StoreFault) (new : S) → NoSittings h → (stand old).state.counts.broken ≡ None → Fitted (stand old).state h → IsSettled (stand old) → (stand old).state.seat ≡ seat → Rows seat base (told_by h seat (stand old))
+pub round_goes : {S : Type 0} (stand : S → StoreStand) (h : HubState) (seat : ℕ) (base : Knows) (inbound nonsecure : List ℕ) (files : ℕ) (old : S) (result : Result (Unit {0}) StoreFault) (new : S) → LooksAnew h → (stand old).state.counts.broken ≡ None → Fitted (stand old).state h → IsSettled (stand old) → (stand old).state.seat ≡ seat → Rows seat base (told_by h seat (stand old))
     → GivesFiles stand inbound nonsecure files old result new → RoundGoes h seat base (stand new)
-round_goes stand h seat base inbound nonsecure files old result new none whole fitted settled turn rows gives = go gives
+round_goes stand h seat base inbound nonsecure files old result new anew whole fitted settled turn rows gives = go gives
   where
     begun : Goes h seat base (stand old)
     begun = record { whole = whole; fitted = fitted; settled = settled; turn = turn; rows = rows }
 
     go : {r : Result (Unit {0}) StoreFault} {last : _} → GivesFiles stand inbound nonsecure files old r last → RoundGoes h seat base (stand last)
-    go {r} {last} (All_dealt_with deals) = round_so h seat base (stand last) (deals_go stand h seat base inbound nonsecure old files last none begun deals)
+    go {r} {last} (All_dealt_with deals) = round_so h seat base (stand last) (deals_go stand h seat base inbound nonsecure old files last anew begun deals)
     go {r} {last} (None_left {n} {mid} deals less kept) =
-        round_so h seat base (stand last) (gave_goes h seat base inbound nonsecure (stand mid) (stand last) Nothing none (deals_go stand h seat base inbound nonsecure old n mid none begun deals) kept)
-    go {r} {last} (One_refused {n} {mid} deals less fault kept) = refused_goes h seat base inbound nonsecure (stand mid) (stand last) fault none (deals_go stand h seat base inbound nonsecure old n mid none begun deals) kept
+        round_so h seat base (stand last) (gave_goes h seat base inbound nonsecure (stand mid) (stand last) Nothing anew (deals_go stand h seat base inbound nonsecure old n mid anew begun deals) kept)
+    go {r} {last} (One_refused {n} {mid} deals less fault kept) = refused_goes h seat base inbound nonsecure (stand mid) (stand last) fault anew (deals_go stand h seat base inbound nonsecure old n mid anew begun deals) kept

@@ -1,15 +1,19 @@
 -- A take-in outside a session: its rows, and the seat behind it.
-use Rattle.std.proofs.Common.{◌≡◌, ℕ, ◌<◌, ◌≤◌, Option, Some, None, refl, sym, ◌∙◌, ap, subst}
+use Rattle.std.proofs.Common.{◌≡◌, ℕ, ◌<◌, ◌≤◌, false, Option, Some, None, refl, sym, ◌∙◌, ap, subst}
 use Rattle.ftn_addr.specs.Address.{Address}
 use Rattle.ftn_addr.specs.Counts.{CountGrew}
 use Rattle.ftn_addr.proofs.CountsGrow.{count_grew-refl}
-use Rattle.hub_core.specs.Hubs.{Fitted, HubState}
+use Rattle.hub_core.specs.Anew.{LooksAnew, anew}
+use Rattle.hub_core.specs.Hubs.{Fitted, HubState, seat_part}
+use Rattle.hub_core.proofs.Anew.{knows_anew, part_anew}
 use Rattle.hub_core.proofs.Keeping.{opens_shelf}
 use Rattle.inbound_files.specs.Giving.{StillHas}
+use Rattle.node_model.specs.Desks.{DeskPart}
 use Rattle.node_model.specs.StoreStates.{IfTold, Shelf, Stored, StoreStand, StoreState}
-use Rattle.node_model.specs.Stores.{By_seat, IsShelf, OpensShelf, StoreKept, StorePasses, Well}
-use Rattle.outbound_desk.specs.Lines.{IsReadyAlone}
-use Rattle.outbound_desk.specs.TakenIn.{AreDrawn, NoSittings, TakenIn}
+use Rattle.node_model.specs.Stores.{By_seat, IsShelf, StoreKept, StorePasses, Well}
+use Rattle.outbound_desk.specs.Lines.{IsDeskReady}
+use Rattle.outbound_desk.specs.TakenIn.{AreDrawn, TakenIn}
+use Rattle.outbound_desk.proofs.Joining.{told_by}
 use Rattle.outbound_desk.proofs.SeatTurns.{turn_leaves}
 use Rattle.outbound_desk.proofs.Taking.{takes_all, takes_ruled}
 use Rattle.outbound_store.specs.Calls.{CallOf}
@@ -20,20 +24,27 @@ use Rattle.binkp_serve.specs.Rests.{StaysReceived, StillTold}
 use Rattle.binkp_serve.proofs.Staying.{Since, told_none}
 
 -- the seat takes its turn, and then the calls of the take-in follow
-pub takes_rows : {T : Type 0} (stand : T → StoreStand) (wanted : T → Option Wanting) (h : HubState) (seat : ℕ) (u : StoreStand) (turned new : T) → NoSittings h → u.state.counts.broken ≡ None → Fitted u.state h → AreDrawn u.state → StoreKept u (By_seat seat) Well (stand turned) → wanted turned ≡ None
+pub takes_rows : {T : Type 0} (stand : T → StoreStand) (wanted : T → Option Wanting) (h : HubState) (seat : ℕ) (u : StoreStand) (turned new : T) → LooksAnew h → u.state.counts.broken ≡ None → Fitted u.state h → AreDrawn u.state → StoreKept u (By_seat seat) Well (stand turned) → wanted turned ≡ None
     → Ruled (λ (s : T) (t : T). CallOf (stand s) (wanted s) (stand t) (wanted t)) turned new → TakenIn h seat u (stand new) (wanted new)
-takes_rows {T} stand wanted h seat u turned new none whole fitted drawn turns unwanted calls =
+takes_rows {T} stand wanted h seat u turned new anew whole fitted drawn turns unwanted calls =
     let still : (stand turned).state.counts.broken ≡ None = ap (λ (s : StoreState). s.counts.broken) turns.made ∙ whole in
-    takes_all h seat u (stand turned) (stand new) (wanted new) none whole fitted drawn turns
+    takes_all h seat u (stand turned) (stand new) (wanted new) anew whole fitted drawn turns
     (takes_ruled stand wanted (λ (s : T) (t : T). CallOf (stand s) (wanted s) (stand t) (wanted t)) (λ s t call. call.stepped) turned new still unwanted calls)
 
 -- the seat is ready behind it
-pub ready_taken : (h : HubState) (seat : ℕ) (home : Address) (u v : StoreStand) (wants : Option Wanting) → IsReadyAlone u h seat home → TakenIn h seat u v wants → IsReadyAlone v h seat home
+pub ready_taken : (h : HubState) (seat : ℕ) (home : Address) (u v : StoreStand) (wants : Option Wanting) → IsDeskReady u h seat home → TakenIn h seat u v wants → IsDeskReady v h seat home
 ready_taken h seat home u v wants ready taken = record {
   ready = record { given = ready.ready.given; fitted = taken.fitted; settled = taken.settled };
-  alone = ready.alone;
   home_within = ready.home_within;
 }
+
+-- A hub whose sessions look anew has none open where none was, and tells the same.
+
+pub closed_anew : (h g : HubState) (seat : ℕ) → g ≡ anew h → (seat_part h seat).open_now ≡ false → (seat_part g seat).open_now ≡ false
+closed_anew h g seat same closed = ap (λ (x : HubState). (seat_part x seat).open_now) same ∙ ap (λ (p : DeskPart). p.open_now) (part_anew h seat) ∙ closed
+
+pub told_anew : (h g : HubState) (seat : ℕ) (w : StoreStand) → g ≡ anew h → told_by g seat w ≡ told_by h seat w
+told_anew h g seat w same = ap (λ (x : HubState). told_by x seat w) same ∙ knows_anew w.state.content w.state h seat
 
 -- What the turn leaves.
 

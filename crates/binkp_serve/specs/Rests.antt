@@ -4,6 +4,7 @@ use Rattle.disk_model.specs.World.{World}
 use Rattle.ftn_addr.specs.Address.{Address}
 use Rattle.ftn_addr.specs.Counts.{CountGrew}
 use Rattle.binkp_link.specs.Lines.{LineState}
+use Rattle.hub_core.specs.Anew.{anew}
 use Rattle.hub_core.specs.Hubs.{HubState, hub_stand, hub_state, knows_over, seat_part, state_of}
 use Rattle.hub_core.specs.declared.places.Seats.{Seats}
 use Rattle.inbound_files.specs.Giving.{GivesFiles, StillHas}
@@ -15,7 +16,7 @@ use Rattle.node_model.specs.Stores.{By_seat, OpensShelf, StoreKept, Well}
 use Rattle.node_model.specs.declared.store.StoreFault.{StoreFault}
 use Rattle.node_store.specs.Opening.{counted}
 use Rattle.node_store.specs.Stored.{Holding, stand_of}
-use Rattle.outbound_desk.specs.Lines.{IsReadyAlone}
+use Rattle.outbound_desk.specs.Lines.{IsDeskReady}
 use Rattle.outbound_desk.specs.TakenIn.{TakenIn}
 use Rattle.outbound_round.specs.Round.{RoundTold, TakesRound}
 use Rattle.outbound_round.specs.declared.words.Telling.TheVariants.{PassedOver}
@@ -26,7 +27,7 @@ use Rattle.session_run.specs.Laws.{IsSession}
 use Rattle.session_run.specs.Reports.{ReportText}
 use Rattle.take_steps.specs.declared.wanting.Wanting.{Wanting}
 
--- a store, and the hub over it with the one seat that its calls are made at
+-- a store, and the hub over it with the seat that its calls are made at
 pub record Rest (D : Type 0) : Type 0 where
   pub store : Holding D
   pub hub : HubState
@@ -35,9 +36,9 @@ pub record Rest (D : Type 0) : Type 0 where
 abbrev pub rest_of : {D : Type 0} → Holding D → Seats → ℕ → Rest D
 rest_of store seats seat = record { store = store; hub = hub_state seats; seat = seat }
 
--- the hub and its seat are the same
-pub record SameHub {D : Type 0} (old new : Rest D) : Type 0 where
-  pub hub : new.hub ≡ old.hub
+-- the hub's sessions look anew for what they offer; all else of it and the seat are the same
+pub record LooksAgain {D : Type 0} (old new : Rest D) : Type 0 where
+  pub hub : new.hub ≡ anew old.hub
   pub seat : new.seat ≡ old.seat
 
 -- what a store that tells what it keeps received and refused, it still has
@@ -73,9 +74,9 @@ module _ {D : Type 0} (tells : Bool) (content : D → World) (faults : D → ℕ
     pub rows : Beside old.seat (told_at old) events (told_at new)
     pub seat : new.seat ≡ old.seat
 
-  -- the seat is ready, the one of its hub, and no session is open at it; or the store is to be opened again
+  -- the seat is ready, and no session is open at it; or the store is to be opened again
   pub record IsAtRest (home : Address) (r : Rest D) : Type 0 where
-    pub ready : IsReadyAlone (standing r) r.hub r.seat home
+    pub ready : IsDeskReady (standing r) r.hub r.seat home
     pub free : IsFree (standing r).state.counts.broken (seat_part r.hub r.seat)
 
   -- It is at rest again: the node was reached by rows of the seat, and what was received stays so.
@@ -90,8 +91,8 @@ module _ {D : Type 0} (tells : Bool) (content : D → World) (faults : D → ℕ
     pub turns : StoreKept (standing old) (By_seat old.seat) Well (stand_of tells content faults moment images turned)
     pub takes : TakesRound tells content faults moment images PassedOver conf.base conf.zone (home_of conf.addresses) now round turned new.store
     pub wants : Option Wanting
-    pub rows : TakenIn old.hub old.seat (standing old) (standing new) wants
-    pub same : SameHub old new
+    pub rows : TakenIn (anew old.hub) old.seat (standing old) (standing new) wants
+    pub looks : LooksAgain old new
 
   -- Received files are given, at the seat's turn: one round for all that may be given, to the folders of the settings.
   pub record GivesReceived (conf : ConfText) (old new : Rest D) : Type 0 where
@@ -99,7 +100,7 @@ module _ {D : Type 0} (tells : Bool) (content : D → World) (faults : D → ℕ
     pub turns : StoreKept (standing old) (By_seat old.seat) Well (stand_of tells content faults moment images turned)
     pub result : Result (Unit {0}) StoreFault
     pub gives : GivesFiles (stand_of tells content faults moment images) conf.inbound conf.inbound_nonsecure (waiting (stand_of tells content faults moment images turned)) turned result new.store
-    pub same : SameHub old new
+    pub looks : LooksAgain old new
 
   -- a whole session is held over a line, at the seat
   abbrev pub HoldsSession : Side → ConfText → List ℕ → ℕ → LineState → ReportText → LineState → (old new : Rest D) → Type 0

@@ -38,6 +38,7 @@ pub fn take_outbound<D: Yard>(
         base: &conf.base,
         zone: conf.zone,
     };
+    desk.desk.hub.look_anew();
     desk.desk.hub.store.store.numbers_are_drawn();
     desk.desk.hub.store.store.by(desk.desk.seat);
     desk.desk.hub.store.begin_anew();
@@ -58,6 +59,7 @@ pub fn give_received<D: Yard>(alloc: Global, conf: &Conf, desk: &mut LineDesk<Ta
     ensures gives { GivesReceived D.tells D.content D.fault_count D.moment D.images (conf_text conf.now) (rest_of desk.old.desk.hub.store.store desk.old.desk.hub.seats desk.old.desk.seat) (rest_of desk.new.desk.hub.store.store desk.new.desk.hub.seats desk.new.desk.seat) }
     ensures rests { StaysAtRest D.tells D.content D.fault_count D.moment D.images (address desk.new.outbound.home) (rest_of desk.old.desk.hub.store.store desk.old.desk.hub.seats desk.old.desk.seat) (rest_of desk.new.desk.hub.store.store desk.new.desk.hub.seats desk.new.desk.seat) }
 {
+    desk.desk.hub.look_anew();
     desk.desk.hub.store.store.numbers_are_drawn();
     desk.desk.hub.store.store.by(desk.desk.seat);
     let files = desk.desk.hub.store.store.waits();

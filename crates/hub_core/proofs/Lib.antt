@@ -1,3 +1,4 @@
+pub mod Anew
 pub mod BeginSteps
 pub mod Behind
 pub mod Breaking

@@ -1,3 +1,4 @@
+pub mod Anew
 pub mod Holders
 pub mod HubCalls
 pub mod HubLaws

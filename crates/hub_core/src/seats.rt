@@ -3,11 +3,12 @@ ghost use Rattle.std.specs.Prelude.{◌≡◌, ◌<◌, ◌&&◌, nat_le, count_
 ghost use Rattle.ftn_addr.specs.Address.{address};
 ghost use Rattle.ftn_addr.specs.Counts.{next_count};
 ghost use Rattle.node_model.specs.Rows.{is_answering};
-ghost use Rattle.hub_core.specs.Hubs.{IsNewSitting, begun_with, busier, dropped_sitting, hub_state, sitting_at, sitting_of, with_sitting};
+ghost use Rattle.hub_core.specs.Anew.{anew, chair_anew};
+ghost use Rattle.hub_core.specs.Hubs.{IsNewSitting, begun_with, busier, chair_of, dropped_sitting, hub_state, sitting_at, sitting_of, with_sitting};
 ghost use Rattle.hub_core.specs.Steps.{chair_answers};
 
 use crate::judging::answering;
-use crate::places::{Offers, Open, Seats};
+use crate::places::{Offers, Open, Place, Seats};
 use crate::skips::Skips;
 use ftn_addr::{Addr, NoMemory};
 use node_model::Role;
@@ -119,6 +120,32 @@ impl Seats {
     {
         let session = self.take_session(seat);
         self.put_session(seat, dropped(session));
+    }
+
+    /// Has each session look for what it offers next from the start.
+    pub fn look_anew(&mut self)
+        ensures { hub_state self.new ≡ anew (hub_state self.old) }
+    {
+        look_anew_at(self.places.as_mut_slice());
+    }
+}
+
+fn look_anew_at(places: &mut [Place])
+    ensures { map chair_of places.new ≡ map chair_anew (map chair_of places.old) }
+{
+    for place in places.iter_mut() {
+        place.look_anew();
+    }
+}
+
+impl Place {
+    // Its session, where there is one, looks for what it offers next from the start.
+    fn look_anew(&mut self)
+        ensures { chair_of self.new ≡ chair_anew (chair_of self.old) }
+    {
+        if let Some(session) = &mut self.session {
+            session.offers.passed = None;
+        }
     }
 }
 

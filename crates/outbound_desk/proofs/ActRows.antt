@@ -13,6 +13,8 @@ use Rattle.node_model.specs.Stores.{Stored, StoreState, StoreDoes, Act_next, Act
 use Rattle.node_model.proofs.Distinct.{member_map}
 use Rattle.node_model.proofs.StockMaps.{map-map_as, on_state-map}
 use Rattle.hub_core.specs.Hubs.{HubState, HubFits}
+use Rattle.hub_core.proofs.Anew.{sitting_on}
+use Rattle.outbound_desk.proofs.Sittings.{acted_number, acted_key}
 use Rattle.outbound_desk.specs.TakenIn.{AreDrawn}
 use Rattle.outbound_desk.proofs.OneRow.{RowMade, option_same, option_twice, same_row}
 
@@ -52,6 +54,7 @@ acts h a s dest e time f d next room = record {
     content = option_twice (stored_after (on_state (with_acted e.number)) s.seat (Acted_record e.number ∷ [])) (source_stored e time) s.content;
     stock = ap (on_state (with_acted e.number)) f.stock ∙ sym (sizes_acted e.number a);
     parts = λ p there. let fit = f.parts p there in record { marks = fit.marks; receipts = fit.receipts };
+    sittings = λ x none fits. sitting_on s (acted e time s) x none refl (λ g m. (acted_entry e.number g, member_map (acted_entry e.number) g s.stock.state.queue m, acted_number e.number g, acted_key e.number g)) fits;
     seat = refl;
   };
   counts = refl;
@@ -69,7 +72,7 @@ pub none_acted : (h : HubState) (a : Stored) (s t : StoreState) (dest : Address)
 none_acted h a s t dest f d does =
     same_row h (Act_call dest) Nothing s a s t does.1
     (record {
-      change = record { change = λ x. x; content = sym (option_same s.content); stock = f.stock; parts = f.parts; seat = refl };
+      change = record { change = λ x. x; content = sym (option_same s.content); stock = f.stock; parts = f.parts; sittings = λ x none fits. fits; seat = refl };
       counts = refl;
       made = record {
         none = λ e there at waits. does.0 (entry_map length e) (subst (λ (x : Sizes). Member (entry_map length e) x.state.queue) (sym f.stock) (member_map (entry_map length) e a.stock.state.queue there)) at waits;

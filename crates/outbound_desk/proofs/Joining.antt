@@ -3,12 +3,13 @@ use Rattle.std.proofs.Common.{◌≡◌, ◌⊎◌, ℕ, ◌≤◌, ◌<◌, Lis
 use Rattle.node_model.specs.Calls.{AllMade, Counts, Counts_alone, Disk, Event, Knows, No_memory, Queue_call, Refused, Tells, one}
 use Rattle.node_model.specs.Images.{BesidePass, IsState}
 use Rattle.node_model.specs.Stores.{Shelf, Stored, StoreState, StoreStand, OpensShelf}
+use Rattle.hub_core.specs.Anew.{LooksAnew}
 use Rattle.hub_core.specs.Hubs.{HubState, Fitted, IsSettled, chair_in, knows_over, node_with}
 use Rattle.hub_core.proofs.Keeping.{le_total, leaves_none, opens_shelf}
 use Rattle.take_steps.specs.Steps.{KeepsState, Quiet, StepFrom, Stepped}
 use Rattle.take_steps.specs.declared.wanting.Wanting.{Wanting}
 use Rattle.take_steps.specs.declared.wanting.Wanting.TheVariants.{Memory}
-use Rattle.outbound_desk.specs.TakenIn.{AreDrawn, EndsSo, NoSittings, TakenIn, fault_for}
+use Rattle.outbound_desk.specs.TakenIn.{AreDrawn, EndsSo, TakenIn, fault_for}
 use Rattle.outbound_desk.proofs.QuietRows.{QuietChange, node_quiet, quiet_change, quiet_row, still_change}
 use Rattle.outbound_desk.proofs.Refusals.{memory_row}
 use Rattle.outbound_desk.proofs.OneRow.{IsIdle, RowImages, RowPasses, row_taken}
@@ -20,8 +21,8 @@ abbrev pub told_by : HubState → ℕ → StoreStand → Knows
 told_by h seat w = knows_over w.state.content w.state h seat
 
 -- where the take-in is now
-abbrev idle_now : (h : HubState) (seat : ℕ) (a b : StoreStand) (was : Option Wanting) → NoSittings h → b.state.counts.broken ≡ None → TakenIn h seat a b was → IsIdle h b
-idle_now h seat a b was none whole x = record { none = none; whole = whole; fitted = x.fitted whole; drawn = x.drawn whole }
+abbrev idle_now : (h : HubState) (seat : ℕ) (a b : StoreStand) (was : Option Wanting) → LooksAnew h → b.state.counts.broken ≡ None → TakenIn h seat a b was → IsIdle h b
+idle_now h seat a b was anew whole x = record { anew = anew; whole = whole; fitted = x.fitted whole; drawn = x.drawn whole }
 
 -- No step.
 pub taken_none : (h : HubState) (seat : ℕ) (w : StoreStand) → w.state.counts.broken ≡ None → Fitted w.state h → AreDrawn w.state → IsSettled w → w.state.seat ≡ seat → TakenIn h seat w w None
@@ -90,10 +91,10 @@ keeps_is : (c : Option Stored) (s : StoreState) (h : HubState) (seat : ℕ) (e :
 keeps_is None s h seat e is = is
 keeps_is (Some a) s h seat e is = is
 
-still_wanted : (h : HubState) (seat : ℕ) (a b c : StoreStand) (want : Wanting) → NoSittings h → b.state.counts.broken ≡ None → (x : TakenIn h seat a b (Some want)) → Quiet b c → c.state.counts ≡ b.state.counts → TakenIn h seat a c (Some want)
-still_wanted h seat a b c want none whole x quiet counts =
+still_wanted : (h : HubState) (seat : ℕ) (a b c : StoreStand) (want : Wanting) → LooksAnew h → b.state.counts.broken ≡ None → (x : TakenIn h seat a b (Some want)) → Quiet b c → c.state.counts ≡ b.state.counts → TakenIn h seat a c (Some want)
+still_wanted h seat a b c want anew whole x quiet counts =
     let q = quiet_change b.state c.state quiet.told quiet.same in
-    let row = quiet_row h b c (idle_now h seat a b (Some want) none whole x) quiet counts in
+    let row = quiet_row h b c (idle_now h seat a b (Some want) anew whole x) quiet counts in
     let first = x.moments.later in
     let second = quiet.moments.later in
     let new = ended seat (told_by h seat a) x.events (told_by h seat b) x.rows (told_by h seat c) (quiet_knows h seat b.state c.state q counts) in
@@ -121,24 +122,24 @@ still_wanted h seat a b c want none whole x quiet counts =
     go Q passed k d after until image (inr late) =
         opens_shelf (KeepsState b.state.content) Q (λ e is. passed e (last e is)) d (quiet.since k d late until image)
 
-wanted_taken : (h : HubState) (seat : ℕ) (a b c : StoreStand) (want : Wanting) (now : Option Wanting) → NoSittings h → b.state.counts.broken ≡ None → TakenIn h seat a b (Some want) → StepFrom (Some want) b c now → TakenIn h seat a c now
-wanted_taken h seat a b c want now none whole x (same, quiet, inl counts) =
-    subst (λ (o : Option Wanting). TakenIn h seat a c o) (sym same) (still_wanted h seat a b c want none whole x quiet counts)
-wanted_taken h seat a b c want now none whole x (same, quiet, inr failed) =
-    let y = subst (λ (k : ℕ). TakenIn h k b c now) x.turn (failed_taken h b c now (idle_now h seat a b (Some want) none whole x) quiet failed) in
+wanted_taken : (h : HubState) (seat : ℕ) (a b c : StoreStand) (want : Wanting) (now : Option Wanting) → LooksAnew h → b.state.counts.broken ≡ None → TakenIn h seat a b (Some want) → StepFrom (Some want) b c now → TakenIn h seat a c now
+wanted_taken h seat a b c want now anew whole x (same, quiet, inl counts) =
+    subst (λ (o : Option Wanting). TakenIn h seat a c o) (sym same) (still_wanted h seat a b c want anew whole x quiet counts)
+wanted_taken h seat a b c want now anew whole x (same, quiet, inr failed) =
+    let y = subst (λ (k : ℕ). TakenIn h k b c now) x.turn (failed_taken h b c now (idle_now h seat a b (Some want) anew whole x) quiet failed) in
     let broken : c.state.counts.broken ≡ Some c.state.counts.faults = ap (λ (k : Counts). k.broken) failed.is in
     both_taken h seat a b c (Some want) now x y (subst (λ (o : Option ℕ). EndsSo (x.events ++ y.events) o now) (sym broken) (ends_behind x.events y.events (Disk c.state.counts.faults) (subst (λ (o : Option ℕ). EndsSo y.events o now) broken y.ends)))
 
 -- A step behind what was taken in.
-pub taken_then : (h : HubState) (seat : ℕ) (a b c : StoreStand) (was now : Option Wanting) → NoSittings h → TakenIn h seat a b was → Stepped b was c now → TakenIn h seat a c now
-taken_then h seat a b c None now none x step =
-    taken_on h seat a b c now step.whole x (stepped_taken h seat b c now none x.turn (x.fitted step.whole) (x.drawn step.whole) step)
-taken_then h seat a b c (Some want) now none x step = wanted_taken h seat a b c want now none step.whole x step.step
+pub taken_then : (h : HubState) (seat : ℕ) (a b c : StoreStand) (was now : Option Wanting) → LooksAnew h → TakenIn h seat a b was → Stepped b was c now → TakenIn h seat a c now
+taken_then h seat a b c None now anew x step =
+    taken_on h seat a b c now step.whole x (stepped_taken h seat b c now anew x.turn (x.fitted step.whole) (x.drawn step.whole) step)
+taken_then h seat a b c (Some want) now anew x step = wanted_taken h seat a b c want now anew step.whole x step.step
 
 -- Nothing more could be done for want of memory.
-pub short_of_memory : (h : HubState) (seat : ℕ) (a b : StoreStand) → NoSittings h → b.state.counts.broken ≡ None → TakenIn h seat a b None → TakenIn h seat a b (Some Memory)
-short_of_memory h seat a b none whole x =
+pub short_of_memory : (h : HubState) (seat : ℕ) (a b : StoreStand) → LooksAnew h → b.state.counts.broken ≡ None → TakenIn h seat a b None → TakenIn h seat a b (Some Memory)
+short_of_memory h seat a b anew whole x =
     let images : RowImages h (Queue_call [] None None) b b = record { leaves = leaves_none (RowPasses h (Queue_call [] None None) b) b; settled = x.settled } in
-    let row = memory_row h (Queue_call [] None None) b b (idle_now h seat a b None none whole x) tt (still_change b.state b.state refl) refl images in
+    let row = memory_row h (Queue_call [] None None) b b (idle_now h seat a b None anew whole x) tt (still_change b.state b.state refl) refl images in
     let ends : EndsSo (one (Queue_call [] None None) (Refused No_memory)) b.state.counts.broken (Some Memory) = subst (λ (o : Option ℕ). EndsSo (one (Queue_call [] None None) (Refused No_memory)) o (Some Memory)) (sym whole) refl in
     taken_on h seat a b b (Some Memory) whole x (subst (λ (k : ℕ). TakenIn h k b b (Some Memory)) x.turn (row_taken h (Queue_call [] None None) (Refused No_memory) b b (Some Memory) row ends))

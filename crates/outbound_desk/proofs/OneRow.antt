@@ -5,23 +5,22 @@ use Rattle.node_model.specs.Calls.{Call, Answer, Fault, Refused, Read, Busy, Cou
 use Rattle.node_model.specs.Calls as C
 use Rattle.node_model.specs.Images.{KnownPasses}
 use Rattle.node_model.specs.Stores.{Shelf, Stored, StoreState, StoreStand, IsShelf}
-use Rattle.node_model.specs.Sound.{Sound}
 use Rattle.node_model.specs.Lists.{Member}
 use Rattle.node_model.specs.Items.{MarkOf}
 use Rattle.node_model.specs.Stocks.{sizes}
 use Rattle.node_model.proofs.StepSound.{step_sound}
-use Rattle.hub_core.specs.Hubs.{HubState, Fitted, PartFits, IsSettled, knows_over, node_with, sitting_at}
+use Rattle.hub_core.specs.Anew.{LooksAnew}
+use Rattle.hub_core.specs.Hubs.{HubState, HubFits, Sitting, SittingFits, Fitted, PartFits, IsSettled, knows_over, node_with, sitting_at}
 use Rattle.hub_core.specs.HubCalls.{ShelfPasses}
 use Rattle.hub_core.specs.Steps.{Leaves}
-use Rattle.hub_core.proofs.Closing.{not_some}
 use Rattle.hub_core.proofs.Keeping.{counts_over, opens_shelf}
 use Rattle.hub_core.proofs.Stepping.{Stepped, counted, passes_by, stepped_fitted, stepped_known}
 use Rattle.take_steps.specs.declared.wanting.Wanting.{Wanting}
-use Rattle.outbound_desk.specs.TakenIn.{NoSittings, AreDrawn, EndsSo, TakenIn}
+use Rattle.outbound_desk.specs.TakenIn.{AreDrawn, EndsSo, TakenIn}
 
--- a hub without sessions, over a store that isn't broken and fits it
+-- a hub whose sessions look anew, over a store that isn't broken and fits it
 pub record IsIdle (h : HubState) (w : StoreStand) : Type 0 where
-  pub none : NoSittings h
+  pub anew : LooksAnew h
   pub whole : w.state.counts.broken ≡ None
   pub fitted : Fitted w.state h
   pub drawn : AreDrawn w.state
@@ -90,27 +89,32 @@ pub option_twice : {A B C : Type 0} (f : B → C) (g : A → B) (o : Option A) �
 option_twice f g None = refl
 option_twice f g (Some x) = refl
 
--- What holds of the hub after a change of its store: without sessions it fits where its node is sound.
+-- What holds of the hub after a change of its store: where its sessions look anew it fits, if its node is sound.
 pub record Change (h : HubState) (s : StoreState) (a : Stored) (t : StoreState) : Type 0 where
   pub change : Stored → Stored
   pub content : t.content ≡ option_map change s.content
   pub stock : t.stock ≡ sizes (change a).stock
   pub parts : (p : MarkOf ℕ) → Member p t.stock.parts → PartFits (change a).stock.state p
+  pub sittings : (x : Sitting) → x.passed ≡ None → SittingFits s x → SittingFits t x
   pub seat : t.seat ≡ s.seat
 
-pub stepped : (h : HubState) (call : Call) (answer : Answer) (s : StoreState) (a : Stored) (t : StoreState) (c : Change h s a t) → NoSittings h → IsPlain answer → t.counts.broken ≡ None → Sound (node_with a s h) → NodeStep s.seat (node_with a s h) call answer (node_with (c.change a) t h) → Stepped s.seat call answer s h a t h
-stepped h call answer s a t c none plain whole sound step = record {
+pub stepped : (h : HubState) (call : Call) (answer : Answer) (s : StoreState) (a : Stored) (t : StoreState) (c : Change h s a t) → ((k : ℕ) (x : Sitting) → sitting_at h k ≡ Some x → SittingFits s x → SittingFits t x) → IsPlain answer → t.counts.broken ≡ None → HubFits a s h → NodeStep s.seat (node_with a s h) call answer (node_with (c.change a) t h) → Stepped s.seat call answer s h a t h
+stepped h call answer s a t c stay plain whole fits step = record {
   change = c.change;
   content = c.content;
   step = step;
   fits = record {
     stock = c.stock;
-    sittings = λ k x at. not_some (sitting_at h k) x (none k) at;
+    sittings = λ k x at. stay k x at (fits.sittings k x at);
     parts = c.parts;
-    sound = step_sound s.seat (node_with a s h) call answer (node_with (c.change a) t h) step (λ _. sound) whole;
+    sound = step_sound s.seat (node_with a s h) call answer (node_with (c.change a) t h) step (λ _. fits.sound) whole;
   };
   counts = same_counts s t h s.seat answer plain;
 }
+
+-- such a change leaves each session that looks anew as fit
+pub stays_anew : (h : HubState) (s : StoreState) (a : Stored) (t : StoreState) → Change h s a t → LooksAnew h → (k : ℕ) (x : Sitting) → sitting_at h k ≡ Some x → SittingFits s x → SittingFits t x
+stays_anew h s a t c anew k x at = c.sittings x (anew k x at)
 
 -- Made.
 
@@ -145,7 +149,7 @@ made_row h call answer old new o takes made plain row images =
     let f = o.fitted in
     let unbroken : t.counts.broken ≡ None = ap (λ (c : Counts). c.broken) row.counts ∙ o.whole in
     let step = step_made s.seat (node_with f.keeps s h) call answer (node_with (row.change.change f.keeps) t h) made o.whole row.made in
-    let x = stepped h call answer s f.keeps t row.change o.none plain unbroken f.fits.sound step in
+    let x = stepped h call answer s f.keeps t row.change (stays_anew h s f.keeps t row.change o.anew) plain unbroken f.fits step in
     record {
       takes = takes;
       caused = caused_made s.counts call answer t.counts made o.whole row.counts;

@@ -7,11 +7,12 @@ use Rattle.node_model.specs.Calls.{AllMade, AllTakeIn, Answer, Beside, Counts, D
 use Rattle.node_model.specs.Images.{BesidePass, IsState, Kept, OpensTo, OwnPasses, RowsPass, TurnPasses}
 use Rattle.node_model.specs.Stores.{Shelf, Stored, StoreState, StoreStand, IsShelf, OpensShelf}
 use Rattle.node_model.proofs.Drifting.{drift_none}
+use Rattle.hub_core.specs.Anew.{LooksAnew}
 use Rattle.hub_core.specs.Hubs.{HubState, hub_stand, knows_over, seen, state_of}
 use Rattle.hub_core.proofs.Keeping.{counts_over, le_total}
 use Rattle.take_steps.specs.declared.wanting.Wanting.{Wanting}
 use Rattle.take_steps.specs.declared.wanting.Wanting.TheVariants.{Memory}
-use Rattle.outbound_desk.specs.TakenIn.{EndsSo, NoSittings, TakenIn, fault_for}
+use Rattle.outbound_desk.specs.TakenIn.{EndsSo, TakenIn, fault_for}
 use Rattle.outbound_desk.proofs.Joining.{short_of_memory, told_by}
 use Rattle.outbound_desk.proofs.Rows.{all_made, all_take_in, ended, ends_behind, joined}
 
@@ -126,5 +127,5 @@ module _ (role : Role) (peers : List Address) (secure : Bool) (moment : ℕ) whe
       refused_behind h seat v w (Some want) (fault_for want) x (subst (λ (o : Option ℕ). EndsSo x.events o (Some want)) whole x.ends)
 
   -- the take-in itself found no memory
-  pub short_refuses : (h : HubState) (seat : ℕ) (v w : StoreStand) → NoSittings h → w.state.counts.broken ≡ None → TakenIn h seat v w None → Kept true (hub_stand v h seat) (Open_call role peers secure moment) (Refused No_memory) (hub_stand w h seat)
-  short_refuses h seat v w none whole x = wanted_refuses h seat v w Memory whole (short_of_memory h seat v w none whole x)
+  pub short_refuses : (h : HubState) (seat : ℕ) (v w : StoreStand) → LooksAnew h → w.state.counts.broken ≡ None → TakenIn h seat v w None → Kept true (hub_stand v h seat) (Open_call role peers secure moment) (Refused No_memory) (hub_stand w h seat)
+  short_refuses h seat v w anew whole x = wanted_refuses h seat v w Memory whole (short_of_memory h seat v w anew whole x)

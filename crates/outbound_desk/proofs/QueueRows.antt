@@ -15,6 +15,8 @@ use Rattle.node_model.proofs.Distinct.{each_map}
 use Rattle.node_model.proofs.Lists.{Each-weaker, Each-without}
 use Rattle.node_model.proofs.QueuedSizes.{all_queued-map, slots-map}
 use Rattle.hub_core.specs.Hubs.{HubState, HubFits, node_with}
+use Rattle.hub_core.proofs.Anew.{sitting_on}
+use Rattle.outbound_desk.proofs.Sittings.{queued_stays}
 use Rattle.outbound_desk.specs.TakenIn.{AreDrawn}
 use Rattle.outbound_desk.proofs.OneRow.{RowMade, option_twice, same_row}
 use Rattle.outbound_desk.proofs.QueuedFiles.{IsStaged, enqueued, is_staged, number_drawn, numbers_few, same_records, sizes_fit, with_bytes}
@@ -67,6 +69,7 @@ queue_made h a s t taken answered files slots f d batch does =
         content = option_twice (take_stored taken) (stored_after (all_queued files answered) s.seat (queueing_records taken answered files s)) s.content;
         stock = ap (all_queued files answered) f.stock ∙ sym (all_queued-map files answered a.stock);
         parts = λ p there. let fit = f.parts p there in record { marks = fit.marks; receipts = numbers_stay answered p.number a.stock.state.inbox fit.receipts };
+        sittings = λ x none fits. sitting_on s (with_all_queued taken answered files s) x none refl (λ e m. (e, queued_stays files s.stock.staged s.stock.state.queue e m, refl, refl)) fits;
         seat = refl;
       };
       counts = refl;

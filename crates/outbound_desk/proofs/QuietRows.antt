@@ -11,6 +11,7 @@ use Rattle.hub_core.specs.Hubs.{HubState, HubFits, PartFits, node_with, seat_ove
 use Rattle.hub_core.specs.HubCalls.{ShelfPasses}
 use Rattle.hub_core.proofs.Keeping.{opens_shelf}
 use Rattle.take_steps.specs.Steps.{KeepsState, Quiet, SameNode}
+use Rattle.hub_core.proofs.Anew.{sitting_on}
 use Rattle.outbound_desk.specs.TakenIn.{AreDrawn}
 use Rattle.outbound_desk.proofs.OneRow.{Change, IsIdle, OneRow, RowImages, RowMade, RowPasses, made_row, option_same}
 
@@ -59,6 +60,7 @@ quiet_fits h a s t f q =
       content = q.content;
       stock = stock ∙ (f.stock ∙ ap sizes (sym (q.same a).stock));
       parts = λ p there. subst (λ (x : Stock). PartFits x.state p) (sym (q.same a).stock) (f.parts p (subst (λ (x : Sizes). Member p x.parts) stock there));
+      sittings = λ x none fits. sitting_on s t x none (ap (λ (z : Sizes). z.parts) stock) (λ e m. (e, subst (λ (z : Sizes). Member e z.state.queue) (sym stock) m, refl, refl)) fits;
       seat = ap (λ (u : StoreState). u.seat) q.rest;
     }
 

@@ -15,7 +15,7 @@ use Rattle.hub_core.proofs.Breaking.{broken_known, same_but}
 use Rattle.hub_core.proofs.Keeping.{leaves_as}
 use Rattle.hub_core.proofs.Stepping.{stepped_fitted, stepped_known}
 use Rattle.take_steps.specs.Steps.{Failed, KeepsState, Quiet, SameNode}
-use Rattle.outbound_desk.proofs.OneRow.{IsIdle, OneRow, RowImages, RowPasses, stepped}
+use Rattle.outbound_desk.proofs.OneRow.{IsIdle, OneRow, RowImages, RowPasses, stays_anew, stepped}
 use Rattle.outbound_desk.proofs.QuietRows.{QuietChange, node_quiet, quiet_drawn, quiet_fits, keeps_passes}
 
 -- the calls of a take-in may find no place, take memory, and skip nothing
@@ -55,7 +55,7 @@ full_row h call old new o takes q counts finds images =
     let unbroken : t.counts.broken ≡ None = ap (λ (c : Counts). c.broken) counts ∙ o.whole in
     let change = quiet_fits h f.keeps s t f.fits q in
     let left = unmade s.seat next (node_with f.keeps s h) call (node_with (q.change f.keeps) t h) takes (node_counted h f.keeps s t next q counts) in
-    let x = stepped h call (Refused Full) s f.keeps t change o.none tt unbroken f.fits.sound (o.whole, finds, left) in
+    let x = stepped h call (Refused Full) s f.keeps t change (stays_anew h s f.keeps t change o.anew) tt unbroken f.fits (o.whole, finds, left) in
     let fulls : t.counts.fulls ≡ next = ap (λ (c : Counts). c.fulls) counts in
     record {
       takes = takes;
@@ -77,7 +77,7 @@ memory_row h call old new o takes q counts images =
     let unbroken : t.counts.broken ≡ None = ap (λ (c : Counts). c.broken) counts ∙ o.whole in
     let change = quiet_fits h f.keeps s t f.fits q in
     let left = unmade s.seat s.counts.fulls (node_with f.keeps s h) call (node_with (q.change f.keeps) t h) takes (node_counted h f.keeps s t s.counts.fulls q counts) in
-    let x = stepped h call (Refused No_memory) s f.keeps t change o.none tt unbroken f.fits.sound (o.whole, takes_memory call takes, left) in
+    let x = stepped h call (Refused No_memory) s f.keeps t change (stays_anew h s f.keeps t change o.anew) tt unbroken f.fits (o.whole, takes_memory call takes, left) in
     record {
       takes = takes;
       caused = (takes_memory call takes, o.whole, counts);

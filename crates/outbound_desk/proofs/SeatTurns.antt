@@ -3,11 +3,12 @@ use Rattle.std.proofs.Common.{◌≡◌, ℕ, [], Option, Some, None, refl, sym,
 use Rattle.node_model.specs.Calls.{Counts, Queue_call, Queued, one}
 use Rattle.node_model.specs.Images.{BesidePass}
 use Rattle.node_model.specs.Stores.{Shelf, Stored, StoreAnswer, StoreDoes, StoreKept, StorePasses, StoreState, StoreStand, Before_it, Source_first, After_it, By_seat, Well, IsShelf}
+use Rattle.hub_core.specs.Anew.{LooksAnew}
 use Rattle.hub_core.specs.Hubs.{HubState, Fitted, knows_over}
 use Rattle.hub_core.proofs.Keeping.{opens_shelf}
 use Rattle.hub_core.proofs.Ready.{turn_fits}
 use Rattle.hub_core.proofs.Turning.{before_passes}
-use Rattle.outbound_desk.specs.TakenIn.{AreDrawn, EndsSo, NoSittings, TakenIn}
+use Rattle.outbound_desk.specs.TakenIn.{AreDrawn, EndsSo, TakenIn}
 use Rattle.outbound_desk.proofs.Joining.{told_by}
 use Rattle.outbound_desk.proofs.OneRow.{IsIdle, RowImages, RowPasses, made_row, row_taken}
 use Rattle.outbound_desk.proofs.QuietRows.{quiet_made, still_change}
@@ -31,9 +32,9 @@ turn_leaves s seat e (After_it answer t does is) = go answer does
     go Well does = subst (λ (u : StoreState). IsShelf u.content e) does is
     go answer does = absurd does
 
-turn_idle : (h : HubState) (seat : ℕ) (w : StoreStand) → NoSittings h → w.state.counts.broken ≡ None → Fitted w.state h → AreDrawn w.state → IsIdle h (at_turn seat w)
-turn_idle h seat w none whole f d = record {
-  none = none;
+turn_idle : (h : HubState) (seat : ℕ) (w : StoreStand) → LooksAnew h → w.state.counts.broken ≡ None → Fitted w.state h → AreDrawn w.state → IsIdle h (at_turn seat w)
+turn_idle h seat w anew whole f d = record {
+  anew = anew;
   whole = whole;
   fitted = record { keeps = f.keeps; tells = f.tells; fits = turn_fits f.keeps w.state (at_turn seat w).state h seat refl f.fits };
   drawn = record { staged = d.staged; few = d.few };
@@ -58,9 +59,9 @@ turned_row h seat old new o kept =
     row_taken h call (Queued []) (at_turn seat old) new None row (subst (λ (b : Option ℕ). EndsSo (one call (Queued [])) b None) (sym whole) (tt, tt))
 
 -- A take-in begins with its seat's turn.
-pub turn_taken : (h : HubState) (seat : ℕ) (old new : StoreStand) → NoSittings h → old.state.counts.broken ≡ None → Fitted old.state h → AreDrawn old.state → StoreKept old (By_seat seat) Well new → TakenIn h seat old new None
-turn_taken h seat old new none whole f d kept =
-    let x = turned_row h seat old new (turn_idle h seat old none whole f d) kept in
+pub turn_taken : (h : HubState) (seat : ℕ) (old new : StoreStand) → LooksAnew h → old.state.counts.broken ≡ None → Fitted old.state h → AreDrawn old.state → StoreKept old (By_seat seat) Well new → TakenIn h seat old new None
+turn_taken h seat old new anew whole f d kept =
+    let x = turned_row h seat old new (turn_idle h seat old anew whole f d) kept in
     let m = moved seat (told_by h seat (at_turn seat old)) x.events (told_by h seat new) x.rows (told_by h seat old) (same_told old.state.content old.state h seat seat) in
     record {
       events = x.events;

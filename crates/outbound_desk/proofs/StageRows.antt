@@ -9,6 +9,7 @@ use Rattle.node_model.specs.Stores.{Stored, StoreState, stored_after, with_stage
 use Rattle.node_model.proofs.Lists.{Each-append, Each-weaker}
 use Rattle.node_model.proofs.StockMaps.{file_staged-map}
 use Rattle.hub_core.specs.Hubs.{HubState, HubFits}
+use Rattle.hub_core.proofs.Anew.{sitting_on}
 use Rattle.outbound_desk.specs.TakenIn.{AreDrawn}
 use Rattle.outbound_desk.proofs.OneRow.{RowMade, same_row}
 use Rattle.outbound_desk.proofs.QuietRows.{quiet_made, still_change}
@@ -33,6 +34,7 @@ stages h a s bytes f d few =
         content = refl;
         stock = ap (file_staged (s.staged + 1) (length bytes)) f.stock ∙ sym (file_staged-map length (s.staged + 1) bytes a.stock);
         parts = f.parts;
+        sittings = λ x none fits. sitting_on s (with_staged bytes s) x none refl (λ e m. (e, m, refl, refl)) fits;
         seat = refl;
       };
       counts = refl;

@@ -5,11 +5,12 @@ use Rattle.node_model.specs.Calls.{Answer, AllMade, Call, Counts, Event, Fault, 
 use Rattle.node_model.specs.Calls as C
 use Rattle.node_model.specs.Stores.{StoreCall, StoreKept, StoreState, StoreStand, Refuses}
 use Rattle.std.proofs.Common.{List}
+use Rattle.hub_core.specs.Anew.{LooksAnew}
 use Rattle.hub_core.specs.Hubs.{HubState, Fitted}
 use Rattle.take_steps.specs.Steps.{Failed, Made, Broke, Broke_quietly, Had_no_memory, Had_no_number, Quiet, Refused as Refused_call, Stayed, Stepped, StoreStep, TakesIn, fault_of}
 use Rattle.take_steps.specs.declared.wanting.Wanting.{Wanting}
 use Rattle.take_steps.specs.declared.wanting.Wanting.TheVariants.{Places, Memory}
-use Rattle.outbound_desk.specs.TakenIn.{AreDrawn, EndsSo, NoSittings, TakenIn}
+use Rattle.outbound_desk.specs.TakenIn.{AreDrawn, EndsSo, TakenIn}
 use Rattle.outbound_desk.proofs.FullCalls.{full_call, full_quietly}
 use Rattle.outbound_desk.proofs.OneRow.{IsIdle, OneRow, row_taken}
 use Rattle.outbound_desk.proofs.QuietRows.{quiet_change, quiet_images, quiet_row}
@@ -67,7 +68,7 @@ step_taken h old new o now (Had_no_number quiet counts) =
     row_whole h full.call (Refused Full) old new (Some Places) full.row (whole_full old.state.counts new.state.counts counts o.whole) refl
 
 -- One step, where nothing was wanted before it.
-pub stepped_taken : (h : HubState) (seat : ℕ) (old new : StoreStand) (now : Option Wanting) → NoSittings h → old.state.seat ≡ seat → Fitted old.state h → AreDrawn old.state → Stepped old None new now → TakenIn h seat old new now
-stepped_taken h seat old new now none turn f d step =
-    let idle : IsIdle h old = record { none = none; whole = step.whole; fitted = f; drawn = d } in
+pub stepped_taken : (h : HubState) (seat : ℕ) (old new : StoreStand) (now : Option Wanting) → LooksAnew h → old.state.seat ≡ seat → Fitted old.state h → AreDrawn old.state → Stepped old None new now → TakenIn h seat old new now
+stepped_taken h seat old new now anew turn f d step =
+    let idle : IsIdle h old = record { anew = anew; whole = step.whole; fitted = f; drawn = d } in
     subst (λ (k : ℕ). TakenIn h k old new now) turn (step_taken h old new idle now step.step)

@@ -5,6 +5,7 @@ use Rattle.node_model.specs.Desks.{fault_of}
 use Rattle.node_model.specs.declared.desk.DeskFault.TheVariants as D
 use Rattle.node_model.specs.StoreStates.{StoreState, StoreStand}
 use Rattle.node_model.specs.Stores.{By_seat, StoreKept, Well}
+use Rattle.hub_core.specs.Anew.{LooksAnew}
 use Rattle.hub_core.specs.Hubs.{HubState, Fitted}
 use Rattle.node_model.specs.declared.store.StoreFault.{StoreFault}
 use Rattle.node_model.specs.declared.store.StoreFault.TheVariants as F
@@ -16,29 +17,29 @@ use Rattle.take_steps.specs.Steps.{Broke_quietly, Quiet, Stayed, Stepped, StoreS
 use Rattle.take_steps.specs.declared.wanting.Wanting.{Wanting}
 use Rattle.take_steps.specs.declared.wanting.Wanting.TheVariants.{Places, Memory}
 use Rattle.outbound_desk.specs.Lines.{fault_wanted, Refuses, TakesIn, TakesPeers, WantsSo}
-use Rattle.outbound_desk.specs.TakenIn.{AreDrawn, EndsSo, NoSittings, TakenIn, fault_for}
+use Rattle.outbound_desk.specs.TakenIn.{AreDrawn, EndsSo, TakenIn, fault_for}
 use Rattle.outbound_desk.proofs.Joining.{short_of_memory, taken_none, taken_on, taken_then}
 use Rattle.outbound_desk.proofs.SeatTurns.{turn_taken}
 
 -- All calls of a take-in, one behind another.
 module _ {T : Type 0} (stand : T → StoreStand) (wanted : T → Option Wanting) (rule : T → T → Type 0) (steps : (s t : T) → rule s t → Stepped (stand s) (wanted s) (stand t) (wanted t)) where
-  pub took_all : (h : HubState) (seat : ℕ) (base : StoreStand) (old new : T) → NoSittings h → TakenIn h seat base (stand old) (wanted old) → Ruled rule old new → TakenIn h seat base (stand new) (wanted new)
-  took_all h seat base old new none first calls =
-      ruled_all rule (λ (s : T) (t : T). TakenIn h seat base (stand s) (wanted s) → TakenIn h seat base (stand t) (wanted t)) (λ s x. x) (λ s t u f g x. g (f x)) (λ s t call x. taken_then h seat base (stand s) (stand t) (wanted s) (wanted t) none x (steps s t call)) old new calls first
+  pub took_all : (h : HubState) (seat : ℕ) (base : StoreStand) (old new : T) → LooksAnew h → TakenIn h seat base (stand old) (wanted old) → Ruled rule old new → TakenIn h seat base (stand new) (wanted new)
+  took_all h seat base old new anew first calls =
+      ruled_all rule (λ (s : T) (t : T). TakenIn h seat base (stand s) (wanted s) → TakenIn h seat base (stand t) (wanted t)) (λ s x. x) (λ s t u f g x. g (f x)) (λ s t call x. taken_then h seat base (stand s) (stand t) (wanted s) (wanted t) anew x (steps s t call)) old new calls first
 
 -- No call, and one behind another.
 
 pub takes_none : (old : StoreStand) → old.state.counts.broken ≡ None → TakesIn old old None
-takes_none old whole h none fitted drawn settled = taken_none h old.state.seat old whole fitted drawn settled refl
+takes_none old whole h anew fitted drawn settled = taken_none h old.state.seat old whole fitted drawn settled refl
 
 pub takes_step : (old new : StoreStand) (now : Option Wanting) → Stepped old None new now → TakesIn old new now
-takes_step old new now step h none fitted drawn settled =
-    taken_then h old.state.seat old old new None now none (taken_none h old.state.seat old step.whole fitted drawn settled refl) step
+takes_step old new now step h anew fitted drawn settled =
+    taken_then h old.state.seat old old new None now anew (taken_none h old.state.seat old step.whole fitted drawn settled refl) step
 
 pub takes_then : (a b c : StoreStand) (now : Option Wanting) → b.state.counts.broken ≡ None → TakesIn a b None → TakesIn b c now → TakesIn a c now
-takes_then a b c now whole first second h none fitted drawn settled =
-    let x = first h none fitted drawn settled in
-    let y = subst (λ (k : ℕ). TakenIn h k b c now) x.turn (second h none (x.fitted whole) (x.drawn whole) (x.settled whole)) in
+takes_then a b c now whole first second h anew fitted drawn settled =
+    let x = first h anew fitted drawn settled in
+    let y = subst (λ (k : ℕ). TakenIn h k b c now) x.turn (second h anew (x.fitted whole) (x.drawn whole) (x.settled whole)) in
     taken_on h a.state.seat a b c now whole x y
 
 -- What is asked of the disk.
@@ -57,16 +58,16 @@ asks_takes {T} r old new whole asks = takes_step old new None (record { whole = 
 
 -- All calls of a take-in, at which nothing was wanted before.
 pub takes_ruled : {T : Type 0} (stand : T → StoreStand) (wanted : T → Option Wanting) (rule : T → T → Type 0) (steps : (s t : T) → rule s t → Stepped (stand s) (wanted s) (stand t) (wanted t)) (old new : T) → (stand old).state.counts.broken ≡ None → wanted old ≡ None → Ruled rule old new → TakesIn (stand old) (stand new) (wanted new)
-takes_ruled stand wanted rule steps old new whole unwanted calls h none fitted drawn settled =
+takes_ruled stand wanted rule steps old new whole unwanted calls h anew fitted drawn settled =
     let seat = (stand old).state.seat in
-    took_all stand wanted rule steps h seat (stand old) old new none (subst (λ (w : Option Wanting). TakenIn h seat (stand old) (stand old) w) (sym unwanted) (taken_none h seat (stand old) whole fitted drawn settled refl)) calls
+    took_all stand wanted rule steps h seat (stand old) old new anew (subst (λ (w : Option Wanting). TakenIn h seat (stand old) (stand old) w) (sym unwanted) (taken_none h seat (stand old) whole fitted drawn settled refl)) calls
 
 -- The seat takes its turn, and then its peer's outbound in.
-pub takes_all : (h : HubState) (seat : ℕ) (u v w : StoreStand) (now : Option Wanting) → NoSittings h → u.state.counts.broken ≡ None → Fitted u.state h → AreDrawn u.state → StoreKept u (By_seat seat) Well v → TakesIn v w now → TakenIn h seat u w now
-takes_all h seat u v w now none whole fitted drawn turns takes =
-    let turn = turn_taken h seat u v none whole fitted drawn turns in
+pub takes_all : (h : HubState) (seat : ℕ) (u v w : StoreStand) (now : Option Wanting) → LooksAnew h → u.state.counts.broken ≡ None → Fitted u.state h → AreDrawn u.state → StoreKept u (By_seat seat) Well v → TakesIn v w now → TakenIn h seat u w now
+takes_all h seat u v w now anew whole fitted drawn turns takes =
+    let turn = turn_taken h seat u v anew whole fitted drawn turns in
     let still : v.state.counts.broken ≡ None = ap (λ (s : StoreState). s.counts.broken) turns.made ∙ whole in
-    let x = subst (λ (k : ℕ). TakenIn h k v w now) turn.turn (takes h none (turn.fitted still) (turn.drawn still) (turn.settled still)) in
+    let x = subst (λ (k : ℕ). TakenIn h k v w now) turn.turn (takes h anew (turn.fitted still) (turn.drawn still) (turn.settled still)) in
     taken_on h seat u v w now still turn x
 
 -- What a take-in before a session came to.
@@ -87,8 +88,8 @@ ends_wanting : (h : HubState) (seat : ℕ) (u v : StoreStand) (want : Wanting) �
 ends_wanting h seat u v want whole x =
     record { now = Some want; taken = x; refused = refused_so x.events want (subst (λ (o : Option ℕ). EndsSo x.events o (Some want)) whole x.ends) }
 
-pub ends_wanted : (h : HubState) (seat : ℕ) (u v : StoreStand) (by_calls : Option Wanting) (want : Wanting) → NoSittings h → v.state.counts.broken ≡ None → WantsSo by_calls (Some want) → TakenIn h seat u v by_calls → Refuses h seat u (fault_wanted want) v
-ends_wanted h seat u v (Some by_calls) want none whole wants x =
+pub ends_wanted : (h : HubState) (seat : ℕ) (u v : StoreStand) (by_calls : Option Wanting) (want : Wanting) → LooksAnew h → v.state.counts.broken ≡ None → WantsSo by_calls (Some want) → TakenIn h seat u v by_calls → Refuses h seat u (fault_wanted want) v
+ends_wanted h seat u v (Some by_calls) want anew whole wants x =
     ends_wanting h seat u v want whole (subst (λ (o : Option Wanting). TakenIn h seat u v o) (sym wants) x)
-ends_wanted h seat u v None Places none whole wants x = absurd wants
-ends_wanted h seat u v None Memory none whole wants x = ends_wanting h seat u v Memory whole (short_of_memory h seat u v none whole x)
+ends_wanted h seat u v None Places anew whole wants x = absurd wants
+ends_wanted h seat u v None Memory anew whole wants x = ends_wanting h seat u v Memory whole (short_of_memory h seat u v anew whole x)

@@ -1,5 +1,5 @@
--- A desk that is alone at its hub, and the take-in before its session (own).
-use Rattle.std.specs.Prelude.{◌≡◌, ℕ, Option, Some, None, Result, Ok, Err, length}
+-- The desk of a seat, what its calls change of the hub, and the take-in before its session (own).
+use Rattle.std.specs.Prelude.{◌≡◌, ◌≢◌, ℕ, Option, Some, None, Result, Ok, Err, length}
 use Rattle.ftn_addr.specs.Address.{Address}
 use Rattle.ftn_addr.specs.Limits.{IsAddress}
 use Rattle.node_model.specs.Calls.{EndsRefused}
@@ -7,21 +7,30 @@ use Rattle.node_model.specs.Desks.{fault_of}
 use Rattle.node_model.specs.declared.desk.DeskFault.{DeskFault}
 use Rattle.node_model.specs.declared.desk.DeskFault.TheVariants as D
 use Rattle.node_model.specs.Stores.{StoreStand}
-use Rattle.hub_core.specs.Hubs.{HubState, Fitted, IsReady, IsSettled}
+use Rattle.hub_core.specs.Anew.{LooksAnew}
+use Rattle.hub_core.specs.Anew.{LooksAnew, chair_anew}
+use Rattle.hub_core.specs.Hubs.{HubState, Fitted, IsReady, IsSettled, chair_in}
 use Rattle.take_steps.specs.declared.wanting.Wanting.{Wanting}
 use Rattle.take_steps.specs.declared.wanting.Wanting.TheVariants.{Places, Memory}
-use Rattle.outbound_desk.specs.TakenIn.{AreDrawn, NoSittings, TakenIn}
+use Rattle.outbound_desk.specs.TakenIn.{AreDrawn, TakenIn}
 
--- a ready seat, the one of its hub, and the home within its limits
-pub record IsReadyAlone (w : StoreStand) (h : HubState) (seat : ℕ) (home : Address) : Type 0 where
+-- a ready seat, and the home within its limits
+pub record IsDeskReady (w : StoreStand) (h : HubState) (seat : ℕ) (home : Address) : Type 0 where
   pub ready : IsReady w h seat
-  pub alone : length h.chairs ≡ 1
   pub home_within : IsAddress home
 
--- The calls of take-ins are rows of the seat whose turn it is, at every hub without sessions that fits the store.
+-- A call of a seat is its own: the hub's settings are as before, and so are its other seats, but that their sessions may look anew for
+-- what they offer; the records that the store makes next are this seat's.
+pub record OwnTurn (seat : ℕ) (h : HubState) (w : StoreStand) (g : HubState) : Type 0 where
+  pub settings : g.settings ≡ h.settings
+  pub seats : length g.chairs ≡ length h.chairs
+  pub others : (k : ℕ) → k ≢ seat → chair_anew (chair_in g.chairs k) ≡ chair_anew (chair_in h.chairs k)
+  pub turn : w.state.seat ≡ seat
+
+-- The calls of take-ins are rows of the seat whose turn it is, at every hub that fits the store and whose sessions look anew.
 abbrev pub TakesIn : StoreStand → StoreStand → Option Wanting → Type 0
 TakesIn old new now =
-    (h : HubState) → NoSittings h → Fitted old.state h → AreDrawn old.state → IsSettled old → TakenIn h old.state.seat old new now
+    (h : HubState) → LooksAnew h → Fitted old.state h → AreDrawn old.state → IsSettled old → TakenIn h old.state.seat old new now
 
 -- what is wanted at the end of a take-in: what the calls of its store found no more of, or else memory, where it found none itself
 abbrev pub WantsSo : (by_calls at_end : Option Wanting) → Type 0

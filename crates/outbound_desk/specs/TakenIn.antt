@@ -1,5 +1,5 @@
--- What the calls of a take-in are to the node of a hub without sessions: rows of the seat whose turn it is, and what a stop leaves
--- of them (own).
+-- What the calls of a take-in are to the node of a hub whose sessions look anew for what they offer: rows of the seat whose turn it is,
+-- and what a stop leaves of them (own).
 use Rattle.std.specs.Prelude.{◌≡◌, ℕ, ◌≤◌, ◌<◌, List, Option, Some, None}
 use Rattle.ftn_addr.specs.Moments.{MomentsGrew}
 use Rattle.ftn_addr.specs.declared.limits.TheConstants.{MAX_NUMBER}
@@ -8,14 +8,11 @@ use Rattle.node_model.specs.Images.{BesidePass}
 use Rattle.node_model.specs.Lists.{Each}
 use Rattle.node_model.specs.Stocks.{StagedOf}
 use Rattle.node_model.specs.Stores.{Shelf, StoreState, StoreStand, OpensShelf}
-use Rattle.hub_core.specs.Hubs.{HubState, Fitted, IsSettled, knows_over, sitting_at}
+use Rattle.hub_core.specs.Anew.{LooksAnew}
+use Rattle.hub_core.specs.Hubs.{HubState, Fitted, IsSettled, knows_over}
 use Rattle.take_steps.specs.Steps.{Stepped}
 use Rattle.take_steps.specs.declared.wanting.Wanting.{Wanting}
 use Rattle.take_steps.specs.declared.wanting.Wanting.TheVariants.{Places, Memory}
-
--- no session is open
-abbrev pub NoSittings : HubState → Type 0
-NoSittings h = (k : ℕ) → sitting_at h k ≡ None
 
 -- the numbers of the staged files were drawn, and of numbers there are so many
 pub record AreDrawn (s : StoreState) : Type 0 where
@@ -48,8 +45,8 @@ pub record TakenIn (h : HubState) (seat : ℕ) (old new : StoreStand) (now : Opt
   pub drawn : new.state.counts.broken ≡ None → AreDrawn new.state
   pub turn : new.state.seat ≡ seat
 
--- A step of a take-in, before which nothing was wanted, is so for every hub without sessions that fits the store.
+-- A step of a take-in, before which nothing was wanted, is so for every hub that fits the store and whose sessions look anew.
 abbrev pub TakeInsAreRows : StoreStand → StoreStand → Type 0
 TakeInsAreRows old new =
     (h : HubState) (seat : ℕ) (now : Option Wanting)
-    → NoSittings h → old.state.seat ≡ seat → Fitted old.state h → AreDrawn old.state → Stepped old None new now → TakenIn h seat old new now
+    → LooksAnew h → old.state.seat ≡ seat → Fitted old.state h → AreDrawn old.state → Stepped old None new now → TakenIn h seat old new now

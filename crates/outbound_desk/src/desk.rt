@@ -1,12 +1,13 @@
 //! The desk of a seat that takes the outbound of its peer in.
-ghost use Rattle.std.specs.Prelude.{◌≡◌, false, true, length, map};
+ghost use Rattle.std.specs.Prelude.{◌≡◌, true, map};
 ghost use Rattle.std.specs.List.{All};
 ghost use Rattle.ftn_addr.specs.Address.{address};
 ghost use Rattle.ftn_addr.specs.Limits.{IsAddress};
+ghost use Rattle.hub_core.specs.Anew.{LooksAnew};
 ghost use Rattle.hub_core.specs.HubLaws.{seat_tied};
 ghost use Rattle.hub_core.specs.Hubs.{hub_stand, hub_state, seat_part};
 ghost use Rattle.node_store.specs.Stored.{stand_of};
-ghost use Rattle.outbound_desk.specs.Lines.{IsReadyAlone, TakesPeers, fault_wanted};
+ghost use Rattle.outbound_desk.specs.Lines.{IsDeskReady, OwnTurn, TakesPeers, fault_wanted};
 
 use crate::peers::take_peers;
 use disk_model::Yard;
@@ -26,7 +27,8 @@ pub struct DeskOutbound {
     pub zone: u16,
 }
 
-/// The desk of the one seat of a hub. As a session begins at it, it first takes in the outbound of each peer address.
+/// The desk of a seat of a hub. As a session begins at it, it first takes in the outbound of each peer address, and has the hub's sessions
+/// look anew for what they offer, since files are queued so.
 #[derive(Drop)]
 pub struct LineDesk<S: Store> {
     pub desk: HubDesk<S>,
@@ -47,8 +49,8 @@ impl<D: Yard> LineDesk<TakingStore<D>> {
     /// Takes in the outbound of each peer address for which something is to be taken in, but of the home. One that another program has
     /// marked is passed over.
     fn take_in_first(&mut self, alloc: Global, peers: &[Addr], now: u64) -> Result<(), DeskFault>
-        requires ready { IsReadyAlone (stand_of D.tells D.content D.fault_count D.moment D.images self.old.desk.hub.store.store) (hub_state self.old.desk.hub.seats) self.old.desk.seat (address self.old.outbound.home) }
-        requires none_yet { (seat_part (hub_state self.old.desk.hub.seats) self.old.desk.seat).open_now ≡ false }
+        requires ready { IsDeskReady (stand_of D.tells D.content D.fault_count D.moment D.images self.old.desk.hub.store.store) (hub_state self.old.desk.hub.seats) self.old.desk.seat (address self.old.outbound.home) }
+        requires anew { LooksAnew (hub_state self.old.desk.hub.seats) }
         requires whole { self.old.desk.hub.store.store.memory.broken ≡ None }
         requires limits { All IsAddress (map address peers.now) }
         ensures takes { TakesPeers (hub_state self.old.desk.hub.seats) self.old.desk.seat (stand_of D.tells D.content D.fault_count D.moment D.images self.old.desk.hub.store.store) result (stand_of D.tells D.content D.fault_count D.moment D.images self.new.desk.hub.store.store) }
@@ -82,10 +84,11 @@ impl<D: Yard> Desk for LineDesk<TakingStore<D>> {
 
     ghost part = { λ d. seat_part (hub_state d.desk.hub.seats) d.desk.seat };
 
-    ghost ready = { λ d. IsReadyAlone (stand_of D.tells D.content D.fault_count D.moment D.images d.desk.hub.store.store) (hub_state d.desk.hub.seats) d.desk.seat (address d.outbound.home) };
+    ghost ready = { λ d. IsDeskReady (stand_of D.tells D.content D.fault_count D.moment D.images d.desk.hub.store.store) (hub_state d.desk.hub.seats) d.desk.seat (address d.outbound.home) };
 
-    ghost rule = { λ d e. (e.desk.seat ≡ d.desk.seat) × (e.outbound ≡ d.outbound) };
+    ghost rule = { λ d e. (e.desk.seat ≡ d.desk.seat) × (e.outbound ≡ d.outbound) × OwnTurn d.desk.seat (hub_state d.desk.hub.seats) (stand_of D.tells D.content D.fault_count D.moment D.images e.desk.hub.store.store) (hub_state e.desk.hub.seats) };
 
+    #[tactic(auto, using(crate::proofs::Own::own_turn))]
     fn knock(&mut self, role: Role) -> Result<Knock, DeskFault> {
         self.desk.knock(role)
     }
@@ -101,36 +104,44 @@ impl<D: Yard> Desk for LineDesk<TakingStore<D>> {
         if self.desk.hub.store.broken().is_some() {
             return self.desk.begin(alloc, role, peers, secure, now);
         }
+        self.desk.hub.look_anew();
         match self.take_in_first(alloc, peers, now) {
             Ok(()) => self.desk.begin(alloc, role, peers, secure, now),
             Err(fault) => Err(fault),
         }
     }
 
+    #[tactic(auto, using(crate::proofs::Own::own_turn))]
     fn offer(&mut self, alloc: Global) -> Result<Offer, DeskFault> {
         self.desk.offer(alloc)
     }
 
+    #[tactic(auto, using(crate::proofs::Own::own_turn))]
     fn read(&mut self, at: u64, out: &mut [u8]) -> Result<usize, DeskFault> {
         self.desk.read(at, out)
     }
 
+    #[tactic(auto, using(crate::proofs::Own::own_turn))]
     fn got(&mut self) -> Result<(), DeskFault> {
         self.desk.got()
     }
 
+    #[tactic(auto, using(crate::proofs::Own::own_turn))]
     fn skip(&mut self) {
         self.desk.skip();
     }
 
+    #[tactic(auto, using(crate::proofs::Own::own_turn))]
     fn file_in(&mut self, alloc: Global, key: &FileKey, offset: u64) -> Result<FileIn, DeskFault> {
         self.desk.file_in(alloc, key, offset)
     }
 
+    #[tactic(auto, using(crate::proofs::Own::own_turn))]
     fn data_in(&mut self, bytes: &[u8]) -> Result<DataIn, DeskFault> {
         self.desk.data_in(bytes)
     }
 
+    #[tactic(auto, using(crate::proofs::Own::own_turn))]
     fn leave(&mut self) -> Result<(), DeskFault> {
         self.desk.leave()
     }

@@ -1,4 +1,4 @@
-//! The desk of the one seat of a hub whose session begins with the take-in of its peer's outbound (FTS-5005).
+//! The desk of a seat of a hub whose session begins with the take-in of its peer's outbound (FTS-5005).
 //!
 //! [`LineDesk`] is a desk as `hub_core`'s `HubDesk` is, over a store on a disk. As a session opens at it, it lists for which
 //! addresses something is to be taken in, and takes in the outbound of those among them that the peer has. An address that another

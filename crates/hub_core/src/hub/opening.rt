@@ -2,6 +2,7 @@
 ghost use Rattle.std.specs.Prelude.{◌≡◌, ℕ, IfOk, OnOk, OnErr, false, None, option_map, length};
 ghost use Rattle.ftn_addr.specs.Address.{address};
 ghost use Rattle.node_model.specs.Node.{Settings};
+ghost use Rattle.hub_core.specs.Anew.{LooksAnew, anew};
 ghost use Rattle.hub_core.specs.Hubs.{IsReady, hub_state, seat_part, settings_of, sitting_at};
 ghost use Rattle.hub_core.specs.Opening.{IsWhole, no_seats, shown, with_seat};
 
@@ -71,6 +72,17 @@ impl<S: Store> Hub<S> {
             Some(open) => Some((&open.first, open.moment)),
             None => None,
         }
+    }
+
+    /// Each session looks for what it offers next from the start, as it has to where files were queued while it is open: they may stand
+    /// before the place that it went on from. What was ready is so still. It takes steps in proportion to the seats.
+    pub fn look_anew(&mut self)
+        ensures seats { hub_state self.new.seats ≡ anew (hub_state self.old.seats) }
+        ensures anew { LooksAnew (hub_state self.new.seats) }
+        ensures store { self.new.store ≡ self.old.store }
+        ensures ready { (seat : ℕ) → IsReady (S.stand self.old.store) (hub_state self.old.seats) seat → IsReady (S.stand self.new.store) (hub_state self.new.seats) seat }
+    {
+        self.seats.look_anew();
     }
 
     /// The store, where the sessions left it. It fits a new hub, with any settings.

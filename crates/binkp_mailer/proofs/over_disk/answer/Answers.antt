@@ -2,8 +2,8 @@ use Rattle.std.proofs.Common.{ap, refl}
 use Rattle.mail_conf.specs.ConfView.{conf_text}
 use Rattle.session_auth.specs.Sides.{Answers}
 use Rattle.command_base.specs.Statuses.{status_unopened}
+use Rattle.outbound_desk.proofs.NewStores.{new_whole}
 use Rattle.binkp_mailer.specs.DiskCall.{Not_opened, Answered}
-use Rattle.binkp_mailer.proofs.DiskCalls.{new_whole}
 use Rattle.binkp_mailer.proofs.ReadOnly.{retold}
 use Rattle.binkp_mailer.proofs.over_disk.answer.Goals as goal
 

@@ -1,10 +1,9 @@
 use Rattle.std.proofs.Common.{ap, refl, ◌∙◌}
-use Rattle.hub_core.specs.Hubs.{hub_state}
 use Rattle.mail_conf.specs.ConfView.{conf_text}
 use Rattle.node_store.specs.Stored.{Holding, Memory}
 use Rattle.command_base.specs.Statuses.{status_unopened}
+use Rattle.outbound_desk.proofs.NewStores.{new_whole}
 use Rattle.binkp_mailer.specs.ServeCall.{No_room, Not_opened, Served_so}
-use Rattle.binkp_mailer.proofs.DiskCalls.{new_whole}
 use Rattle.binkp_mailer.proofs.ServeCalls.{new_rest, served_from}
 use Rattle.binkp_mailer.proofs.over_serve.serve_by.Goals as goal
 

@@ -3,8 +3,8 @@ use Rattle.ftn_addr.specs.Address.{address}
 use Rattle.mail_conf.specs.ConfView.{conf_text}
 use Rattle.session_auth.specs.Sides.{Calls}
 use Rattle.command_base.specs.Statuses.{status_unopened}
+use Rattle.outbound_desk.proofs.NewStores.{new_whole}
 use Rattle.binkp_mailer.specs.DiskCall.{Not_opened, Called}
-use Rattle.binkp_mailer.proofs.DiskCalls.{new_whole}
 use Rattle.binkp_mailer.proofs.ReadOnly.{retold}
 use Rattle.binkp_mailer.proofs.reaching.call_host.Goals as goal
 

@@ -1,10 +1,10 @@
-use Rattle.std.proofs.Common.{◌∙◌, ap, length, subst, sym}
+use Rattle.std.proofs.Common.{◌∙◌, ap, subst, sym}
 use Rattle.ftn_addr.specs.Limits.{IsAddress}
 use Rattle.mail_conf.specs.ConfView.{conf_text}
 use Rattle.node_model.specs.StoreStates.{StoreStand}
 use Rattle.node_store.specs.Stored.{Holding, stand_of}
 use Rattle.hub_core.specs.Hubs.{HubState, settings_of}
-use Rattle.hub_core.specs.Opening.{IsWhole, no_seats, with_seat}
+use Rattle.hub_core.specs.Opening.{IsWhole, no_seats}
 use Rattle.outbound_store.specs.declared.taking_store.TakingStore.{TakingStore}
 use Rattle.still_commands.proofs.Before.{home_within}
 use Rattle.binkp_mailer.proofs.with_outbound.desk_over.Goals as goal
@@ -18,6 +18,5 @@ returns-clause-ready g c =
     let whole = subst (λ (h : HubState). IsWhole (St c.new-hub.result.store.store) h) (sym c.new-hub.ensures.seats) at_store in
     record {
       ready = c.in-Ok-seat.ensures.ready whole;
-      alone = ap (λ (h : HubState). length h.chairs) (c.in-Ok-seat.ensures.ok ∙ ap with_seat c.new-hub.ensures.seats);
       home_within = subst IsAddress (sym c.in-Ok-outbound_of.ensures) (home_within (conf_text c.args.conf.now) c.requires.keeps);
     }

@@ -2,7 +2,7 @@ use Rattle.ftn_addr.specs.Address.{address}
 use Rattle.ftn_addr.specs.Limits.{IsAddress}
 use Rattle.outbound_intake.proofs.FileLemmas.{there_at}
 use Rattle.outbound_take.proofs.RuledLemmas.{ruled_on}
-use Rattle.outbound_desk.proofs.Alone.{all_there}
+use Rattle.outbound_desk.proofs.EachPeer.{all_there}
 use Rattle.outbound_desk.proofs.peers.take_each.Goals as goal
 
 pub take_peer-requires-clause-address : goal.take_peer-requires-clause-address
