@@ -59,7 +59,7 @@ fn outbound(alloc: Global) -> Result<DeskOutbound>
 }
 
 // A hub of two seats over that store, at the first of them.
-fn seated<D: Yard>(alloc: Global, store: NodeStore<D>) -> Result<HubDesk<TakingStore<D>>>
+fn seated<D: Yard + Drop>(alloc: Global, store: NodeStore<D>) -> Result<HubDesk<TakingStore<D>>>
     requires { (settings : Settings) → IsWhole (stand_of D.tells D.content D.fault_count D.moment D.images store) (no_seats settings) }
     ensures { IfOk result (λ desk. IsReady (stand_of D.tells D.content D.fault_count D.moment D.images desk.hub.store.store) (hub_state desk.hub.seats) desk.seat) }
 {
@@ -75,7 +75,7 @@ fn seated<D: Yard>(alloc: Global, store: NodeStore<D>) -> Result<HubDesk<TakingS
 }
 
 // The store of that disk.
-fn store_of<D: Yard>(alloc: Global, disk: D) -> Result<NodeStore<D>>
+fn store_of<D: Yard + Drop>(alloc: Global, disk: D) -> Result<NodeStore<D>>
     requires ready { D.tells ≡ true → Every (Now D.moment D.images disk) (IsReadyDisk (D.content disk)) }
     ensures { IfOk result (λ store. (settings : Settings) → IsWhole (stand_of D.tells D.content D.fault_count D.moment D.images store) (no_seats settings)) }
 {
@@ -91,7 +91,7 @@ fn store_of<D: Yard>(alloc: Global, disk: D) -> Result<NodeStore<D>>
 }
 
 /// The second of two seats of a hub over the store of that disk.
-pub fn open<D: Yard>(alloc: Global, disk: D) -> Result<Box<Seats<D>>>
+pub fn open<D: Yard + Drop>(alloc: Global, disk: D) -> Result<Box<Seats<D>>>
     requires ready { D.tells ≡ true → Every (Now D.moment D.images disk) (IsReadyDisk (D.content disk)) }
 {
     let store = store_of(alloc, disk)?;
@@ -152,7 +152,7 @@ fn said<T: Debug + Drop>(alloc: Global, answer: T) -> Result<String> {
     Ok(format!(in alloc; "{answer:?}")?)
 }
 
-impl<D: Yard> Seats<D> {
+impl<D: Yard + Drop> Seats<D> {
     // Turns to another seat, where that was given.
     fn turn(&mut self, alloc: Global, words: &[&str]) -> Result<String> {
         let seat = word(words, 1).parse::<u32>()?;
