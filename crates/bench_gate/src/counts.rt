@@ -15,6 +15,8 @@ pub struct Counts {
 }
 
 impl Grows for Counts {
+    ghost use Rattle.std.proofs.Common.{inl, refl};
+
     type State = Counts;
 
     type Entry = ();
@@ -27,6 +29,8 @@ impl Grows for Counts {
 
     ghost entries = { λ s. [] };
 
+    ghost length_of = { λ s. 0 };
+
     ghost by = { λ e. 0 };
 
     ghost part = { λ k s. count_of s k };
@@ -36,6 +40,8 @@ impl Grows for Counts {
     fn grown(&self) -> u64 {
         0
     }
+
+    ghost told_whole_or_not = { λ x. inl refl };
 
     ghost turn_is_own = { λ seat a b turn. turn };
 }

@@ -16,6 +16,8 @@ struct Pairs {
 }
 
 impl Grows for Pairs {
+    ghost use Rattle.std.proofs.Common.{inl, refl};
+
     type State = LinkedList<(u32, u64)>;
 
     type Entry = (u32, u64);
@@ -28,6 +30,8 @@ impl Grows for Pairs {
 
     ghost entries = { λ s. s };
 
+    ghost length_of = { λ s. length s };
+
     ghost by = { λ e. e.0 };
 
     ghost part = { λ k s. tt };
@@ -37,6 +41,8 @@ impl Grows for Pairs {
     fn grown(&self) -> u64 {
         self.items.len() as u64
     }
+
+    ghost told_whole_or_not = { λ x. inl refl };
 
     ghost turn_is_own = { λ seat a b turn. turn };
 }

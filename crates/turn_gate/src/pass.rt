@@ -1,5 +1,5 @@
 //! A pass: the right of one seat to enter.
-ghost use Rattle.std.specs.Prelude.{◌≡◌, ℕ, [], ◌∷◌, length, slice_index_or};
+ghost use Rattle.std.specs.Prelude.{◌≡◌, ℕ, [], ◌∷◌, slice_index_or};
 ghost use Rattle.turn_gate.specs.Views.{as_keeper};
 
 use crate::grows::Grows;
@@ -15,16 +15,16 @@ pub struct Pass<T: Grows> {
     pub(crate) seen: u64,
     pub(crate) token: Seat<Option<Counted<T>>, View<T::State>>,
     pub(crate) keeper: Badge<View<T::State>>,
-    ghost numbered: { (seat ≡ token.me.0.seat) × (seen ≡ length (T.entries token.me.0.left)) },
+    ghost numbered: { (seat ≡ token.me.0.seat) × (seen ≡ T.length_of token.me.0.left) },
     ghost keeps: { token.me.0.seat ≡ 0 → (keeper.table_id ≡ token.table_id) × (keeper.views ≡ as_keeper (slice_index_or keeper.views 0 token.me.0) ∷ []) },
 }
 
 impl<T: Grows> Pass<T> {
     ghost use Rattle.turn_gate.specs.Passes.{view};
 
-    /// The length of the list that this pass has seen. Takes no memory.
+    /// How many entries the list has that this pass has seen. Takes no memory.
     pub fn seen(&self) -> u64
-        ensures { result ≡ length (T.entries (view self.now).left) }
+        ensures { result ≡ T.length_of (view self.now).left }
     {
         self.seen
     }

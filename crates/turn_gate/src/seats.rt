@@ -18,7 +18,7 @@ fn later_pass<T: Grows>(
     token: Seat<Option<Counted<T>>, View<T::State>>,
 ) -> Pass<T>
     requires seat { (0 < seat) × (seat ≡ token.me.0.seat) }
-    requires seen { seen ≡ length (T.entries token.me.0.left) }
+    requires seen { seen ≡ T.length_of token.me.0.left }
     ensures { result.token ≡ token }
 {
     Pass {
@@ -36,7 +36,7 @@ fn first_pass<T: Grows>(
     keeper: Seat<Option<Counted<T>>, View<T::State>>,
 ) -> Pass<T>
     requires seat { token.me.0.seat ≡ 0 }
-    requires seen { seen ≡ length (T.entries token.me.0.left) }
+    requires seen { seen ≡ T.length_of token.me.0.left }
     requires keeper { (keeper.table_id ≡ token.table_id) × (keeper.me ≡ (as_keeper keeper.me.0, [])) }
     ensures { result.token ≡ token }
 {
@@ -59,7 +59,7 @@ pub(crate) fn give_out<T: Grows>(
     requires table { (keeper.table_id ≡ shared.now.table_id) × (0 < shared.now.table_id.words) × (keeper.me ≡ (keeper_view keeper.me.0.left 0 [], [])) }
     requires seats { (0 < seats) × (seats ≤ shared.now.key.seats) }
     requires room { (passes.old.items ≡ []) × (seats ≤ passes.old.cap) }
-    requires seen { seen ≡ length (T.entries keeper.me.0.left) }
+    requires seen { seen ≡ T.length_of keeper.me.0.left }
     ensures passes { (vec_len passes.new ≡ seats) × ((k : ℕ) (d : _) → k < seats → IsNewAt shared.now.table_id keeper.me.0.left k (slice_index_or passes.new.items k d).token.table_id (slice_index_or passes.new.items k d).token.me) }
 {
     let first = shared.split_seat::<SplitSeat<T>>(&mut keeper);

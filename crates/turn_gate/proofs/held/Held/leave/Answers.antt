@@ -1,4 +1,4 @@
-use Rattle.std.proofs.Common.{rules, ℕ, [], ◌∷◌, ◌+◌, length, None, Some, sym, ap, ◌∙◌, refl}
+use Rattle.std.proofs.Common.{rules, ℕ, [], ◌∷◌, ◌+◌, None, Some, sym, ap, ◌∙◌, refl}
 use mathlib.Core.Option.{none}
 use Rattle.atomic_table.specs.Table.{rest, step}
 use Rattle.turn_gate.specs.declared.view.Counted.{Counted}
@@ -56,7 +56,7 @@ invariant_of-pass g c =
     let e = c.swap.ensures.2 ∙ ap (λ m. (after_release m.0, [])) (c.exchange.ensures.3 ∙ ap (λ m. (m.0, (0, Some x) ∷ rest m.1)) (c.compare_exchange_with.ensures.2 x refl)) in
     let p = c.args.pass.now in
     record {
-      numbered = (p.numbered.0 ∙ sym (ap (λ m. m.0.seat) e), c.grown-seen.ensures ∙ sym (ap (λ m. length (g.T.Grows.entries m.0.left)) e));
+      numbered = (p.numbered.0 ∙ sym (ap (λ m. m.0.seat) e), c.grown-seen.ensures ∙ sym (ap (λ m. g.T.Grows.length_of m.0.left) e));
       keeps = λ first. let k = p.keeps (sym (ap (λ m. m.0.seat) e) ∙ first) in (
         k.0 ∙ sym (c.swap.ensures.0 ∙ (c.exchange.ensures.0 ∙ c.compare_exchange_with.ensures.0)),
         same_keeper p.keeper.views _ _ k.1,
