@@ -1,0 +1,39 @@
+use Rattle.std.proofs.Common.{ap, subst, sym, ℕ, ◌+◌, ◌∙◌}
+use Rattle.node_model.specs.Calls.{Got_call}
+use Rattle.node_model.specs.Desks.{DeskPart, HasClaim, number_in, settled_answer}
+use Rattle.turn_gate.specs.Passes.{view}
+use Rattle.shared_desk.proofs.Calling.{says, turns}
+use Rattle.shared_desk.proofs.desk.GateDeskDesk.got.Goals as goal
+
+pub come-held-requires : goal.come-held-requires
+come-held-requires g c = record { free = c.requires.ready.free; ready = c.requires.ready.ready }
+
+pub got-answer-requires : goal.got-answer-requires
+got-answer-requires g c = let i = c.come-held.ensures in record { ready = i.ready; in_session = ap (λ (p : DeskPart). p.open_now) i.part ∙ c.requires.in_session; claimed = subst HasClaim (sym i.part) c.requires.claimed }
+
+pub go-requires : goal.go-requires
+go-requires g c =
+    let old = view c.args.self.now.pass in
+    let i = c.come-held.ensures in
+    let o = c.got-answer.ensures in
+    let d = c.come-held.result.value in
+    let e = c.got-answer.new.self in
+    let inside = view c.come-held.new.pass in
+    record { has_turn = i.has_turn; turn = turns g.V.Roams.sight g.V.Grows.state g.V.Roams.at g.V.Desk.stand g.V.Desk.part g.V.Desk.ready g.V.Desk.rule g.met.V.Roams.sits g.met.V.Roams.own g.V.Desk.alone g.met.V.Roams.is_alone old.seat old.left d e (λ p. Got_call (number_in p.claim)) (settled_answer c.got-answer.result) i.ready i.at i.found (i.within old.seat) o.ready o.rule o.made o.part inside.seat inside.taken i.seat i.taken }
+
+pub returns : goal.returns
+returns g c =
+    let old = view c.args.self.now.pass in
+    let i = c.come-held.ensures in
+    let o = c.got-answer.ensures in
+    let d = c.come-held.result.value in
+    let e = c.got-answer.new.self in
+    let new = view c.go.new.pass in
+    let seat = c.go.ensures.seat ∙ i.seat in
+    let w = says g.V.Roams.sight g.V.Grows.state g.V.Roams.at g.V.Desk.stand g.V.Desk.part g.V.Desk.ready g.V.Desk.rule g.met.V.Roams.sits g.met.V.Roams.own g.V.Desk.alone g.met.V.Roams.is_alone old.seat old.left d e (λ p. Got_call (number_in p.claim)) (settled_answer c.got-answer.result) i.ready i.at i.found (i.within old.seat) o.ready o.rule o.made o.part new.seat new.left seat c.go.ensures.left in
+    record {
+      made = w.made;
+      part = w.part;
+      ready = record { free = c.go.ensures.free; named = c.go.ensures.free.of ∙ (sym c.requires.ready.free.of ∙ c.requires.ready.named); ready = w.ready };
+      rule = record { seat = seat; turns = c.go.ensures.turns ∙ ap (λ (n : ℕ). n + 1) i.turns };
+    }

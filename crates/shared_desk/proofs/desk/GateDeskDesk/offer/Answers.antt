@@ -1,0 +1,40 @@
+use Rattle.std.proofs.Common.{ap, sym, ℕ, ◌+◌, ◌∙◌}
+use Rattle.node_model.specs.Calls.{Offer_call}
+use Rattle.node_model.specs.Desks.{DeskPart, offer_answer}
+use Rattle.turn_gate.specs.Passes.{view}
+use Rattle.shared_desk.proofs.Calling.{part_there, says, turns}
+use Rattle.shared_desk.proofs.desk.GateDeskDesk.offer.Goals as goal
+
+pub come-held-requires : goal.come-held-requires
+come-held-requires g c = record { free = c.requires.ready.free; ready = c.requires.ready.ready }
+
+pub offer-answer-requires : goal.offer-answer-requires
+offer-answer-requires g c = let i = c.come-held.ensures in record { ready = i.ready; in_session = ap (λ (p : DeskPart). p.open_now) i.part ∙ c.requires.in_session; free = ap (λ (p : DeskPart). p.claim) i.part ∙ c.requires.free }
+
+pub go-requires : goal.go-requires
+go-requires g c =
+    let old = view c.args.self.now.pass in
+    let i = c.come-held.ensures in
+    let o = c.offer-answer.ensures in
+    let d = c.come-held.result.value in
+    let e = c.offer-answer.new.self in
+    let inside = view c.come-held.new.pass in
+    record { has_turn = i.has_turn; turn = turns g.V.Roams.sight g.V.Grows.state g.V.Roams.at g.V.Desk.stand g.V.Desk.part g.V.Desk.ready g.V.Desk.rule g.met.V.Roams.sits g.met.V.Roams.own g.V.Desk.alone g.met.V.Roams.is_alone old.seat old.left d e (λ p. Offer_call) (offer_answer c.offer-answer.result) i.ready i.at i.found (i.within old.seat) o.ready o.rule o.made o.part inside.seat inside.taken i.seat i.taken }
+
+pub returns : goal.returns
+returns g c =
+    let old = view c.args.self.now.pass in
+    let i = c.come-held.ensures in
+    let o = c.offer-answer.ensures in
+    let d = c.come-held.result.value in
+    let e = c.offer-answer.new.self in
+    let new = view c.go.new.pass in
+    let seat = c.go.ensures.seat ∙ i.seat in
+    let w = says g.V.Roams.sight g.V.Grows.state g.V.Roams.at g.V.Desk.stand g.V.Desk.part g.V.Desk.ready g.V.Desk.rule g.met.V.Roams.sits g.met.V.Roams.own g.V.Desk.alone g.met.V.Roams.is_alone old.seat old.left d e (λ p. Offer_call) (offer_answer c.offer-answer.result) i.ready i.at i.found (i.within old.seat) o.ready o.rule o.made o.part new.seat new.left seat c.go.ensures.left in
+    record {
+      made = w.made;
+      limits = λ k is. o.limits k (ap (λ (p : DeskPart). p.claim) (part_there g.V.Roams.sight g.V.Grows.state g.V.Roams.at g.V.Desk.stand g.V.Desk.part g.V.Desk.ready g.V.Desk.rule g.met.V.Roams.sits g.met.V.Roams.own old.seat d e i.ready i.at o.ready o.rule new.seat new.left seat c.go.ensures.left) ∙ is);
+      part = w.part;
+      ready = record { free = c.go.ensures.free; named = c.go.ensures.free.of ∙ (sym c.requires.ready.free.of ∙ c.requires.ready.named); ready = w.ready };
+      rule = record { seat = seat; turns = c.go.ensures.turns ∙ ap (λ (n : ℕ). n + 1) i.turns };
+    }

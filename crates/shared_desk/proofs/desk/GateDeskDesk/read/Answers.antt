@@ -1,0 +1,41 @@
+use Rattle.std.proofs.Common.{ap, length, min, subst, sym, ℕ, ◌+◌, ◌-◌, ◌∙◌, ◌≡◌}
+use Rattle.std.specs.Prelude.{IfOk}
+use Rattle.node_model.specs.Calls.{Read_call}
+use Rattle.node_model.specs.Desks.{DeskPart, HasClaim, read_answer, size_in}
+use Rattle.turn_gate.specs.Passes.{view}
+use Rattle.shared_desk.proofs.Calling.{after_read, says, turns}
+use Rattle.shared_desk.proofs.desk.GateDeskDesk.read.Goals as goal
+
+pub come-held-requires : goal.come-held-requires
+come-held-requires g c = record { free = c.requires.ready.free; ready = c.requires.ready.ready }
+
+pub read-answer-requires : goal.read-answer-requires
+read-answer-requires g c = let i = c.come-held.ensures in record { ready = i.ready; in_session = ap (λ (p : DeskPart). p.open_now) i.part ∙ c.requires.in_session; claimed = subst HasClaim (sym i.part) c.requires.claimed }
+
+pub go-requires : goal.go-requires
+go-requires g c =
+    let old = view c.args.self.now.pass in
+    let i = c.come-held.ensures in
+    let o = c.read-answer.ensures in
+    let d = c.come-held.result.value in
+    let e = c.read-answer.new.self in
+    let inside = view c.come-held.new.pass in
+    record { has_turn = i.has_turn; turn = turns g.V.Roams.sight g.V.Grows.state g.V.Roams.at g.V.Desk.stand g.V.Desk.part g.V.Desk.ready g.V.Desk.rule g.met.V.Roams.sits g.met.V.Roams.own g.V.Desk.alone g.met.V.Roams.is_alone old.seat old.left d e (λ p. Read_call c.args.at (length c.args.out.now)) (read_answer c.read-answer.new.out c.read-answer.result) i.ready i.at i.found (i.within old.seat) o.ready o.rule o.made (o.part ∙ sym (after_read (g.V.Desk.part d) c.args.at (length c.args.out.now) (read_answer c.read-answer.new.out c.read-answer.result))) inside.seat inside.taken i.seat i.taken }
+
+pub returns : goal.returns
+returns g c =
+    let old = view c.args.self.now.pass in
+    let i = c.come-held.ensures in
+    let o = c.read-answer.ensures in
+    let d = c.come-held.result.value in
+    let e = c.read-answer.new.self in
+    let new = view c.go.new.pass in
+    let seat = c.go.ensures.seat ∙ i.seat in
+    let w = says g.V.Roams.sight g.V.Grows.state g.V.Roams.at g.V.Desk.stand g.V.Desk.part g.V.Desk.ready g.V.Desk.rule g.met.V.Roams.sits g.met.V.Roams.own g.V.Desk.alone g.met.V.Roams.is_alone old.seat old.left d e (λ p. Read_call c.args.at (length c.args.out.now)) (read_answer c.read-answer.new.out c.read-answer.result) i.ready i.at i.found (i.within old.seat) o.ready o.rule o.made (o.part ∙ sym (after_read (g.V.Desk.part d) c.args.at (length c.args.out.now) (read_answer c.read-answer.new.out c.read-answer.result))) new.seat new.left seat c.go.ensures.left in
+    record {
+      made = w.made;
+      length = subst (λ (p : DeskPart). IfOk c.read-answer.result (λ count. count ≡ min (length c.args.out.now) (size_in p.claim - c.args.at))) i.part o.length;
+      part = w.part ∙ after_read (g.V.Roams.sight.part old.seat old.left) c.args.at (length c.args.out.now) (read_answer c.read-answer.new.out c.read-answer.result);
+      ready = record { free = c.go.ensures.free; named = c.go.ensures.free.of ∙ (sym c.requires.ready.free.of ∙ c.requires.ready.named); ready = w.ready };
+      rule = record { seat = seat; turns = c.go.ensures.turns ∙ ap (λ (n : ℕ). n + 1) i.turns };
+    }

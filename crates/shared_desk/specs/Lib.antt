@@ -1,0 +1,3 @@
+pub mod AtGate
+pub mod Records
+pub mod Seen
