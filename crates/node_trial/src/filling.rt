@@ -62,7 +62,8 @@ impl Filling {
         Ok(Filling { who, store })
     }
 
-    // Queues a file for the other node. A store over a disk in memory refuses it for want of memory alone, until its ledger is full.
+    // Queues a file for the other node, unless the ledger has no place left for it. A store over a disk in memory refuses it for want
+    // of memory alone besides.
     fn queue(&mut self, alloc: Global, file: TrialFile) -> Result<(), NoMemory>
         requires key { IsKey (key_of file.key) }
         requires size { file.key.size ≡ length file.bytes.list }
@@ -75,6 +76,7 @@ impl Filling {
         } = file;
         match queue(alloc, &mut self.store, dest, key, bytes.as_slice()) {
             Ok(()) => Ok(()),
+            Err(StoreFault::Full) => Ok(()),
             Err(_) => Err(NoMemory),
         }
     }

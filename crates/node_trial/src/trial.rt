@@ -44,7 +44,7 @@ fn both(near: usize, far: usize) -> u32
 impl Trial {
     /// A whole trial of so many files, whose numbers are drawn from that start on.
     ///
-    /// The ledger of a node holds 262,144 records. A count of files for which that is too few is answered as want of memory is.
+    /// The ledger of a node holds 262,144 records. A file for which its sender's has no place left isn't queued, and so doesn't come.
     pub fn run(alloc: Global, count: u32, start: u32) -> Result<Totals, NoMemory>
         ensures files { IfOk result (λ totals. totals.files ≡ length (trial_files count start)) }
         ensures bytes { IfOk result (λ totals. totals.bytes ≡ bytes_in (trial_files count start)) }
