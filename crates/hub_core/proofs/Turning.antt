@@ -54,19 +54,34 @@ same_known : (c : Option Stored) (s : StoreState) (h : HubState) (seat : ℕ) �
 same_known None s h seat = refl
 same_known (Some a) s h seat = refl
 
--- the clause of the desk, from where its call began
-pub kept_turn : (u v w : StoreStand) (h g : HubState) (seat : ℕ) (call : Call) (answer : Answer) → v.state ≡ record u.state { seat = seat } → Leaves (OneOf (u.state.content ∷ [])) u v → Does v h seat call answer w g → Kept true (hub_stand u h seat) call answer (hub_stand w g seat)
-kept_turn u v w h g seat call answer turn l does =
+-- a call, told from before its seat took its turn
+pub does_turn : (u v w : StoreStand) (h g : HubState) (seat : ℕ) (call : Call) (answer : Answer) → v.state ≡ record u.state { seat = seat } → Leaves (OneOf (u.state.content ∷ [])) u v → Does v h seat call answer w g → Does u h seat call answer w g
+does_turn u v w h g seat call answer turn l does =
     let t : StoreState = record u.state { seat = seat } in
     let passes : Leaves (ShelfPasses t.content t h seat call) v w = subst (λ (s : StoreState). Leaves (ShelfPasses s.content s h seat call) v w) turn does.leaves in
     let step : KnownStep seat (knows_over t.content t h seat) call answer (knows_over w.state.content w.state g seat) = subst (λ (s : StoreState). KnownStep seat (knows_over s.content s h seat) call answer (knows_over w.state.content w.state g seat)) turn does.step in
-    kept_of u w h g seat call answer
-    (subst (λ (s : StoreState). Caused s.counts call answer w.state.counts) turn does.caused)
-    (subst (λ k. KnownStep seat k call answer (knows_over w.state.content w.state g seat)) (same_known u.state.content u.state h seat) step)
-    (leaves_then (ShelfPasses u.state.content u.state h seat call) u v w
-    (leaves_as (OneOf (u.state.content ∷ [])) (ShelfPasses u.state.content u.state h seat call) u v (before_one u.state.content u.state h seat call) l)
-    (leaves_as (ShelfPasses u.state.content t h seat call) (ShelfPasses u.state.content u.state h seat call) v w (same_passes u.state.content u.state h seat call) passes))
-    does.settled
+    record {
+      caused = subst (λ (s : StoreState). Caused s.counts call answer w.state.counts) turn does.caused;
+      step = subst (λ k. KnownStep seat k call answer (knows_over w.state.content w.state g seat)) (same_known u.state.content u.state h seat) step;
+      leaves =
+        leaves_then (ShelfPasses u.state.content u.state h seat call) u v w
+        (leaves_as (OneOf (u.state.content ∷ [])) (ShelfPasses u.state.content u.state h seat call) u v (before_one u.state.content u.state h seat call) l)
+        (leaves_as (ShelfPasses u.state.content t h seat call) (ShelfPasses u.state.content u.state h seat call) v w (same_passes u.state.content u.state h seat call) passes);
+      settled = does.settled;
+      part = does.part;
+      ready = does.ready;
+      own = does.own;
+    }
+
+-- the clause of the desk, where it stays at its seat
+pub kept_does : (u w : StoreStand) (h g : HubState) (seat last : ℕ) (call : Call) (answer : Answer) → last ≡ seat → Does u h seat call answer w g → Kept true (hub_stand u h seat) call answer (hub_stand w g last)
+kept_does u w h g seat last call answer stays does =
+    subst (λ (k : ℕ). Kept true (hub_stand u h seat) call answer (hub_stand w g k)) (sym stays) (kept_of u w h g seat call answer does.caused does.step does.leaves does.settled)
+
+-- the clause of the desk, from where its call began
+pub kept_turn : (u v w : StoreStand) (h g : HubState) (seat : ℕ) (call : Call) (answer : Answer) → v.state ≡ record u.state { seat = seat } → Leaves (OneOf (u.state.content ∷ [])) u v → Does v h seat call answer w g → Kept true (hub_stand u h seat) call answer (hub_stand w g seat)
+kept_turn u v w h g seat call answer turn l does =
+    kept_does u w h g seat seat call answer refl (does_turn u v w h g seat call answer turn l does)
 
 given_on : (seat : ℕ) (h : HubState) (w : StoreStand) (g : HubState) → OwnCall seat h w g → seat < length h.chairs → seat < length g.chairs
 given_on seat h w g own given = subst (λ (n : ℕ). seat < n) (sym own.seats) given

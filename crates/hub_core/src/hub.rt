@@ -164,6 +164,51 @@ impl<S: Store> Hub<S> {
     }
 }
 
+impl<S: Store> HubDesk<S> {
+    ghost use Rattle.hub_core.specs.Hubs.{IsReady, seat_part};
+    ghost use Rattle.hub_core.specs.HubCalls.{Does};
+    ghost use Rattle.node_model.specs.Desks.{DataExact, Fits, data_answer, file_answer};
+    ghost use Rattle.node_model.specs.Calls.{Data_call, File_call};
+    ghost use Rattle.ftn_addr.specs.Key.{key_of};
+    ghost use Rattle.ftn_addr.specs.Limits.{IsKey};
+
+    /// [`Desk::file_in`], told as the one row that it is, for a desk that has more rows behind it.
+    pub fn file_row(
+        &mut self,
+        alloc: Global,
+        key: &FileKey,
+        offset: u64,
+    ) -> Result<FileIn, DeskFault>
+        requires ready { IsReady (S.stand self.old.hub.store) (hub_state self.old.hub.seats) self.old.seat }
+        requires in_session { (seat_part (hub_state self.old.hub.seats) self.old.seat).open_now ≡ true }
+        requires limits { IsKey (key_of key.now) }
+        ensures does { Does (S.stand self.old.hub.store) (hub_state self.old.hub.seats) self.old.seat (File_call (key_of key.now) offset) (file_answer result) (S.stand self.new.hub.store) (hub_state self.new.hub.seats) }
+        ensures seat { self.new.seat ≡ self.old.seat }
+    {
+        take_turn(&mut self.hub.store, self.seat);
+        if let Some(count) = self.hub.store.broken() {
+            self.hub.seats.drop_hold(self.seat);
+            return Err(DeskFault::Disk(count));
+        }
+        self.hub.file_now(self.seat, alloc, key, offset)
+    }
+
+    /// [`Desk::data_in`], told as the one row that it is, for a desk that has more rows behind it.
+    pub fn data_row(&mut self, bytes: &[u8]) -> Result<DataIn, DeskFault>
+        requires ready { IsReady (S.stand self.old.hub.store) (hub_state self.old.hub.seats) self.old.seat }
+        requires fits { Fits (seat_part (hub_state self.old.hub.seats) self.old.seat) (length bytes.now) }
+        ensures does { Does (S.stand self.old.hub.store) (hub_state self.old.hub.seats) self.old.seat (Data_call bytes.now) (data_answer result) (S.stand self.new.hub.store) (hub_state self.new.hub.seats) }
+        ensures exact { DataExact (seat_part (hub_state self.old.hub.seats) self.old.seat).held (length bytes.now) (data_answer result) }
+        ensures seat { self.new.seat ≡ self.old.seat }
+    {
+        take_turn(&mut self.hub.store, self.seat);
+        if let Some(count) = self.hub.store.broken() {
+            return Err(DeskFault::Disk(count));
+        }
+        self.hub.data_now(self.seat, bytes)
+    }
+}
+
 impl<S: Store> Desk for HubDesk<S> {
     ghost use Rattle.hub_core.specs.Hubs.{IsReady, hub_stand, seat_part};
     ghost use Rattle.hub_core.specs.HubCalls.{OwnCall};
@@ -204,20 +249,11 @@ impl<S: Store> Desk for HubDesk<S> {
     }
 
     fn file_in(&mut self, alloc: Global, key: &FileKey, offset: u64) -> Result<FileIn, DeskFault> {
-        take_turn(&mut self.hub.store, self.seat);
-        if let Some(count) = self.hub.store.broken() {
-            self.hub.seats.drop_hold(self.seat);
-            return Err(DeskFault::Disk(count));
-        }
-        self.hub.file_now(self.seat, alloc, key, offset)
+        self.file_row(alloc, key, offset)
     }
 
     fn data_in(&mut self, bytes: &[u8]) -> Result<DataIn, DeskFault> {
-        take_turn(&mut self.hub.store, self.seat);
-        if let Some(count) = self.hub.store.broken() {
-            return Err(DeskFault::Disk(count));
-        }
-        self.hub.data_now(self.seat, bytes)
+        self.data_row(bytes)
     }
 
     fn offer(&mut self, alloc: Global) -> Result<Offer, DeskFault> {

@@ -1,4 +1,4 @@
--- The least receipt whose file is due, as an inbox is walked, and the next in a round.
+-- The least receipt that is looked for, as an inbox is walked, and the next in a round.
 use Rattle.std.proofs.Common.{◌≡◌, ℕ, ◌+◌, ◌<◌, ◌≤◌, Bool, true, false, not, ◌&&◌, ◌||◌, nat_lt, List, [], ◌∷◌, ◌++◌, length, map, take, get_or, Option, Some, None, refl, sym, ◌∙◌, ap, subst, inl, inr, ⊎_elim, arith}
 use Rattle.std.specs.Prelude.{if◌then◌else◌}
 use Rattle.std.proofs.lemmas.List.{take_more}
@@ -11,7 +11,7 @@ use Rattle.node_model.specs.Lists.{Member}
 use Rattle.node_model.specs.SendRows.{InRound, may_go}
 use Rattle.node_model.proofs.Lists.{off, and_true, and_both, Member-append, Member-append_right, Member-append_cases}
 use Rattle.node_store.specs.Contents.{Contents, receipt_by}
-use Rattle.node_store.specs.Giving.{is_above, is_below, is_ready, is_due, NextDue, NextToGive}
+use Rattle.node_store.specs.Giving.{is_above, is_below, is_ready, is_due, is_left, NextLeft, NextToGive}
 use Rattle.node_store.proofs.Found.{seen_from, seen_there}
 use Rattle.node_store.proofs.Requests.{request_same}
 
@@ -37,11 +37,11 @@ last_one : (r x : Receipt) → Member r (x ∷ []) → r ≡ x
 last_one r x (inl same) = same
 last_one r x (inr later) = absurd later
 
-module _ (given : List ℕ) (rs : List Receipt) (x : Receipt) (after : Option ℕ) where
+module _ (test : Receipt → Bool) (given : List ℕ) (rs : List Receipt) (x : Receipt) (after : Option ℕ) where
   -- it is no less, or isn't due
-  due_same : (least : Option ℕ) → NextDue given rs after least → (is_due given x ≡ true → IsAbove after x.number → is_below least x.number ≡ true → ⊥) → NextDue given (rs ++ x ∷ []) after least
+  due_same : (least : Option ℕ) → NextLeft test given rs after least → (is_left test given x ≡ true → IsAbove after x.number → is_below least x.number ≡ true → ⊥) → NextLeft test given (rs ++ x ∷ []) after least
   due_same None none unless = λ r there due above.
-      ⊎_elim (λ old. none r old due above) (λ new. let same = last_one r x new in unless (subst (λ (y : Receipt). is_due given y ≡ true) same due) (subst (λ (y : Receipt). IsAbove after y.number) same above) refl) (Member-append_cases r rs (x ∷ []) there)
+      ⊎_elim (λ old. none r old due above) (λ new. let same = last_one r x new in unless (subst (λ (y : Receipt). is_left test given y ≡ true) same due) (subst (λ (y : Receipt). IsAbove after y.number) same above) refl) (Member-append_cases r rs (x ∷ []) there)
   due_same (Some n) h unless = record {
     receipt = h.receipt;
     there = Member-append h.receipt rs (x ∷ []) h.there;
@@ -50,10 +50,10 @@ module _ (given : List ℕ) (rs : List Receipt) (x : Receipt) (after : Option �
     above = h.above;
     least = λ r there due above.
         ⊎_elim (λ old. h.least r old due above)
-        (λ new. let same = last_one r x new in subst (λ (y : Receipt). n ≤ y.number) (sym same) (not_below (subst (λ (y : Receipt). is_due given y ≡ true) same due) (subst (λ (y : Receipt). IsAbove after y.number) same above))) (Member-append_cases r rs (x ∷ []) there);
+        (λ new. let same = last_one r x new in subst (λ (y : Receipt). n ≤ y.number) (sym same) (not_below (subst (λ (y : Receipt). is_left test given y ≡ true) same due) (subst (λ (y : Receipt). IsAbove after y.number) same above))) (Member-append_cases r rs (x ∷ []) there);
   }
     where
-      not_below : is_due given x ≡ true → IsAbove after x.number → n ≤ x.number
+      not_below : is_left test given x ≡ true → IsAbove after x.number → n ≤ x.number
       not_below due above = go (nat_lt x.number n) refl
         where
           go : (b : Bool) → nat_lt x.number n ≡ b → n ≤ x.number
@@ -61,7 +61,7 @@ module _ (given : List ℕ) (rs : List Receipt) (x : Receipt) (after : Option �
           go false is = at_most x.number n is
 
   -- it is due, and less
-  due_less : (least : Option ℕ) → NextDue given rs after least → is_due given x ≡ true → IsAbove after x.number → is_below least x.number ≡ true → NextDue given (rs ++ x ∷ []) after (Some x.number)
+  due_less : (least : Option ℕ) → NextLeft test given rs after least → is_left test given x ≡ true → IsAbove after x.number → is_below least x.number ≡ true → NextLeft test given (rs ++ x ∷ []) after (Some x.number)
   due_less None none due above below = record {
     receipt = x;
     there = Member-append_right x rs (x ∷ []) (inl refl);
@@ -82,10 +82,10 @@ module _ (given : List ℕ) (rs : List Receipt) (x : Receipt) (after : Option �
             ⊎_elim (λ old. let le = h.least r old is past in omega (arith, lt, le)) (λ new. subst (λ (y : Receipt). x.number ≤ y.number) (sym (last_one r x new)) (omega arith)) (Member-append_cases r rs (x ∷ []) there);
       }
 
-  due_one : (least : Option ℕ) → NextDue given rs after least → NextDue given (rs ++ x ∷ []) after (if is_above after x.number && (is_below least x.number && is_due given x) then Some x.number else least)
-  due_one least h = go (is_above after x.number && (is_below least x.number && is_due given x)) refl
+  due_one : (least : Option ℕ) → NextLeft test given rs after least → NextLeft test given (rs ++ x ∷ []) after (if is_above after x.number && (is_below least x.number && is_left test given x) then Some x.number else least)
+  due_one least h = go (is_above after x.number && (is_below least x.number && is_left test given x)) refl
     where
-      go : (b : Bool) → (is_above after x.number && (is_below least x.number && is_due given x)) ≡ b → NextDue given (rs ++ x ∷ []) after (if b then Some x.number else least)
+      go : (b : Bool) → (is_above after x.number && (is_below least x.number && is_left test given x)) ≡ b → NextLeft test given (rs ++ x ∷ []) after (if b then Some x.number else least)
       go true is =
           let t = and_true (is_above after x.number) _ is in
           let u = and_true (is_below least x.number) _ t.1 in
@@ -97,13 +97,13 @@ map_append_one : {A B : Type 0} (f : A → B) (xs : List A) (x : A) → map f (x
 map_append_one f [] x = refl
 map_append_one f (y ∷ ys) x = ap (λ (l : List _). f y ∷ l) (map_append_one f ys x)
 
-pub due_more : {A : Type 0} (view : A → Receipt) (xs : List A) (i : ℕ) (x : A) (given : List ℕ) (after least new : Option ℕ) → i < length xs → x ≡ get_or xs i x → NextDue given (map view (take i xs)) after least
-    → new ≡ (if is_above after (view x).number && (is_below least (view x).number && is_due given (view x)) then Some (view x).number else least) → NextDue given (map view (take (i + 1) xs)) after new
-due_more {A} view xs i x given after least new lt is h now =
+pub due_more : {A : Type 0} (test : Receipt → Bool) (view : A → Receipt) (xs : List A) (i : ℕ) (x : A) (given : List ℕ) (after least new : Option ℕ) → i < length xs → x ≡ get_or xs i x → NextLeft test given (map view (take i xs)) after least
+    → new ≡ (if is_above after (view x).number && (is_below least (view x).number && is_left test given (view x)) then Some (view x).number else least) → NextLeft test given (map view (take (i + 1) xs)) after new
+due_more {A} test view xs i x given after least new lt is h now =
     let rest : map view (take (i + 1) xs) ≡ map view (take i xs) ++ view x ∷ [] =
     ap (map view) (take_more xs i x lt ∙ ap (λ (y : A). take i xs ++ y ∷ []) (sym is)) ∙ map_append_one view (take i xs) x in
-    subst (λ (l : List Receipt). NextDue given l after new) (sym rest)
-    (subst (NextDue given (map view (take i xs) ++ view x ∷ []) after) (sym now) (due_one given (map view (take i xs)) (view x) after least h))
+    subst (λ (l : List Receipt). NextLeft test given l after new) (sym rest)
+    (subst (NextLeft test given (map view (take i xs) ++ view x ∷ []) after) (sym now) (due_one test given (map view (take i xs)) (view x) after least h))
 
 -- The round.
 
@@ -122,7 +122,7 @@ module _ (c : Contents ℕ) (given : List ℕ) (same : c.given ≡ (λ n. is_amo
 
 module _ (c : Contents ℕ) (given : List ℕ) (same : c.given ≡ (λ n. is_among n given)) (inbox : List Receipt) (last : ℕ) where
   -- the first behind the last one, else the first of all
-  pub round_above : (number : ℕ) → NextDue given inbox (Some last) (Some number) → NextToGive last (map (receipt_by c) inbox) (Some number)
+  pub round_above : (number : ℕ) → NextLeft is_ready given inbox (Some last) (Some number) → NextToGive last (map (receipt_by c) inbox) (Some number)
   round_above number h = record {
     receipt = receipt_by c h.receipt;
     there = seen_there (receipt_by c) h.receipt inbox h.there;
@@ -138,7 +138,7 @@ module _ (c : Contents ℕ) (given : List ℕ) (same : c.given ≡ (λ n. is_amo
       go r there due true is = let lt = (Decides-ltb last r.number).0 is in inl (h.above, inl (lt, h.least r there due lt))
       go r there due false is = inl (h.above, inr (at_most last r.number is))
 
-  pub round_least : (next : Option ℕ) → NextDue given inbox (Some last) None → NextDue given inbox None next → NextToGive last (map (receipt_by c) inbox) next
+  pub round_least : (next : Option ℕ) → NextLeft is_ready given inbox (Some last) None → NextLeft is_ready given inbox None next → NextToGive last (map (receipt_by c) inbox) next
   round_least None none h = λ r there may. let s = seen_from (receipt_by c) r inbox there in h s.0 s.1 (sym (may_is c given same s.0) ∙ (ap (λ (y : ReceiptOf ℕ). may_go y) (sym s.2) ∙ may)) tt
   round_least (Some number) none h = record {
     receipt = receipt_by c h.receipt;

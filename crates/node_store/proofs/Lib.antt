@@ -112,4 +112,5 @@ pub mod TakeSteps
 pub mod TakeWorld
 pub mod TellAlike
 pub mod WaitingFiles
+pub mod WaitingRequests
 pub mod Walked

@@ -1,5 +1,5 @@
--- The least receipt whose file is due, as the receipts whose files are kept are walked in order.
-use Rattle.std.proofs.Common.{◌≡◌, ℕ, ◌+◌, ◌-◌, ◌^◌, ◌<◌, ◌≤◌, ◌==◌, true, false, not, List, [], ◌∷◌, map, Option, Some, None, refl, sym, ◌∙◌, ap, subst, inl, inr, ⊎_elim, arith}
+-- The least receipt that is looked for, as the receipts whose files are kept are walked in order.
+use Rattle.std.proofs.Common.{◌≡◌, ℕ, ◌+◌, ◌-◌, ◌^◌, ◌<◌, ◌≤◌, ◌==◌, Bool, true, false, not, List, [], ◌∷◌, map, Option, Some, None, refl, sym, ◌∙◌, ap, subst, inl, inr, ⊎_elim, arith}
 use Rattle.std.specs.Prelude.{IsSome, find}
 use Rattle.std.proofs.lemmas.Bool.Decides.{Decides-eqb}
 use Rattle.file_index.specs.Sets.{IsAbove, LeastAbove, NextNumber}
@@ -8,7 +8,7 @@ use Rattle.ledger_rec.specs.Items.{Receipt, receipt}
 use Rattle.ledger_rec.specs.declared.items.InboxItem.{InboxItem}
 use Rattle.node_model.specs.Lists.{Member}
 use Rattle.node_model.proofs.Lists.{off, and_true, and_both, or_cases}
-use Rattle.node_store.specs.Giving.{is_kept, is_ready, is_due, NextDue}
+use Rattle.node_store.specs.Giving.{is_kept, is_left, NextLeft}
 use Rattle.node_store.specs.Numbers.{AreDifferent}
 use Rattle.node_store.specs.Stored.{has_receipt}
 use Rattle.node_store.proofs.Found.{seen_from, seen_there, only_one, is_found, found_is}
@@ -44,37 +44,37 @@ pub walk_smaller : (passed : Option ℕ) (n : ℕ) → n < 2 ^ 32 → IsAbove pa
 walk_smaller None n fits above = omega (arith, fits)
 walk_smaller (Some at) n fits above = omega (arith, fits, above)
 
--- Those that are due above the first number are above the one that was passed, which isn't below it.
-pub record HasPassed (given : List ℕ) (inbox : List Receipt) (after passed : Option ℕ) : Type 0 where
-  pub left : (r : Receipt) → Member r inbox → is_due given r ≡ true → IsAbove after r.number → IsAbove passed r.number
+-- Those that are left above the first number are above the one that was passed, which isn't below it.
+pub record HasPassed (test : Receipt → Bool) (given : List ℕ) (inbox : List Receipt) (after passed : Option ℕ) : Type 0 where
+  pub left : (r : Receipt) → Member r inbox → is_left test given r ≡ true → IsAbove after r.number → IsAbove passed r.number
   pub above : (n : ℕ) → IsAbove passed n → IsAbove after n
 
 above_more : (passed : Option ℕ) (n k : ℕ) → IsAbove passed n → n < k → IsAbove passed k
 above_more None n k above lt = tt
 above_more (Some at) n k above lt = omega (arith, above, lt)
 
-module _ (given : List ℕ) (inbox : List Receipt) where
-  kept_due : (r : Receipt) → Member r inbox → is_due given r ≡ true → is_kept given inbox r.number ≡ true
-  kept_due r there due = and_both (has_receipt r.number inbox) _ (receipt_there r inbox there) (and_true (is_ready r) _ due).1
+module _ (test : Receipt → Bool) (given : List ℕ) (inbox : List Receipt) where
+  kept_due : (r : Receipt) → Member r inbox → is_left test given r ≡ true → is_kept given inbox r.number ≡ true
+  kept_due r there due = and_both (has_receipt r.number inbox) _ (receipt_there r inbox there) (and_true (test r) _ due).1
 
   pub kept_number : (n : ℕ) → is_kept given inbox n ≡ true → has_receipt n inbox ≡ true
   kept_number n kept = (and_true (has_receipt n inbox) _ kept).0
 
-  module _ (after passed : Option ℕ) (h : HasPassed given inbox after passed) where
-    -- the next one waits for its answer
-    pub passed_more : (n : ℕ) → LeastAbove (is_kept given inbox) passed n → ((r : Receipt) → Member r inbox → r.number ≡ n → is_ready r ≡ false) → HasPassed given inbox after (Some n)
+  module _ (after passed : Option ℕ) (h : HasPassed test given inbox after passed) where
+    -- the next one isn't looked for
+    pub passed_more : (n : ℕ) → LeastAbove (is_kept given inbox) passed n → ((r : Receipt) → Member r inbox → r.number ≡ n → test r ≡ false) → HasPassed test given inbox after (Some n)
     passed_more n l waits = record {
       left = λ r there due above.
           let le : n ≤ r.number = l.least r.number (kept_due r there due) (h.left r there due above) in
-          below n r.number le (λ same. off (sym (and_true (is_ready r) _ due).0 ∙ waits r there same));
+          below n r.number le (λ same. off (sym (and_true (test r) _ due).0 ∙ waits r there same));
       above = λ k lt. h.above k (above_more passed n k l.above lt);
     }
       where
         below : (n k : ℕ) → n ≤ k → (k ≡ n → ⊥) → n < k
         below n k le apart = omega (arith, le, apart)
 
-    -- the next one is due
-    pub passed_found : (n : ℕ) → LeastAbove (is_kept given inbox) passed n → ((r : Receipt) → Member r inbox → r.number ≡ n → is_ready r ≡ true) → NextDue given inbox after (Some n)
+    -- the next one is
+    pub passed_found : (n : ℕ) → LeastAbove (is_kept given inbox) passed n → ((r : Receipt) → Member r inbox → r.number ≡ n → test r ≡ true) → NextLeft test given inbox after (Some n)
     passed_found n l ready =
         let k = and_true (has_receipt n inbox) _ l.is in
         let m = has_member n inbox k.0 in
@@ -82,16 +82,16 @@ module _ (given : List ℕ) (inbox : List Receipt) where
           receipt = m.0;
           there = m.1;
           is = m.2;
-          due = and_both (is_ready m.0) _ (ready m.0 m.1 m.2) (ap (λ (i : ℕ). not (is_among i given)) m.2 ∙ k.1);
+          due = and_both (test m.0) _ (ready m.0 m.1 m.2) (ap (λ (i : ℕ). not (is_among i given)) m.2 ∙ k.1);
           above = h.above n l.above;
           least = λ r there due above. l.least r.number (kept_due r there due) (h.left r there due above);
         }
 
     -- none is left
-    pub passed_end : NextNumber (is_kept given inbox) passed None → NextDue given inbox after None
+    pub passed_end : NextNumber (is_kept given inbox) passed None → NextLeft test given inbox after None
     passed_end none r there due above = none r.number (kept_due r there due) (h.left r there due above)
 
-    pub passed_rest : (next : Option ℕ) → NextDue given inbox passed next → NextDue given inbox after next
+    pub passed_rest : (next : Option ℕ) → NextLeft test given inbox passed next → NextLeft test given inbox after next
     passed_rest None none = λ r there due above. none r there due (h.left r there due above)
     passed_rest (Some n) f = record {
       receipt = f.receipt;

@@ -16,9 +16,13 @@ is_kept given inbox number = has_receipt number inbox && not (is_among number gi
 abbrev pub is_ready : Receipt → Bool
 is_ready r = not (is_request r.key.name) || r.answered
 
+-- it passes the test, and its file wasn't given
+abbrev pub is_left : (Receipt → Bool) → List ℕ → Receipt → Bool
+is_left test given r = test r && not (is_among r.number given)
+
 -- its file may be given, and wasn't
 abbrev pub is_due : List ℕ → Receipt → Bool
-is_due given r = is_ready r && not (is_among r.number given)
+is_due given r = is_left is_ready given r
 
 -- above that number, or below it, where there is one
 abbrev pub is_above : Option ℕ → ℕ → Bool
@@ -33,18 +37,18 @@ is_below (Some least) n = nat_lt n least
 abbrev pub number_before : ℕ → Option ℕ
 number_before n = if n == 0 then None else Some (n - 1)
 
--- the least receipt above that one whose file is due
-pub record FirstDue (given : List ℕ) (inbox : List Receipt) (after : Option ℕ) (number : ℕ) : Type 0 where
+-- the least receipt above that one that passes the test, and whose file wasn't given
+pub record FirstLeft (test : Receipt → Bool) (given : List ℕ) (inbox : List Receipt) (after : Option ℕ) (number : ℕ) : Type 0 where
   pub receipt : Receipt
   pub there : Member receipt inbox
   pub is : receipt.number ≡ number
-  pub due : is_due given receipt ≡ true
+  pub due : is_left test given receipt ≡ true
   pub above : IsAbove after number
-  pub least : (r : Receipt) → Member r inbox → is_due given r ≡ true → IsAbove after r.number → number ≤ r.number
+  pub least : (r : Receipt) → Member r inbox → is_left test given r ≡ true → IsAbove after r.number → number ≤ r.number
 
-abbrev pub NextDue : List ℕ → List Receipt → Option ℕ → Option ℕ → Type 0
-NextDue given inbox after None = (r : Receipt) → Member r inbox → is_due given r ≡ true → IsAbove after r.number → ⊥
-NextDue given inbox after (Some number) = FirstDue given inbox after number
+abbrev pub NextLeft : (Receipt → Bool) → List ℕ → List Receipt → Option ℕ → Option ℕ → Type 0
+NextLeft test given inbox after None = (r : Receipt) → Member r inbox → is_left test given r ≡ true → IsAbove after r.number → ⊥
+NextLeft test given inbox after (Some number) = FirstLeft test given inbox after number
 
 -- the next file that may go, in a round by receipts behind that number
 abbrev pub NextToGive : ℕ → List (ReceiptOf ℕ) → Option ℕ → Type 0

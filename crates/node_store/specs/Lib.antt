@@ -20,6 +20,7 @@ pub mod OutboundMarks
 pub mod Outlines
 pub mod Planned
 pub mod Recording
+pub mod Seeking
 pub mod Sounds
 pub mod Standing
 pub mod Stored

@@ -15,8 +15,7 @@
 //! files, `readying` makes the file of a part ready, and `planning` says what queueing files will write; `store` is the store.
 //! Its calls stand in `beginning`, `marking`, `committing` and `refusing` (a part is opened, marked, becomes a receipt or is
 //! refused), `staging` and `queueing` (files are staged, and then queued), `queued` (queued files), `acting` (their sources are
-//! acted on), `reading` and `giving` (received files are given), where `round` says which comes next, and `waiting` how many are
-//! left; `asking` has those that only ask the disk, of outside files and of files that were taken, `taking` those that move outside
+//! acted on), `reading` and `giving` (received files are given), where `round` says which comes next, and which request is answered next, by what is `sought`, and `waiting` how many are left; `asking` has those that only ask the disk, of outside files and of files that were taken, `taking` those that move outside
 //! files into the own folder and remove them there, whose list `takes` has, and `outbound_marks` those that make marks in the
 //! outbound and take them away. `opening` makes the store of a disk, and `store_calls` makes it a store. `laws` says what holds of
 //! every name, ledger and world.
@@ -49,6 +48,7 @@ mod readying;
 mod recording;
 mod refusing;
 mod round;
+mod sought;
 mod spelling;
 mod staging;
 mod store;

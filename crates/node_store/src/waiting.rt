@@ -10,7 +10,8 @@ ghost use Rattle.node_store.specs.Stored.{has_receipt, stand_of};
 
 use crate::NodeStore;
 use crate::opening::count;
-use crate::round::{is_given, is_ready};
+use crate::round::is_given;
+use crate::sought::is_ready;
 use disk_model::Disk;
 use file_index::NumberSet;
 use ledger_rec::InboxItem;

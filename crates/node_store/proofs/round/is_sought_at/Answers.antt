@@ -1,8 +1,8 @@
 use Rattle.std.proofs.Common.{◌∙◌, ap}
-use Rattle.node_store.specs.Giving.{is_ready}
+use Rattle.node_store.specs.Seeking.{is_sought}
 use Rattle.node_store.proofs.Known.{none_received}
 use Rattle.node_store.proofs.Walked.{item_found, item_is}
-use Rattle.node_store.proofs.round.is_ready_at.Goals as goal
+use Rattle.node_store.proofs.round.is_sought_at.Goals as goal
 
 pub receipt_of-requires-clause-none : goal.receipt_of-requires-clause-none
 receipt_of-requires-clause-none c =
@@ -13,4 +13,4 @@ receipt_of-requires-clause-there c = item_found c.args.number c.inbox.result.now
 
 pub returns : goal.returns
 returns c = λ r there is.
-    c.is_ready.ensures ∙ ap is_ready (item_is c.args.number c.inbox.result.now c.args.folded.now.state.inbox c.inbox.ensures c.receipt_of.result.now c.requires.numbered c.receipt_of.ensures r there is)
+    c.is_sought.ensures ∙ ap (is_sought c.args.sought) (item_is c.args.number c.inbox.result.now c.args.folded.now.state.inbox c.inbox.ensures c.receipt_of.result.now c.requires.numbered c.receipt_of.ensures r there is)
