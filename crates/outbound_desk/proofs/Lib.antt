@@ -3,6 +3,7 @@ pub mod DeskOpening
 pub mod EachPeer
 pub mod FullCalls
 pub mod Joining
+pub mod Merging
 pub mod NewStores
 pub mod OneRow
 pub mod OpeningRows
@@ -15,6 +16,7 @@ pub mod Rows
 pub mod SeatTurns
 pub mod Sittings
 pub mod StageRows
+pub mod StagingRows
 pub mod Steps
 pub mod StoreCalls
 pub mod Taking

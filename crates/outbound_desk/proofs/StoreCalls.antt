@@ -7,7 +7,7 @@ use Rattle.node_model.specs.Items.{MarkOf}
 use Rattle.node_model.specs.Calls.{Call, Answer, Queue_call, Act_call, Queued, Acted, Nothing, Refused, Full, No_memory, Logs, one}
 use Rattle.node_model.specs.Calls as C
 use Rattle.node_model.specs.Stocks.{NewEntry, part_in}
-use Rattle.node_model.specs.Stores.{Shelf, Stored, StoreState, StoreStand, StoreAnswer, StoreCall, StoreDoes, StoreKept, StoreMade, StorePasses, Stage, Stage_copy, Queue_all, Act_next, Staged_as, Copied_as, Slots, Acted_on, Refuses, Before_it, Source_first, After_it, ActsFirst, BreaksStore, IsShelf, MayLose, PartsStay, TellsOn, shelf_of, source_stored}
+use Rattle.node_model.specs.Stores.{Shelf, Stored, StoreState, StoreStand, StoreAnswer, StoreCall, StoreDoes, StoreKept, StoreMade, StorePasses, Stage, Stage_copy, Queue_all, Read_part, Act_next, Staged_as, Copied_as, Came, Slots, Acted_on, Refuses, Before_it, Source_first, After_it, ActsFirst, BreaksStore, IsShelf, MayLose, PartsStay, TellsOn, shelf_of, source_stored}
 use Rattle.hub_core.specs.Hubs.{HubState, Fitted}
 use Rattle.hub_core.specs.HubCalls.{ShelfPasses}
 use Rattle.hub_core.specs.Steps.{Broke, Leaves, Stays}
@@ -73,11 +73,16 @@ module _ (h : HubState) (s : StoreState) (f : Fitted s h) (d : AreDrawn s) where
   act_does dest (Acted_on None) t does = none_acted h f.keeps s t dest f.fits d does
   act_does dest answer t does = absurd does
 
+  read_does : (receipt at room : ℕ) (answer : StoreAnswer) (t : StoreState) → StoreDoes s (Read_part receipt at room) answer t → RowMade h (Queue_call [] None None) (answer_of answer) s f.keeps t
+  read_does receipt at room (Came bytes) t does = unchanged h f.keeps s t f.fits d does.1
+  read_does receipt at room answer t does = absurd does
+
   does_row : (call : StoreCall) (answer : StoreAnswer) (t : StoreState) → TakesIn call s → StoreDoes s call answer t → RowMade h (call_of f.keeps call) (answer_of answer) s f.keeps t
   does_row (Stage bytes) answer t takes does = stage_does bytes answer t does
   does_row (Stage_copy path) answer t takes does = copy_does path answer t does
   does_row (Queue_all taken answered files) answer t takes does = queue_does taken answered files answer t takes does
   does_row (Act_next dest) answer t takes does = act_does dest answer t does
+  does_row (Read_part receipt at room) answer t takes does = read_does receipt at room answer t does
   does_row call answer t takes does = absurd takes
 
   -- A stop within the call.
@@ -91,6 +96,7 @@ module _ (h : HubState) (s : StoreState) (f : Fitted s h) (d : AreDrawn s) where
   first_passes (Stage bytes) x takes first = absurd first
   first_passes (Stage_copy path) x takes first = absurd first
   first_passes (Queue_all taken answered files) x takes first = absurd first
+  first_passes (Read_part receipt at room) x takes first = absurd first
   first_passes call x takes first = absurd takes
 
   pub call_passes : (call : StoreCall) (x : Shelf) → s.counts.broken ≡ None → TakesIn call s → StorePasses s call x → ShelfPasses s.content s h s.seat (call_of f.keeps call) x
@@ -150,6 +156,7 @@ loses_none (Stage bytes) s takes p = refl
 loses_none (Stage_copy path) s takes p = refl
 loses_none (Queue_all taken answered files) s takes p = refl
 loses_none (Act_next dest) s takes p = refl
+loses_none (Read_part receipt at room) s takes p = refl
 loses_none call s takes p = absurd takes
 
 pub broken_call : (h : HubState) (old : StoreStand) (o : IsIdle h old) (call : StoreCall) (new : StoreStand) → TakesIn call old.state → StoreKept old call (Refuses Disk) new → OneRow h (call_of o.fitted.keeps call) (Refused (C.Disk new.state.counts.faults)) old new

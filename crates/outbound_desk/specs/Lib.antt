@@ -1,2 +1,3 @@
 pub mod TakenIn
 pub mod Lines
+pub mod Answering

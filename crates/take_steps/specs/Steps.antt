@@ -6,7 +6,7 @@ use Rattle.node_model.specs.Calls.{Counts}
 use Rattle.node_model.specs.declared.store.StoreFault.{StoreFault}
 use Rattle.node_model.specs.declared.store.StoreFault.TheVariants.{Disk, Full, NoMemory}
 use Rattle.node_model.specs.StoreStates.{Shelf, Stored, StoreState, StoreStand}
-use Rattle.node_model.specs.Stores.{StoreAnswer, StoreCall, StoreKept, Stage, Stage_copy, Queue_all, Act_next, Refuses, IsShelf, OpensShelf, TellsOn}
+use Rattle.node_model.specs.Stores.{StoreAnswer, StoreCall, StoreKept, Stage, Stage_copy, Queue_all, Read_part, Act_next, Refuses, IsShelf, OpensShelf, TellsOn}
 use Rattle.node_model.specs.StoreWords.{IsNewBatch}
 use Rattle.take_steps.specs.declared.wanting.Wanting.{Wanting}
 use Rattle.take_steps.specs.declared.wanting.Wanting.TheVariants.{Places, Memory}
@@ -16,12 +16,13 @@ abbrev pub fault_of : Wanting → StoreFault
 fault_of Places = Full
 fault_of Memory = NoMemory
 
--- the calls of a store that a take-in makes: it stages files, queues them, and acts on their sources
+-- the calls of a store that a take-in makes: it stages files, queues them, and acts on their sources; an answer to a request reads it too
 abbrev pub TakesIn : StoreCall → StoreState → Type 0
 TakesIn (Stage bytes) s = Unit {0}
 TakesIn (Stage_copy path) s = Unit {0}
 TakesIn (Queue_all taken answered files) s = IsNewBatch taken answered files s
 TakesIn (Act_next dest) s = Unit {0}
+TakesIn (Read_part receipt at room) s = Unit {0}
 TakesIn call s = ⊥
 
 abbrev pub IsMade : StoreAnswer → Type 0
