@@ -18,7 +18,7 @@ use crate::{Outcome, hub_conf};
 use binkp_link::Line;
 use binkp_serve::hold;
 use disk_model::Yard;
-use ftn_addr::NoMemory;
+use ftn_addr::{Bytes, NoMemory};
 use hub_core::{Hub, HubDesk};
 use mail_conf::Conf;
 use node_store::NodeStore;
@@ -27,7 +27,16 @@ use outbound_store::TakingStore;
 use session_core::{Side, home_of};
 use std::alloc::Global;
 
-// The outbound of the settings.
+// The folders of files that may be requested.
+fn folders_of(alloc: Global, conf: &Conf) -> Result<Vec<Bytes>, NoMemory> {
+    let mut folders = Vec::new(alloc);
+    for share in &conf.shares {
+        folders.push(share.copy(alloc)?)?;
+    }
+    Ok(folders)
+}
+
+// The outbound of the settings, and the folders of files that may be requested.
 fn outbound_of(alloc: Global, conf: &Conf) -> Result<DeskOutbound, NoMemory>
     requires { KeepsLimits (conf_text conf.now) }
     ensures { IfOk result (λ outbound. address outbound.home ≡ home_of (conf_text conf.now).addresses) }
@@ -36,6 +45,7 @@ fn outbound_of(alloc: Global, conf: &Conf) -> Result<DeskOutbound, NoMemory>
         home: home_of(conf).copy(alloc)?,
         base: conf.base.copy(alloc)?,
         zone: conf.zone,
+        folders: folders_of(alloc, conf)?,
     })
 }
 
@@ -69,6 +79,7 @@ pub(crate) fn desk_over<D: Yard>(
     Ok(LineDesk {
         desk: HubDesk { hub, seat },
         outbound,
+        alloc,
     })
 }
 

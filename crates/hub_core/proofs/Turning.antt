@@ -64,9 +64,9 @@ does_turn u v w h g seat call answer turn l does =
       caused = subst (λ (s : StoreState). Caused s.counts call answer w.state.counts) turn does.caused;
       step = subst (λ k. KnownStep seat k call answer (knows_over w.state.content w.state g seat)) (same_known u.state.content u.state h seat) step;
       leaves =
-        leaves_then (ShelfPasses u.state.content u.state h seat call) u v w
-        (leaves_as (OneOf (u.state.content ∷ [])) (ShelfPasses u.state.content u.state h seat call) u v (before_one u.state.content u.state h seat call) l)
-        (leaves_as (ShelfPasses u.state.content t h seat call) (ShelfPasses u.state.content u.state h seat call) v w (same_passes u.state.content u.state h seat call) passes);
+          leaves_then (ShelfPasses u.state.content u.state h seat call) u v w
+          (leaves_as (OneOf (u.state.content ∷ [])) (ShelfPasses u.state.content u.state h seat call) u v (before_one u.state.content u.state h seat call) l)
+          (leaves_as (ShelfPasses u.state.content t h seat call) (ShelfPasses u.state.content u.state h seat call) v w (same_passes u.state.content u.state h seat call) passes);
       settled = does.settled;
       part = does.part;
       ready = does.ready;

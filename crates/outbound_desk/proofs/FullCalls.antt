@@ -8,7 +8,7 @@ use Rattle.node_model.specs.declared.store.Staged.TheVariants.{Copied, Absent, O
 use Rattle.node_model.specs.declared.store.StoreFault.TheVariants.{Full as No_place}
 use Rattle.node_model.specs.declared.words.Flavour.TheVariants.{Normal}
 use Rattle.std.specs.Prelude.{count_by}
-use Rattle.node_model.specs.Calls.{Call, Queue_call, Act_call, Refused, Full, FindsFull, Tells}
+use Rattle.node_model.specs.Calls.{Call, Queue_call, Act_call, Refused, Full, FindsFull, IsQueue, Tells}
 use Rattle.node_model.specs.Calls as C
 use Rattle.node_model.specs.Node.{Node}
 use Rattle.node_model.specs.Rows.{LacksRoom}
@@ -22,7 +22,7 @@ use Rattle.take_steps.specs.Steps.{KeepsState, Quiet, TakesIn}
 use Rattle.outbound_desk.specs.Answering.{MoreStaged}
 use Rattle.outbound_desk.proofs.OneRow.{IsIdle, OneRow, RowImages, RowPasses}
 use Rattle.outbound_desk.proofs.QuietRows.{keeps_passes, quiet_change, quiet_images, still_change}
-use Rattle.outbound_desk.proofs.QueuedFiles.{records_few}
+use Rattle.outbound_desk.proofs.QueuedFiles.{records_few, with_bytes}
 use Rattle.outbound_desk.proofs.Refusals.{full_row}
 use Rattle.outbound_desk.proofs.StoreCalls.{call_of, kept_leaves, row_images}
 use Rattle.outbound_desk.proofs.ActRows.{next_told}
@@ -129,6 +129,16 @@ pub record FullRow (h : HubState) (old new : StoreStand) : Type 0 where
   pub row : OneRow h call (Refused Full) old new
   pub anyway : FullAnyway h old call
 
+-- one that queues files
+pub record QueuesFull (h : HubState) (old new : StoreStand) : Type 0 where
+  pub call : Call
+  pub queues : IsQueue call
+  pub row : OneRow h call (Refused Full) old new
+  pub anyway : FullAnyway h old call
+
+full_of : (h : HubState) (old new : StoreStand) → QueuesFull h old new → FullRow h old new
+full_of h old new x = record { call = x.call; row = x.row; anyway = x.anyway }
+
 -- the node that is told
 told_node : (h : HubState) (old : StoreStand) (f : Fitted old.state h) (m : Node) → knows_over old.state.content old.state h old.state.seat ≡ Tells m → m ≡ node_with f.keeps old.state h
 told_node h old f m told = go old.state.content f.tells told
@@ -144,31 +154,38 @@ acts_anyway dest n m same full =
 lacks_anyway : (files : List NewFile) (taken answered : Option ℕ) (n m : Node) → m ≡ record n { staged = m.staged } → LacksPlaces m files taken answered → LacksPlaces n files taken answered
 lacks_anyway files taken answered n m same lacks = subst (λ (x : Node). LacksPlaces x files taken answered) same lacks
 
-staging_full : (h : HubState) (old : StoreStand) (o : IsIdle h old) (call : StoreCall) (new : StoreStand) → FullNow old new → StoreKept old call (Refuses No_place) new → ((x : Shelf) → StorePasses old.state call x → KeepsState old.state.content x) → FullRow h old new
+staging_full : (h : HubState) (old : StoreStand) (o : IsIdle h old) (call : StoreCall) (new : StoreStand) → FullNow old new → StoreKept old call (Refuses No_place) new → ((x : Shelf) → StorePasses old.state call x → KeepsState old.state.content x) → QueuesFull h old new
 staging_full h old o call new is kept keeps =
     let row : Call = Queue_call (many_files (MAX_NUMBER + 1)).0 None None in
     let passes : (x : Shelf) → StorePasses old.state call x → RowPasses h row old x = λ x p. keeps_passes old.state.content old.state h old.state.seat row x (keeps x p) in
     let leaves = leaves_as (StorePasses old.state call) (RowPasses h row old) old new passes (kept_leaves old call (Refuses No_place) new kept) in
     record {
       call = row;
+      queues = tt;
       row = full_change h row old new o tt is (no_number old.state.seat (node_with o.fitted.keeps old.state h) (MAX_NUMBER + 1) (omega arith)) (record { leaves = leaves; settled = kept.now });
       anyway = λ n m told more. no_number old.state.seat n (MAX_NUMBER + 1) (omega arith);
     }
 
-pub full_call : (h : HubState) (old : StoreStand) (o : IsIdle h old) (call : StoreCall) (new : StoreStand) → TakesIn call old.state → StoreKept old call (Refuses No_place) new → FullRow h old new
-full_call h old o (Stage bytes) new takes kept =
-    staging_full h old o (Stage bytes) new kept.made.1 kept (λ x p. stage_keeps old.state bytes x p)
-full_call h old o (Stage_copy path) new takes kept =
-    staging_full h old o (Stage_copy path) new kept.made.1 kept (λ x p. copy_keeps old.state path x p)
-full_call h old o (Queue_all taken answered files) new takes kept =
+pub copy_full : (h : HubState) (old : StoreStand) (o : IsIdle h old) (path : List ℕ) (new : StoreStand) → StoreKept old (Stage_copy path) (Refuses No_place) new → QueuesFull h old new
+copy_full h old o path new kept = staging_full h old o (Stage_copy path) new kept.made.1 kept (λ x p. copy_keeps old.state path x p)
+
+pub queue_full : (h : HubState) (old : StoreStand) (o : IsIdle h old) (taken answered : Option ℕ) (files : List NewEntry) (new : StoreStand) → TakesIn (Queue_all taken answered files) old.state → StoreKept old (Queue_all taken answered files) (Refuses No_place) new → QueuesFull h old new
+queue_full h old o taken answered files new takes kept =
     let call = Queue_all taken answered files in
     let all = map (with_bytes o.fitted.keeps.stock.staged) files in
     let lacks = queue_lacks h o.fitted.keeps old.state taken answered files o.fitted.fits kept.made.0 in
     record {
       call = call_of o.fitted.keeps call;
+      queues = tt;
       row = full_change h (call_of o.fitted.keeps call) old new o tt kept.made.1 (record { cause = inl lacks }) (row_images h old o call (Refuses No_place) new takes kept);
       anyway = λ n m told more. record { cause = inl (lacks_anyway all taken answered n m more.0 (subst (λ (x : Node). LacksPlaces x all taken answered) (sym (told_node h old o.fitted m told)) lacks)) };
     }
+
+pub full_call : (h : HubState) (old : StoreStand) (o : IsIdle h old) (call : StoreCall) (new : StoreStand) → TakesIn call old.state → StoreKept old call (Refuses No_place) new → FullRow h old new
+full_call h old o (Stage bytes) new takes kept =
+    full_of h old new (staging_full h old o (Stage bytes) new kept.made.1 kept (λ x p. stage_keeps old.state bytes x p))
+full_call h old o (Stage_copy path) new takes kept = full_of h old new (copy_full h old o path new kept)
+full_call h old o (Queue_all taken answered files) new takes kept = full_of h old new (queue_full h old o taken answered files new takes kept)
 full_call h old o (Act_next dest) new takes kept =
     let finds = act_finds h o.fitted.keeps old.state dest o.fitted.fits kept.made.0 in
     record {

@@ -1,6 +1,6 @@
 -- Steps of a take-in one behind another are rows one behind another.
 use Rattle.std.proofs.Common.{◌≡◌, ◌⊎◌, ℕ, ◌≤◌, ◌<◌, List, [], ◌++◌, Option, Some, None, option_map, refl, sym, ◌∙◌, ap, subst, inl, inr, arith, le_refl}
-use Rattle.node_model.specs.Calls.{AllMade, Counts, Counts_alone, Disk, Event, Knows, No_memory, Queue_call, Refused, Tells, one}
+use Rattle.node_model.specs.Calls.{AllMade, Counts, Counts_alone, Disk, EndsRefused, Event, Fault, Knows, No_memory, Queue_call, Refused, Tells, one}
 use Rattle.node_model.specs.Images.{BesidePass, IsState}
 use Rattle.node_model.specs.Stores.{Shelf, Stored, StoreState, StoreStand, OpensShelf}
 use Rattle.hub_core.specs.Anew.{LooksAnew}
@@ -75,6 +75,11 @@ ends_then es fs None (Some want) made ends = ends_behind es fs (fault_for want) 
 pub taken_on : (h : HubState) (seat : ℕ) (a b c : StoreStand) (now : Option Wanting) → b.state.counts.broken ≡ None → TakenIn h seat a b None → TakenIn h seat b c now → TakenIn h seat a c now
 taken_on h seat a b c now whole x y =
     both_taken h seat a b c None now x y (ends_then x.events y.events c.state.counts.broken now (subst (λ (o : Option ℕ). EndsSo x.events o None) whole x.ends) y.ends)
+
+-- and it ends refused as the second part does
+pub refused_on : (h : HubState) (seat : ℕ) (a b c : StoreStand) (now : Option Wanting) (fault : Fault) (whole : b.state.counts.broken ≡ None) (x : TakenIn h seat a b None) (y : TakenIn h seat b c now) → EndsRefused y.events fault → EndsRefused (taken_on h seat a b c now whole x y).events fault
+unfolding taken_on both_taken
+refused_on h seat a b c now fault whole x y refused = ends_behind x.events y.events fault refused
 
 -- Once something was wanted.
 

@@ -1,4 +1,8 @@
 pub mod ActRows
+pub mod AnswerKept
+pub mod AnswerRows
+pub mod Batches
+pub mod BehindDesk
 pub mod DeskOpening
 pub mod EachPeer
 pub mod FullCalls
@@ -20,3 +24,4 @@ pub mod StagingRows
 pub mod Steps
 pub mod StoreCalls
 pub mod Taking
+pub mod WaitingFacts

@@ -1,20 +1,13 @@
 -- A row that queues files is so too from a node that is the same but for numbers that were drawn.
-use Rattle.std.proofs.Common.{◌≡◌, ℕ, ◌+◌, ◌≤◌, true, false, List, [], ◌∷◌, Option, Some, None, refl, sym, ◌∙◌, ap, subst, inl, inr, arith, le_refl}
+use Rattle.std.proofs.Common.{◌≡◌, ℕ, ◌+◌, ◌≤◌, List, [], ◌∷◌, Option, None, refl, sym, ◌∙◌, ap, subst, inl, inr, arith, le_refl}
 use Rattle.std.proofs.lemmas.List.{append-nil}
 use Rattle.node_model.specs.Durable.{Durable}
 use Rattle.node_model.specs.Items.{Entry}
 use Rattle.node_model.specs.Node.{Node}
-use Rattle.node_model.specs.Calls.{After_it, Answer, Before_it, Breaks, Call, Counts_alone, Disk, FindsFull, Full, IsQueue, Knows, KnownStep, Made, Marked, NodeStep, NotMade, No_memory, Passes, Queue_call, Queued, Read, Refused, Tells, Works}
-use Rattle.node_model.specs.Images.{IsState, KnownPasses}
+use Rattle.node_model.specs.Calls.{After_it, Answer, Before_it, Call, Counts_alone, Disk, FindsFull, Full, IsQueue, Knows, KnownStep, Made, Marked, NodeStep, No_memory, Passes, Queue_call, Queued, Read, Refused, Tells}
+use Rattle.node_model.specs.Images.{KnownPasses}
 use Rattle.node_model.specs.SendRows.{Enqueued, Fresh, NewFile, No_more, QueueRow, Slot, Stands}
 use Rattle.outbound_desk.specs.Answering.{MoreStaged}
-
--- the cause for which a row finds no place, where it isn't one of numbers, holds whatever was drawn
-pub record FullAnyway (seat : ℕ) (b : Node) (call : Call) : Type 0 where
-  pub finds : (n : Node) → b ≡ record n { staged = b.staged } → FindsFull seat n call
-
-drawn : ℕ → Node → Node
-drawn s a = record a { staged = s }
 
 module _ (seat s : ℕ) (a : Node) (more : a.staged ≤ s) (files : List NewFile) (taken answered : Option ℕ) where
   made_before : (answer : Answer) (c : Node) → Made seat (record a { staged = s }) (Queue_call files taken answered) answer c → Made seat a (Queue_call files taken answered) answer c
@@ -40,22 +33,24 @@ module _ (seat s : ℕ) (a : Node) (more : a.staged ≤ s) (files : List NewFile
 
   step_before : a.broken ≡ None → (answer : Answer) (c : Node) → (answer ≡ Refused Full → FindsFull seat a (Queue_call files taken answered)) → NodeStep seat (record a { staged = s }) (Queue_call files taken answered) answer c → NodeStep seat a (Queue_call files taken answered) answer c
   step_before whole (Refused (Disk count)) c finds (skips, inl broken) = absurd (let b = broken.0 in cc)
-  step_before whole (Refused (Disk count)) c finds (skips, inr b) =
-      (skips, inr (record {
-        unbroken = b.unbroken;
-        rose = b.rose;
-        passes = passes_before c.state b.passes;
-        broken = b.broken;
-        faults = b.faults;
-        fulls = b.fulls;
-        log = b.log;
-        others = b.others;
-        own = b.own;
-        busy = b.busy;
-        reads = b.reads;
-        settings = b.settings;
-        begun = b.begun;
-      }))
+  step_before whole (Refused (Disk count)) c finds (skips, inr b) = (
+    skips,
+    inr (record {
+      unbroken = b.unbroken;
+      rose = b.rose;
+      passes = passes_before c.state b.passes;
+      broken = b.broken;
+      faults = b.faults;
+      fulls = b.fulls;
+      log = b.log;
+      others = b.others;
+      own = b.own;
+      busy = b.busy;
+      reads = b.reads;
+      settings = b.settings;
+      begun = b.begun;
+    }),
+  )
   step_before whole (Refused (Read count)) c finds r = absurd r.0
   step_before whole (Refused Full) c finds (unbroken, full, left) =
       let risen = left.risen in
@@ -72,13 +67,18 @@ queue_before seat (Tells n) (Tells m) (Tells l) (Queue_call files taken answered
     let t = told n m refl refl in
     step_before seat m.staged n more.1 files taken answered t.0 answer l t.1 (subst (λ (k : Node). NodeStep seat k (Queue_call files taken answered) answer l) more.0 step)
 queue_before seat (Counts_alone c) (Counts_alone d) l call answer queues more told step = subst (λ (k : Knows). KnownStep seat k call answer l) (ap Counts_alone more) step
-queue_before seat a b c call answer queues more told step = absurd step
+queue_before seat (Tells n) (Tells m) (Tells l) call answer queues more told step = absurd queues
+queue_before seat (Tells n) (Tells m) (Counts_alone l) call answer queues more told step = absurd step
+queue_before seat (Tells n) (Counts_alone d) c call answer queues more told step = absurd more
+queue_before seat (Counts_alone x) (Tells m) c call answer queues more told step = absurd more
 
 pub queue_passes : (seat : ℕ) (a b : Knows) (call : Call) (d : Durable) → IsQueue call → MoreStaged a b → KnownPasses seat b call d → KnownPasses seat a call d
 queue_passes seat (Tells n) (Tells m) (Queue_call files taken answered) d queues more p =
     passes_before seat m.staged n more.1 files taken answered d (subst (λ (k : Node). Passes seat k (Queue_call files taken answered) d) more.0 p)
 queue_passes seat (Counts_alone c) (Counts_alone b) call d queues more p = p
-queue_passes seat a b call d queues more p = absurd p
+queue_passes seat (Tells n) (Tells m) call d queues more p = absurd queues
+queue_passes seat (Tells n) (Counts_alone b) call d queues more p = absurd more
+queue_passes seat (Counts_alone c) (Tells m) call d queues more p = absurd more
 
 -- Staging more.
 
@@ -92,7 +92,10 @@ more_then (Tells x) (Tells y) (Tells z) first second =
     let high = second.1 in
     (second.0 ∙ ap (λ (n : Node). record n { staged = z.staged }) first.0, omega (arith, low, high))
 more_then (Counts_alone x) (Counts_alone y) (Counts_alone z) first second = second ∙ first
-more_then a b c first second = absurd second
+more_then (Tells x) (Tells y) (Counts_alone z) first second = absurd second
+more_then (Tells x) (Counts_alone y) c first second = absurd first
+more_then (Counts_alone x) (Tells y) c first second = absurd first
+more_then (Counts_alone x) (Counts_alone y) (Tells z) first second = absurd second
 
 no_slots : (files : List NewFile) (slots : List Slot) (old new : List Entry) → files ≡ [] → Enqueued files slots old new → slots ≡ []
 no_slots files slots old new none No_more = refl

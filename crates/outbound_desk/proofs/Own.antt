@@ -14,7 +14,7 @@ twice : (busy reads : ℕ) (o : Option Sitting) → chair_anew (record { busy = 
 twice busy reads None = refl
 twice busy reads (Some x) = refl
 
-other_anew : (h : HubState) (k : ℕ) → chair_anew (chair_in (anew h).chairs k) ≡ chair_anew (chair_in h.chairs k)
+pub other_anew : (h : HubState) (k : ℕ) → chair_anew (chair_in (anew h).chairs k) ≡ chair_anew (chair_in h.chairs k)
 other_anew h k = ap chair_anew (chair_at h.chairs k) ∙ twice (chair_in h.chairs k).busy (chair_in h.chairs k).reads (chair_in h.chairs k).sitting
 
 -- behind searches that begin anew

@@ -1,7 +1,7 @@
 -- Calls that stage one behind another, and the row behind them.
-use Rattle.std.proofs.Common.{◌≡◌, ◌⊎◌, ℕ, ◌≤◌, ◌<◌, [], Option, Some, None, Result, Ok, Err, refl, sym, ◌∙◌, ap, subst, inl, inr, arith, le_refl}
+use Rattle.std.proofs.Common.{◌≡◌, ◌⊎◌, ℕ, ◌≤◌, ◌<◌, [], Option, Some, None, refl, sym, ◌∙◌, ap, subst, inl, inr, arith, le_refl}
 use Rattle.node_model.specs.Node.{Node}
-use Rattle.node_model.specs.Calls.{Answer, Before_it, Call, Caused, Counts, Counts_alone, FindsFull, Full, IsQueue, Knows, KnownStep, NodeStep, Queue_call, Queued, Refused, Tells, counts_of, one}
+use Rattle.node_model.specs.Calls.{Answer, Before_it, Call, Caused, Counts, Counts_alone, FindsFull, Full, IsQueue, Knows, KnownStep, Queue_call, Queued, Refused, Tells, counts_of, one}
 use Rattle.node_model.specs.Images.{IsState, KnownPasses}
 use Rattle.node_model.specs.Stores.{OpensShelf, Shelf, Stored, StoreState, StoreStand}
 use Rattle.hub_core.specs.Anew.{LooksAnew}
@@ -48,7 +48,7 @@ same_state (Counts_alone c) (Counts_alone d) e more is = is
 same_state (Tells n) (Counts_alone d) e more is = absurd more
 same_state (Counts_alone c) (Tells m) e more is = absurd more
 
-told_caused : (h : HubState) (seat : ℕ) (v w : StoreStand) (call : Call) (answer : Answer) → Caused v.state.counts call answer w.state.counts → Caused (counts_of (told_at h seat v)) call answer (counts_of (told_at h seat w))
+pub told_caused : (h : HubState) (seat : ℕ) (v w : StoreStand) (call : Call) (answer : Answer) → Caused v.state.counts call answer w.state.counts → Caused (counts_of (told_at h seat v)) call answer (counts_of (told_at h seat w))
 told_caused h seat v w call answer caused =
     subst (λ (c : Counts). Caused c call answer (counts_of (told_at h seat w))) (sym (counts_over v.state.content v.state h seat))
     (subst (λ (c : Counts). Caused v.state.counts call answer c) (sym (counts_over w.state.content w.state h seat)) caused)
@@ -128,7 +128,7 @@ answered_then h seat a b c now x y =
 -- One row of a hub whose store is whole, which finds no place only where it would have found none before numbers were drawn.
 
 -- the row's cause holds whatever numbers were drawn
-pub FullBefore : HubState → StoreStand → Call → Answer → Type 0
+abbrev pub FullBefore : HubState → StoreStand → Call → Answer → Type 0
 FullBefore h b call answer =
     (n m : Node) → told_at h b.state.seat b ≡ Tells m → MoreStaged (Tells n) (Tells m) → answer ≡ Refused Full → FindsFull b.state.seat n call
 

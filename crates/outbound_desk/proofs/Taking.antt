@@ -2,6 +2,7 @@
 use Rattle.std.proofs.Common.{◌≡◌, ℕ, true, List, Option, Some, None, Result, Ok, Err, refl, sym, ◌∙◌, ap, subst}
 use Rattle.node_model.specs.Calls.{EndsRefused, Event}
 use Rattle.node_model.specs.Desks.{fault_of}
+use Rattle.node_model.specs.declared.desk.DeskFault.{DeskFault}
 use Rattle.node_model.specs.declared.desk.DeskFault.TheVariants as D
 use Rattle.node_model.specs.StoreStates.{StoreState, StoreStand}
 use Rattle.node_model.specs.Stores.{By_seat, StoreKept, Well}
@@ -18,7 +19,7 @@ use Rattle.take_steps.specs.declared.wanting.Wanting.{Wanting}
 use Rattle.take_steps.specs.declared.wanting.Wanting.TheVariants.{Places, Memory}
 use Rattle.outbound_desk.specs.Lines.{fault_wanted, Refuses, TakesIn, TakesPeers, WantsSo}
 use Rattle.outbound_desk.specs.TakenIn.{AreDrawn, EndsSo, TakenIn, fault_for}
-use Rattle.outbound_desk.proofs.Joining.{short_of_memory, taken_none, taken_on, taken_then}
+use Rattle.outbound_desk.proofs.Joining.{refused_on, short_of_memory, taken_none, taken_on, taken_then}
 use Rattle.outbound_desk.proofs.SeatTurns.{turn_taken}
 
 -- All calls of a take-in, one behind another.
@@ -93,3 +94,9 @@ ends_wanted h seat u v (Some by_calls) want anew whole wants x =
     ends_wanting h seat u v want whole (subst (λ (o : Option Wanting). TakenIn h seat u v o) (sym wants) x)
 ends_wanted h seat u v None Places anew whole wants x = absurd wants
 ends_wanted h seat u v None Memory anew whole wants x = ends_wanting h seat u v Memory whole (short_of_memory h seat u v anew whole x)
+
+-- Rows one behind another: those before were all made.
+pub takes_both : (h : HubState) (seat : ℕ) (u v w : StoreStand) (r : Result (Unit {0}) DeskFault) → TakesPeers h seat u (Ok tt) v → TakesPeers h seat v r w → TakesPeers h seat u r w
+takes_both h seat u v w (Ok done) first second = (second.0, taken_on h seat u v w None first.0 first.1 second.1)
+takes_both h seat u v w (Err fault) first x =
+    record { now = x.now; taken = taken_on h seat u v w x.now first.0 first.1 x.taken; refused = refused_on h seat u v w x.now (fault_of fault) first.0 first.1 x.taken x.refused }

@@ -1,17 +1,21 @@
 -- The answer to a request, as it is to the node of a hub whose sessions look anew for what they offer: one row of the seat whose turn
 -- it is, and what a stop leaves of it (own).
-use Rattle.std.specs.Prelude.{◌≡◌, ℕ, ◌≤◌, ◌<◌, List, [], Option, Some, None, Result, Ok, Err}
+use Rattle.std.specs.Prelude.{◌≡◌, ℕ, ◌+◌, ◌≤◌, ◌<◌, length, List, [], ◌∷◌, Option, Some, None, Result, Ok, Err}
 use Rattle.ftn_addr.specs.Address.{Address}
+use Rattle.ftn_addr.specs.Limits.{IsKey}
 use Rattle.ftn_addr.specs.Moments.{MomentsGrew}
 use Rattle.ftn_addr.specs.declared.source_file.Action.TheVariants.{Leave}
+use Rattle.node_model.specs.declared.store.OutStat.{OutStat}
 use Rattle.node_model.specs.declared.store.StoreFault.{StoreFault}
 use Rattle.node_model.specs.declared.words.Flavour.TheVariants.{Hold as Held_back}
-use Rattle.node_model.specs.Calls.{Answer, Call, Caused, Counts_alone, IsQueue, Knows, KnownStep, Tells, counts_of, one}
+use Rattle.node_model.specs.Calls.{Answer, Call, Caused, Counts_alone, IsQueue, Knows, KnownStep, Tells, one}
 use Rattle.node_model.specs.Images.{IsState, KnownPasses}
+use Rattle.node_model.specs.Items.{EntryOf}
 use Rattle.node_model.specs.Lists.{Each}
 use Rattle.node_model.specs.SendRows.{Slot}
 use Rattle.node_model.specs.Stocks.{NewEntry}
-use Rattle.node_model.specs.Stores.{OpensShelf, Queue_all, Shelf, Slots, StoreDoes, StoreStand, StoreState}
+use Rattle.node_model.specs.StoreWords.{NumbersRise, WasStaged}
+use Rattle.node_model.specs.Stores.{OpensShelf, Queue_all, Shelf, Slots, StoreDoes, StoreStand, StoreState, with_staged}
 use Rattle.hub_core.specs.Anew.{LooksAnew}
 use Rattle.hub_core.specs.Hubs.{Fitted, HubState, IsSettled, knows_over}
 use Rattle.outbound_store.specs.Calls.{want_in}
@@ -67,7 +71,7 @@ Answers old new now =
 -- What a call that stages leaves: it did, and the store is whole; or that is the answer to the request, which was refused.
 abbrev pub StagesSo : {X : Type 0} → Result X StoreFault → StoreStand → StoreStand → Type 0
 StagesSo (Ok x) old new = (new.state.counts.broken ≡ None) × Stages old new
-StagesSo {X} (Err fault) old new = Answers old new (want_in {X} (Err fault))
+StagesSo {X} (Err fault) old new = Answers old new (want_in {T = X} (Err fault))
 
 -- a file that answers a request: it waits for that address to call, and its source stays
 pub record IsAnswerFile (dest : Address) (f : NewEntry) : Type 0 where
@@ -84,3 +88,36 @@ pub record AnswersRequest (receipt : ℕ) (dest : Address) (old new : StoreState
   pub for_dest : Each (IsAnswerFile dest) files
   pub slots : List Slot
   pub queued : StoreDoes mid (Queue_all None (Some receipt) files) (Slots slots) new
+
+-- the file of an answer that is queued for a staged copy
+abbrev pub names_answer : Address → List ℕ → ℕ → OutStat → NewEntry
+names_answer dest name number stat =
+    record { number = number; dest = dest; key = record { name = name; size = stat.size; time = stat.time }; flavour = Held_back; source = []; action = Leave }
+
+-- a file of an answer was staged under the next number, with as many bytes as its key says
+pub record StagesFile (dest : Address) (f : NewEntry) (old new : StoreState) : Type 0 where
+  pub bytes : List ℕ
+  pub staged : new ≡ with_staged bytes old
+  pub number : f.number ≡ old.staged + 1
+  pub size : f.key.size ≡ length bytes
+  pub key : IsKey f.key
+  pub is : IsAnswerFile dest f
+
+abbrev pub StagesOne : Address → Option NewEntry → StoreState → StoreState → Type 0
+StagesOne dest None old new = new ≡ old
+StagesOne dest (Some f) old new = StagesFile dest f old new
+
+-- it, if there is one
+abbrev pub listed : Option NewEntry → List NewEntry
+listed None = []
+listed (Some f) = f ∷ []
+
+-- These files of an answer were staged, and may be queued together. The durable state is as it was.
+pub record IsBatch (dest : Address) (files : List NewEntry) (old new : StoreState) : Type 0 where
+  pub state : new.stock.state ≡ old.stock.state
+  pub for_dest : Each (IsAnswerFile dest) files
+  pub keys : Each (λ (f : NewEntry). IsKey f.key) files
+  pub staged : Each (WasStaged new.stock.staged) files
+  pub low : Each (λ (f : NewEntry). f.number ≤ new.staged) files
+  pub rise : NumbersRise files
+  pub above : Each (λ (f : NewEntry). Each (λ (e : EntryOf ℕ). e.number < f.number) new.stock.state.queue) files

@@ -1,5 +1,5 @@
 -- The desk of a seat, what its calls change of the hub, and the take-in before its session (own).
-use Rattle.std.specs.Prelude.{◌≡◌, ◌≢◌, ℕ, Option, Some, None, Result, Ok, Err, length}
+use Rattle.std.specs.Prelude.{◌≡◌, ◌≢◌, ◌⊎◌, ℕ, Option, Some, None, Result, Ok, Err, length}
 use Rattle.ftn_addr.specs.Address.{Address}
 use Rattle.ftn_addr.specs.Limits.{IsAddress}
 use Rattle.node_model.specs.Calls.{EndsRefused}
@@ -7,11 +7,11 @@ use Rattle.node_model.specs.Desks.{fault_of}
 use Rattle.node_model.specs.declared.desk.DeskFault.{DeskFault}
 use Rattle.node_model.specs.declared.desk.DeskFault.TheVariants as D
 use Rattle.node_model.specs.Stores.{StoreStand}
-use Rattle.hub_core.specs.Anew.{LooksAnew}
-use Rattle.hub_core.specs.Anew.{LooksAnew, chair_anew}
+use Rattle.hub_core.specs.Anew.{LooksAnew, anew, chair_anew}
 use Rattle.hub_core.specs.Hubs.{HubState, Fitted, IsReady, IsSettled, chair_in}
 use Rattle.take_steps.specs.declared.wanting.Wanting.{Wanting}
 use Rattle.take_steps.specs.declared.wanting.Wanting.TheVariants.{Places, Memory}
+use Rattle.outbound_desk.specs.Answering.{Answered}
 use Rattle.outbound_desk.specs.TakenIn.{AreDrawn, TakenIn}
 
 -- a ready seat, and the home within its limits
@@ -54,3 +54,8 @@ pub record Refuses (h : HubState) (seat : ℕ) (old : StoreStand) (fault : DeskF
 abbrev pub TakesPeers : HubState → ℕ → StoreStand → Result (Unit {0}) DeskFault → StoreStand → Type 0
 TakesPeers h seat old (Ok done) new = (new.state.counts.broken ≡ None) × TakenIn h seat old new None
 TakesPeers h seat old (Err fault) new = Refuses h seat old fault new
+
+-- A request that was just received was answered, at the hub whose searches begin anew, or that was refused; or nothing changed.
+abbrev pub AnswersBehind : {S : Type 0} → (S → StoreStand) → HubState → ℕ → S → S → HubState → Type 0
+AnswersBehind stand h seat old new g =
+    ((new ≡ old) × (g ≡ h)) ⊎ ((g ≡ anew h) × LooksAnew (anew h) × ((now : Option Wanting) × Answered (anew h) seat (stand old) (stand new) now))

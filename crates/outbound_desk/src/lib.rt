@@ -22,6 +22,7 @@
 mod desk;
 mod laws;
 mod peers;
+mod requests;
 
 pub use desk::{DeskOutbound, LineDesk};
 pub use laws::take_ins_are_rows;

@@ -23,4 +23,3 @@ data_now-requires-clause-turn g c =
 pub returns-clause-does : goal.returns-clause-does
 returns-clause-does g c =
     does_turn (g.S.Store.stand c.args.self.now.hub.store) (g.S.Store.stand c.take_turn.new.store) (g.S.Store.stand c.data_now.new.self.store) (hub_state c.args.self.now.hub.seats) (hub_state c.data_now.new.self.seats) c.args.self.now.seat (Data_call c.args.bytes.now) (data_answer c.data_now.result) c.take_turn.ensures.made c.take_turn.ensures.leaves c.data_now.ensures.does
-

@@ -7,8 +7,8 @@ use Rattle.outbound_store.specs.declared.taking_store.TakingStore.{TakingStore}
 use Rattle.outbound_desk.proofs.DeskOpening.{anew_before, opens_behind, refuses_behind}
 use Rattle.outbound_desk.proofs.desk.LineDeskTakingStoreDesk.begin.Goals as goal
 
-pub take_in_first-requires-clause-ready : goal.take_in_first-requires-clause-ready
-take_in_first-requires-clause-ready g c = record { ready = c.look_anew.ensures.ready c.args.self.now.desk.seat c.requires.ready.ready; home_within = c.requires.ready.home_within }
+pub prepare-requires-clause-ready : goal.prepare-requires-clause-ready
+prepare-requires-clause-ready g c = record { ready = c.look_anew.ensures.ready c.args.self.now.desk.seat c.requires.ready.ready; home_within = c.requires.ready.home_within }
 
 pub returns-in-Ok-clause-made : goal.returns-in-Ok-clause-made
 returns-in-Ok-clause-made g c =
@@ -16,7 +16,7 @@ returns-in-Ok-clause-made g c =
     let desk = c.args.self.now.desk in
     let hub = c.look_anew.new.self in
     anew_before c.args.role (map address c.args.peers.now) c.args.secure c.args.now St (hub_state desk.hub.seats) (hub_state hub.seats) _ desk.seat _ desk.hub.store.store hub.store.store _ _ c.look_anew.ensures.seats (ap (λ (t : TakingStore g.row.D.Denot). t.store) c.look_anew.ensures.store)
-    (opens_behind c.args.role (map address c.args.peers.now) c.args.secure c.args.now (hub_state hub.seats) _ _ desk.seat _ _ (St hub.store.store) _ _ _ c.take_in_first.ensures.seats c.take_in_first.ensures.seat c.begin-in-Ok.ensures.rule.0 c.in-Ok.ensures.takes.0 c.in-Ok.ensures.takes.1 c.begin-in-Ok.ensures.made)
+    (opens_behind c.args.role (map address c.args.peers.now) c.args.secure c.args.now (hub_state hub.seats) _ _ desk.seat _ _ (St hub.store.store) _ _ _ c.prepare.ensures.seats c.prepare.ensures.seat c.begin-in-Ok.ensures.rule.0 c.in-Ok.ensures.takes.0 c.in-Ok.ensures.takes.1 c.begin-in-Ok.ensures.made)
 
 pub returns-in-Err-clause-made : goal.returns-in-Err-clause-made
 returns-in-Err-clause-made g c =
@@ -24,4 +24,4 @@ returns-in-Err-clause-made g c =
     let desk = c.args.self.now.desk in
     let hub = c.look_anew.new.self in
     anew_before c.args.role (map address c.args.peers.now) c.args.secure c.args.now St (hub_state desk.hub.seats) (hub_state hub.seats) _ desk.seat _ desk.hub.store.store hub.store.store _ _ c.look_anew.ensures.seats (ap (λ (t : TakingStore g.row.D.Denot). t.store) c.look_anew.ensures.store)
-    (refuses_behind c.args.role (map address c.args.peers.now) c.args.secure c.args.now (hub_state hub.seats) _ desk.seat _ (St hub.store.store) _ _ c.take_in_first.ensures.seats c.take_in_first.ensures.seat c.in-Err.ensures.takes)
+    (refuses_behind c.args.role (map address c.args.peers.now) c.args.secure c.args.now (hub_state hub.seats) _ desk.seat _ (St hub.store.store) _ _ c.prepare.ensures.seats c.prepare.ensures.seat c.in-Err.ensures.takes)
