@@ -186,7 +186,7 @@ impl<D: Yard> Desk for LineDesk<TakingStore<D>> {
         self.desk.hub.look_anew();
         match self.prepare(alloc, peers, now) {
             Ok(()) => self.desk.begin(alloc, role, peers, secure, now),
-            Err(fault) => Err(fault),
+            Err(wanted) => Err(wanted),
         }
     }
 

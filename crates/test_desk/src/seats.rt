@@ -75,6 +75,7 @@ fn outbound(alloc: Global) -> Result<DeskOutbound>
         home: addr(alloc, 1042)?,
         base: Bytes::from_slice(alloc, b"out")?,
         zone: 2,
+        folders: Vec::new(alloc),
     })
 }
 
@@ -123,6 +124,7 @@ pub fn open<D: Yard + Drop>(alloc: Global, disk: D) -> Result<Box<Seats<D>>>
     let desk = LineDesk {
         desk: seated(alloc, store)?,
         outbound,
+        alloc,
     };
     Ok(Box::new(alloc, Seats { desk })?)
 }
