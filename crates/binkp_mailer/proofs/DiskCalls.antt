@@ -7,7 +7,6 @@ use Rattle.disk_model.specs.Changes.{Every}
 use Rattle.disk_model.specs.Moments.{Now, Leaves}
 use Rattle.disk_model.specs.World.{World}
 use Rattle.node_model.specs.Durable.{Durable}
-use Rattle.node_model.specs.Node.{Settings}
 use Rattle.node_model.specs.Receipts.{HasOnce, SettledStays}
 use Rattle.node_model.specs.StoreStates.{Shelf, Stored, IfTold}
 use Rattle.node_model.specs.Stores.{OpensShelf, StoreStand, TellsOn}
@@ -21,7 +20,7 @@ use Rattle.disk_model.specs.declared.answers.Marking.TheVariants.{Made, Exists}
 use Rattle.node_store.specs.OutboundMarks.{mark_gone, marked_so}
 use Rattle.session_auth.specs.Sides.{Side, Answers, Calls}
 use Rattle.node_store.specs.Opening.{Recovers}
-use Rattle.node_store.specs.Stored.{Holding, state_of, stand_of, stored_in}
+use Rattle.node_store.specs.Stored.{Holding, stand_of, stored_in}
 use Rattle.node_store.specs.Worlds.{OpensAs, Opens}
 use Rattle.node_store.proofs.Openings.{one_shelf, opens_to}
 use Rattle.session_run.specs.Reports.{ReportText}

@@ -2,7 +2,6 @@
 use Rattle.std.proofs.Common.{◌≡◌, ◌∙◌, ℕ, ◌≤◌, ◌<◌, arith, Option, Some, None, Result, Ok, Err, option_map, refl, sym, ap, subst}
 use Rattle.ftn_addr.specs.Counts.{CountGrew, Increased}
 use Rattle.ftn_addr.proofs.CountsGrow.{count_grew-increased, count_grew-refl}
-use Rattle.node_model.specs.Durable.{Durable}
 use Rattle.node_model.specs.Node.{Settings}
 use Rattle.node_model.specs.StoreStates.{Shelf, Stored, StoreState, StoreStand, IfTold}
 use Rattle.node_model.specs.Stores.{IsShelf, OpensShelf, TellsOn}

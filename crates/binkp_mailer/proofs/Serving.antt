@@ -1,6 +1,5 @@
 -- A source of lines that gave none yet has them all back.
-use Rattle.std.proofs.Common.{◌≡◌, ℕ, ◌<◌, arith, List, [], ◌∷◌, ◌++◌, Option, Some, None, option_map, length, refl, ap, subst, sym}
-use Rattle.std.specs.Prelude.{slice_get}
+use Rattle.std.proofs.Common.{ℕ, arith, List, [], ◌∷◌, ◌++◌, Option, Some, None, option_map, length, ap}
 use Rattle.binkp_link.specs.Lines.{LineState}
 use Rattle.binkp_link.specs.LineSources.{LinesState, LinesTold, listening}
 use Rattle.binkp_mailer.specs.OverLines.{IsFresh, NoneHanded}

@@ -1,5 +1,5 @@
 -- What `serve` does over a disk (own).
-use Rattle.std.specs.Prelude.{◌≡◌, ℕ, ◌==◌, Bool, true, List, [], Option, Some, None, Result, Ok, if◌then◌else◌}
+use Rattle.std.specs.Prelude.{◌≡◌, ℕ, ◌==◌, Bool, true, List, [], Option, if◌then◌else◌}
 use Rattle.disk_model.specs.World.{World}
 use Rattle.ftn_addr.specs.Counts.{next_count}
 use Rattle.binkp_link.specs.Lines.{SinkState}
