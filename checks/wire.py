@@ -79,7 +79,7 @@ BROKEN_FRAME = command(ERR, b"broken frame")
 OFFSET_AGAIN = command(ERR, b"offset again")
 BAD_PASSWORD = command(ERR, b"bad password")
 NOT_CALLED = command(ERR, b"not the called address")
-USAGE = b"status 1 Usage\nbinkp: the words are `DIR answer`, `DIR call ADDR`, `DIR serve`, `DIR lookup ADDR`, `DIR compile FILE`, `DIR list` or `DIR take`, as in `. call 2:5047/13`; DIR has the settings, `binkp.conf`\n"
+USAGE = b"status 1 Usage\nbinkp: the words are `DIR answer`, `DIR call ADDR`, `DIR serve`, `DIR lookup ADDR`, `DIR compile FILE`, `DIR list`, `DIR take` or `trial COUNT START`, as in `. call 2:5047/13`; DIR has the settings, `binkp.conf`\n"
 
 
 def told(end, peer, received):

@@ -23,6 +23,7 @@ text_of (W.Compile path) = path
 text_of W.Listing = []
 text_of W.Taking = []
 text_of W.Serving = []
+text_of (W.Trying count start) = []
 
 pub not_called : (home : Address) (text : List ℕ) → ((peer : Address) → Spells home text peer → ⊥) → (side : Side) → AsksFor (W.Call text) home side → ⊥
 not_called home text none side (to_answer is answer) = let clash : W.Call text ≡ W.Answer = answer in cc

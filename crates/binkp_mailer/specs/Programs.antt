@@ -10,6 +10,7 @@ use Rattle.command_words.specs.Forms as W
 use Rattle.command_words.specs.Forms.{Command, HasForm}
 use Rattle.still_commands.specs.Receipts.{KeepsReceived}
 use Rattle.still_commands.specs.Still.{IsStill, StillCall}
+use Rattle.trial_command.specs.Trial.{TrialCall}
 use Rattle.binkp_mailer.specs.DiskCall.{DiskCall, KeepsReceipts}
 use Rattle.binkp_mailer.specs.Reports.{Prints}
 use Rattle.binkp_mailer.specs.ServeCall.{ServeCall}
@@ -38,10 +39,12 @@ module _ {D : Type 0} (files : D → World → Type 0) (tells : Bool) (content :
     pub cause : DiskCause tells content faults status disk disk'
     pub stays : tells ≡ true → KeepsReceipts content moment images disk disk'
 
-  -- Words of a command without a session run that, and no line is asked for; `serve` serves; words of a call run it, with one challenge. Words
-  -- of no form are told as such, and so is want of memory for them: then nothing was done.
+  -- Words of a command without a session run that, and no line is asked for; `trial` holds a trial, and touches neither lines nor disk;
+  -- `serve` serves; words of a call run it, with one challenge. Words of no form are told as such, and so is want of memory for them: then
+  -- nothing was done.
   pub data Runs_over (words : List (List ℕ)) (lines : LinesState) (disk : D) (out : SinkState) (status : Status) (lines' : LinesState) (disk' : D) (out' : SinkState) : Type 0 where
     A_still : (command : Command) → HasForm words command → IsStill command → (now : ℕ) → StillOver command now disk out status disk' out' → lines' ≡ lines → Runs_over words lines disk out status lines' disk' out'
+    A_trial : (count start : ℕ) → HasForm words (W.Trying count start) → TrialCall count start out status out' → OutCause status out out' → lines' ≡ lines → disk' ≡ disk → Runs_over words lines disk out status lines' disk' out'
     A_serve : HasForm words W.Serving → ServesOver lines disk out status lines' disk' out' → Runs_over words lines disk out status lines' disk' out'
     A_call : (command : Command) → HasForm words command → HoldsOne command → (challenge : List ℕ) (now : ℕ) → CallsOver command challenge now lines disk out status lines' disk' out' → Runs_over words lines disk out status lines' disk' out'
     No_form : ((command : Command) → HasForm words command → ⊥) → Prints None Usage status out out' → lines' ≡ lines → disk' ≡ disk → Runs_over words lines disk out status lines' disk' out'

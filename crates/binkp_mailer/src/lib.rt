@@ -3,7 +3,7 @@
 //!
 //! [`run_program`] is given the words behind the folder, a disk, the lines, a clock, random bytes and a sink, and answers the exit status.
 //! It reads the words once, and hands their form on: to [`run_serve`], which serves until it is told to stop (`binkp_serve`), to
-//! [`run_still`](still_commands::run_still), or to [`run_call`], which reads the settings of the disk
+//! [`run_still`](still_commands::run_still), to [`run_trial`](trial_command::run_trial), or to [`run_call`], which reads the settings of the disk
 //! ([`read_settings`](command_base::read_settings)), opens its store, and answers who calls next ([`answer_next`]), or calls a node at
 //! its host under its call mark ([`call_node`]). The session begins with the take-in of its peer's outbound
 //! ([`hold_with_outbound`]); behind it what is received goes to the inbound folders ([`give_behind`]), and what came of it is printed
@@ -15,7 +15,7 @@
 //! let exit = status.number();                  // 0 where both ends finished
 //! ```
 //!
-//! Left out: the program itself (`binkp`), and what the commands without a session do (`still_commands`).
+//! Left out: the program itself (`binkp`), and what the commands without a session do (`still_commands`, `trial_command`).
 #![tactic(auto)]
 
 mod call_mark;

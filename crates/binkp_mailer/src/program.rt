@@ -18,6 +18,7 @@ use ftn_addr::{Bytes, NoMemory};
 use std::alloc::Global;
 use std::sync::Wait;
 use still_commands::run_still;
+use trial_command::run_trial;
 
 /// How the program ends: with this exit status, and, where the words are no command, with this line on standard
 /// error.
@@ -33,7 +34,7 @@ pub fn explanation(status: &Status) -> Option<&'static str>
 {
     match status {
         Status::Usage => Some(
-            "binkp: the words are `DIR answer`, `DIR call ADDR`, `DIR serve`, `DIR lookup ADDR`, `DIR compile FILE`, `DIR list` or `DIR take`, as in `. call 2:5047/13`; DIR has the settings, `binkp.conf`",
+            "binkp: the words are `DIR answer`, `DIR call ADDR`, `DIR serve`, `DIR lookup ADDR`, `DIR compile FILE`, `DIR list`, `DIR take` or `trial COUNT START`, as in `. call 2:5047/13`; DIR has the settings, `binkp.conf`",
         ),
         Status::Done
         | Status::ConfBad(_)
@@ -93,6 +94,7 @@ fn run_words<W: Wait, D: Yard, N: Lines, C: Clock, R: Dice, O: Sink>(
         }
         Ok(Some(Form::Serve)) => run_serve(rt, alloc, disk, lines, clock, dice, out),
         Ok(Some(Form::Still(form))) => run_still(alloc, form, disk, clock.now(), out),
+        Ok(Some(Form::Trial(form))) => (run_trial(alloc, form, out), disk),
         Ok(None) => (print(alloc, Outcome::Usage, out), disk),
         Err(NoMemory) => (print(alloc, Outcome::NoMemory, out), disk),
     }

@@ -1,4 +1,4 @@
--- Bytes that are the same, and lines of one word and of two.
+-- Bytes that are the same, and lines of one word, of two and of three.
 use Rattle.std.proofs.Common.{rules, refl, sym, ap, arith, ◌∙◌, ◌≡◌, ℕ, List, length, true, false, [], ◌∷◌, get_or, nat_eq}
 use Rattle.std.specs.Cmp.Lexicographic.{pointwise}
 use Rattle.ftn_addr.specs.Content.{Content}
@@ -33,3 +33,22 @@ line_of_one words line word is one at = go words at is.rest is.words-are (sym is
     go (a ∷ b ∷ more) at (v ∷ []) are count =
         let last : v ≡ b.list = cc in
         are ∙ ap (λ (w : List ℕ). line.command.now ∷ w ∷ []) (last ∙ ap (λ (w : Content). w.list) (sym at))
+
+-- a line of two values
+pub line_of_two : (words : List Content) (line : Line) (first second : Content) → IsLineOf (texts words) line → line.values ≡ 2
+    → first ≡ get_or words 1 first → second ≡ get_or words 2 second → texts words ≡ line.command.now ∷ first.list ∷ second.list ∷ []
+line_of_two words line first second is two first_at second_at = go words first_at second_at is.rest is.words-are (sym is.count ∙ two)
+  where
+    go : (words : List Content) → first ≡ get_or words 1 first → second ≡ get_or words 2 second → (rest : List (List ℕ)) → texts words ≡ line.command.now ∷ rest → length rest ≡ 2
+        → texts words ≡ line.command.now ∷ first.list ∷ second.list ∷ []
+    go words first_at second_at [] are count = absurd (omega arith)
+    go words first_at second_at (v ∷ []) are count = absurd (omega arith)
+    go words first_at second_at (v ∷ w ∷ x ∷ vs) are count = absurd (omega arith)
+    go [] first_at second_at (v ∷ w ∷ []) are count = cc
+    go (a ∷ []) first_at second_at (v ∷ w ∷ []) are count = cc
+    go (a ∷ b ∷ []) first_at second_at (v ∷ w ∷ []) are count = cc
+    go (a ∷ b ∷ c ∷ more) first_at second_at (v ∷ w ∷ []) are count =
+        let middle : v ≡ b.list = cc in
+        let last : w ≡ c.list = cc in
+        are ∙ ap (λ (l : List ℕ). line.command.now ∷ l ∷ w ∷ []) (middle ∙ ap (λ (w : Content). w.list) (sym first_at))
+        ∙ ap (λ (l : List ℕ). line.command.now ∷ first.list ∷ l ∷ []) (last ∙ ap (λ (w : Content). w.list) (sym second_at))

@@ -5,12 +5,16 @@ ghost use Rattle.command_words.specs.Line.{IsLineOf};
 ghost use Rattle.std.specs.List.{All};
 
 use crate::line::{Line, split};
+use crate::numbers::number_within;
 use crate::plain::plain_texts;
 use ftn_addr::{Bytes, NoMemory};
 use std::alloc::Global;
 
 /// The most bytes of a path.
 const MOST_PATH: usize = 1024;
+
+/// The most files of a trial.
+const MOST_FILES: u32 = 2_000;
 
 /// A command that holds one session.
 #[derive(Clone, Copy, Debug)]
@@ -34,6 +38,15 @@ pub enum StillForm<'a> {
     Take,
 }
 
+/// `trial`, which has neither a folder nor settings.
+#[derive(Clone, Copy, Debug)]
+pub struct TrialForm {
+    /// How many files there are: 1 to 2,000.
+    pub count: u32,
+    /// The number from which all others are drawn.
+    pub start: u32,
+}
+
 /// What the words ask for.
 #[derive(Clone, Copy, Debug)]
 pub enum Form<'a> {
@@ -41,6 +54,7 @@ pub enum Form<'a> {
     Still(StillForm<'a>),
     /// `serve`
     Serve,
+    Trial(TrialForm),
 }
 
 // The form of a command alone.
@@ -78,6 +92,19 @@ fn form_of_two<'a>(command: &[u8], word: &'a Bytes) -> Option<Form<'a>>
     }
 }
 
+// The form of a command and two words.
+fn form_of_three<'a>(command: &[u8], first: &Bytes, second: &Bytes) -> Option<Form<'a>>
+    ensures some { IfSome result (λ form. HasForm (command.now ∷ first.now.list ∷ second.now.list ∷ []) (command_of form)) }
+    ensures none { result ≡ None → (asked : Command) → HasForm (command.now ∷ first.now.list ∷ second.now.list ∷ []) asked → ⊥ }
+{
+    if command != b"trial".as_slice() {
+        return None;
+    }
+    let count = number_within(first.as_slice(), 1, MOST_FILES)?;
+    let start = number_within(second.as_slice(), 0, u32::MAX)?;
+    Some(Form::Trial(TrialForm { count, start }))
+}
+
 // The form of a command and as many values behind it, which are the words.
 fn form_of_line<'a>(line: Line<'_>, words: &'a [Bytes]) -> Option<Form<'a>>
     requires line { IsLineOf (texts words.now) line }
@@ -88,6 +115,7 @@ fn form_of_line<'a>(line: Line<'_>, words: &'a [Bytes]) -> Option<Form<'a>>
     match line.values {
         0 => form_of_one(line.command.as_bytes()),
         1 => form_of_two(line.command.as_bytes(), &words[1]),
+        2 => form_of_three(line.command.as_bytes(), &words[1], &words[2]),
         _ => None,
     }
 }

@@ -17,6 +17,7 @@ use mem_node::Resting;
 use std::alloc::Global;
 use std::sync::Wait;
 use still_commands::run_still;
+use trial_command::run_trial;
 
 // The source whose next caller has that line.
 fn caller(alloc: Global, line: MemLine) -> Result<MemLines, NoMemory>
@@ -143,6 +144,7 @@ fn run_form(
 ) -> (Status, MemDisk) {
     match form {
         Some(Form::Still(form)) => run_still(alloc, form, disk.into_ready(), 1_000_000_000, out),
+        Some(Form::Trial(form)) => (run_trial(alloc, form, out), disk.into_disk()),
         _ => (print(alloc, Outcome::Usage, out), disk.into_disk()),
     }
 }

@@ -1,7 +1,7 @@
 //! Names, the words of a command, flow files and file requests.
 use crate::shown::{behind_bars, lists, or_none, quoted};
 use anyhow::Result;
-use command_words::{Form, SessionForm, StillForm, read_form};
+use command_words::{Form, SessionForm, StillForm, TrialForm, read_form};
 use disk_model::Name;
 use file_request::{Share, answer_request};
 use flow_file::{FlowLine, read_flow};
@@ -32,25 +32,38 @@ pub fn own_name(alloc: Global, text: &[u8]) -> Result<String> {
 }
 
 // A command, and the word behind it.
-fn parts<'a>(form: Form<'a>) -> (&'static str, &'a [u8]) {
+fn worded(alloc: Global, command: &str, word: &[u8]) -> Result<String> {
+    let word = shown(alloc, word)?;
+    Ok(format!(in alloc; "{command} \"{word}\"")?)
+}
+
+// A trial, and the numbers behind it.
+fn numbered_trial(alloc: Global, form: TrialForm) -> Result<String> {
+    let TrialForm { count, start } = form;
+    Ok(format!(in alloc; "trial {count} {start}")?)
+}
+
+// A command, and what stands behind it.
+fn told(alloc: Global, form: Form<'_>) -> Result<String> {
     match form {
-        Form::Session(SessionForm::Answer) => ("answer", &[]),
-        Form::Session(SessionForm::Call(text)) => ("call", text.as_slice()),
-        Form::Still(StillForm::Lookup(text)) => ("lookup", text.as_slice()),
-        Form::Still(StillForm::Compile(path)) => ("compile", path.as_slice()),
-        Form::Still(StillForm::List) => ("list", &[]),
-        Form::Still(StillForm::Take) => ("take", &[]),
-        Form::Serve => ("serve", &[]),
+        Form::Session(SessionForm::Answer) => worded(alloc, "answer", &[]),
+        Form::Session(SessionForm::Call(text)) => worded(alloc, "call", text.as_slice()),
+        Form::Still(StillForm::Lookup(text)) => worded(alloc, "lookup", text.as_slice()),
+        Form::Still(StillForm::Compile(path)) => worded(alloc, "compile", path.as_slice()),
+        Form::Still(StillForm::List) => worded(alloc, "list", &[]),
+        Form::Still(StillForm::Take) => worded(alloc, "take", &[]),
+        Form::Serve => worded(alloc, "serve", &[]),
+        Form::Trial(form) => numbered_trial(alloc, form),
     }
 }
 
-/// The command that words behind bars are, and the word behind it.
+/// The command that words behind bars are, and what stands behind it.
 pub fn command(alloc: Global, text: &[u8]) -> Result<String> {
     let words = behind_bars(alloc, text)?;
-    let form = read_form(alloc, words.as_slice())?;
-    let (command, word) = form.map_or(("none", [].as_slice()), parts);
-    let word = shown(alloc, word)?;
-    Ok(format!(in alloc; "{command} \"{word}\"")?)
+    match read_form(alloc, words.as_slice())? {
+        Some(form) => told(alloc, form),
+        None => worded(alloc, "none", &[]),
+    }
 }
 
 fn push_flow(alloc: Global, line: &FlowLine, out: &mut String) -> Result<(), NoMemory> {

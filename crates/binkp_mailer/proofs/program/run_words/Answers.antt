@@ -1,7 +1,7 @@
 use Rattle.std.proofs.Common.{Ok, Option, ap, refl}
 use Rattle.command_words.specs.Forms.{session_command, still_command}
 use Rattle.command_words.specs.declared.form.Form.{Form}
-use Rattle.binkp_mailer.specs.Programs.{A_call, A_serve, A_still, No_form, No_words}
+use Rattle.binkp_mailer.specs.Programs.{A_call, A_serve, A_still, A_trial, No_form, No_words}
 use Rattle.binkp_mailer.proofs.Forms.{form_is, holds_one, is_still}
 use Rattle.binkp_mailer.proofs.Serving.{fresh_back}
 use Rattle.binkp_mailer.proofs.program.run_words.Goals as goal
@@ -22,6 +22,11 @@ pub returns-in-Ok-Some-Still : goal.returns-in-Ok-Some-Still
 returns-in-Ok-Some-Still g c =
     A_still (still_command c.in-Ok-Some-Still.form) (form_is _ _ _ _ c.in-Ok-Some-Still.field-0-is c.in-Ok-Some-Still.field-0-0-is c.in-Ok-Some-Still.ensures.some) (is_still c.in-Ok-Some-Still.form) _
     (record { call = c.run_still.ensures.call; cause = c.run_still.ensures.cause; out_cause = c.run_still.ensures.out_cause; stays = c.run_still.ensures.received }) refl
+
+pub returns-in-Ok-Some-Trial : goal.returns-in-Ok-Some-Trial
+returns-in-Ok-Some-Trial g c =
+    A_trial _ _ (form_is _ _ _ _ c.in-Ok-Some-Trial.field-0-is c.in-Ok-Some-Trial.field-0-0-is c.in-Ok-Some-Trial.ensures.some)
+    c.run_trial.ensures.call c.run_trial.ensures.out_cause refl refl
 
 pub returns-in-Ok-None : goal.returns-in-Ok-None
 returns-in-Ok-None g c = No_form (c.in-Ok-None.ensures.none (ap (λ (o : Option Form). Ok o) c.in-Ok-None.field-0-is)) c.print.ensures refl refl
