@@ -1,6 +1,8 @@
 //! `binkp DIR WORDS` is the mailer over the folder DIR: it serves until it is told to stop, answers a caller on standard input and
 //! output, as under inetd, or calls a node at its host. What comes of it goes to standard error.
 //!
+//! `binkp trial COUNT START` tries two nodes against one another in memory, and has no folder.
+//!
 //! `binkp --help` and `binkp --version` tell of the program itself.
 //!
 //! All else that it does is [`run_program`](binkp_mailer::run_program)'s, with the system's folder, lines and clock, and challenges
@@ -20,10 +22,12 @@ mod told;
 use binkp_link::Dice;
 use binkp_mailer::{Ended, refuse_for_memory, run_program};
 use closed::hold_closed;
+use command_words::{Form, read_form};
 use ftn_addr::{Bytes, NoMemory};
 use lock::lock;
 use outbound::look_for_outbound;
 use real_edge::{RealFolder, StdSink, SystemClock, SystemDice, SystemLines, standard_line};
+use std::alloc::Global;
 use std::process::ExitCode;
 use std::rt::{Env, Stdin, Stdout};
 use std::sync::Wait;
@@ -42,25 +46,52 @@ const TOLD: u8 = 0;
 
 const OUT_FAULT: u8 = 16;
 
-/// The folder, and the words behind it.
+/// The folder, and the words behind it. A trial has no folder: all words are its own.
 #[derive(Drop)]
 struct Given {
     folder: Option<String>,
     words: Vec<Bytes>,
 }
 
-/// The words behind the program's name.
-fn read_given<R: Env + AllocGlobal>(rt: &R) -> Result<Given, NoMemory> {
-    let mut words = Vec::new(rt.alloc());
+/// The words that the program is given, but for so many of the first: its own name is the first of all.
+fn words_behind<R: Env + AllocGlobal>(rt: &R, count: usize) -> Result<Vec<Bytes>, NoMemory> {
     let Ok(given) = env::args(rt) else {
         return Err(NoMemory);
     };
-    let mut given = given.skip(1);
-    let folder = given.next();
-    for word in given {
+    let mut words = Vec::new(rt.alloc());
+    for word in given.skip(count) {
         words.push(Bytes::from_slice(rt.alloc(), word.as_bytes())?)?;
     }
-    Ok(Given { folder, words })
+    Ok(words)
+}
+
+/// The word behind the program's name.
+fn first_word<R: Env + AllocGlobal>(rt: &R) -> Result<Option<String>, NoMemory> {
+    match env::args(rt) {
+        Ok(given) => Ok(given.skip(1).next()),
+        Err(_) => Err(NoMemory),
+    }
+}
+
+/// Whether the words are those of a trial.
+fn is_trial(alloc: Global, words: &[Bytes]) -> Result<bool, NoMemory> {
+    let form = read_form(alloc, words)?;
+    Ok(matches!(form, Some(Form::Trial(_))))
+}
+
+/// The folder and the words that the program is given.
+fn read_given<R: Env + AllocGlobal>(rt: &R) -> Result<Given, NoMemory> {
+    let words = words_behind(rt, 1)?;
+    if is_trial(rt.alloc(), words.as_slice())? {
+        return Ok(Given {
+            folder: None,
+            words,
+        });
+    }
+    Ok(Given {
+        folder: first_word(rt)?,
+        words: words_behind(rt, 2)?,
+    })
 }
 
 /// Whether that is the first word behind the folder.
@@ -160,8 +191,8 @@ fn call_in<W: Wait>(
     }
 }
 
-/// The exit status of a call over the folder, which is locked as long as that lasts. Where no folder is given there are no words
-/// either: they are refused before any folder is touched, and none is locked.
+/// The exit status of a call over the folder, which is locked as long as that lasts. Where no folder is given the words are a trial's, or
+/// there are none and they are refused: no folder is touched then, and none is locked.
 fn program<W: Wait>(wait: &W, rt: &HostRuntime, given: &Given) -> u8 {
     let _streams = match hold_closed(rt) {
         Ok(held) => held,

@@ -12,6 +12,7 @@ const HELP: &str = "binkp carries files between FidoNet nodes by binkp/1.0, and 
     binkp DIR list           prints what waits to be sent, and what came in part
     binkp DIR compile FILE   puts a nodelist and its index into DIR
     binkp DIR lookup ADDR    prints how the nodelist reaches a node
+    binkp trial COUNT START  sends files between two nodes in memory, and prints how many came
     binkp --help             prints this
     binkp --version          prints the version
 
