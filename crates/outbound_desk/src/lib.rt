@@ -28,6 +28,8 @@ mod desk;
 mod laws;
 mod peers;
 mod requests;
+mod roaming;
 
 pub use desk::{DeskOutbound, LineDesk};
 pub use laws::take_ins_are_rows;
+pub use roaming::OutboundDesk;
