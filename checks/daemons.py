@@ -12,7 +12,7 @@ FLOWS = {NEAR: "139c0412", FAR: "13b7000d", GONE: "13b7000e"}
 # How long a flow file may wait, in seconds: a take-in comes each 60, and the next caller is waited for at most five.
 WITHIN = 75
 
-SETTINGS = "domain fidonet %s 2\naddress %s@fidonet\ninbound %s\niport %d\nnode %s@fidonet 127.0.0.1:%d secret\nnode %s@fidonet 127.0.0.1:%d\n"
+SETTINGS = "domain fidonet %s 2\naddress %s@fidonet\ninbound %s\nrequest-folder %s\niport %d\nnode %s@fidonet 127.0.0.1:%d secret\nnode %s@fidonet 127.0.0.1:%d\n"
 
 
 def free_ports(many):
@@ -50,15 +50,15 @@ class Node:
     def __init__(self, program, top, name, address, other, beside=None):
         """Its files and what it tells stand in `beside`, where that is named, and all else in `top`."""
         self.program, self.name, self.other = program, name, other
-        self.folder, self.outbound, self.inbound = (os.path.join(top, name + end) for end in ("", ".out", ".in"))
+        self.folder, self.outbound, self.inbound, self.shared = (os.path.join(top, name + end) for end in ("", ".out", ".in", ".share"))
         self.files, self.error = (os.path.join(beside or top, name + end) for end in (".files", ".told"))
-        for path in (self.folder, self.outbound, self.files):
+        for path in (self.folder, self.outbound, self.shared, self.files):
             os.mkdir(path, 0o700)
         self.address, self.port, self.sent, self.child = address, 0, {}, None
 
     def settle(self, port, other_port, gone_port):
         self.port = port
-        wire.settle(self.folder, (SETTINGS % (self.outbound, self.address, self.inbound, port, self.other, other_port, GONE, gone_port)).encode())
+        wire.settle(self.folder, (SETTINGS % (self.outbound, self.address, self.inbound, self.shared, port, self.other, other_port, GONE, gone_port)).encode())
 
     def start(self, user=None, before=()):
         """Starts it, with the rights of a user alone where one is named, by a command before its own where there is one."""
@@ -107,24 +107,38 @@ class Node:
             self.sent[name] = content
         return name
 
+    def ask(self, other, chance):
+        """A request, under the tosser's mark, for a new file of the other node's shared folder."""
+        name, request = other.name + ".asked", FLOWS[self.other] + ".req"
+        other.sent[name], self.sent[request] = chance.randbytes(90000), name.encode()
+        with open(os.path.join(other.shared, name), "wb") as out:
+            out.write(other.sent[name])
+        with self.marked(self.other) as base, open(base + ".req", "wb") as out:
+            out.write(self.sent[request])
+
     def leave(self, name, content):
         path = os.path.join(self.files, name)
         with open(path, "wb") as out:
             out.write(content)
         return path
 
-    def name_in_flow(self, paths, ending, to=None):
-        """Adds lines of files to be sent and removed to a flow file, under the tosser's mark."""
-        base = os.path.join(self.outbound, FLOWS[to or self.other])
+    @contextlib.contextmanager
+    def marked(self, to):
+        """The path of the outbound of a node without its ending, while it has the tosser's mark."""
+        base = os.path.join(self.outbound, FLOWS[to])
         while True:
             try:
                 os.close(os.open(base + ".bsy", os.O_CREAT | os.O_EXCL | os.O_WRONLY))
                 break
             except FileExistsError:
                 time.sleep(0.002)
-        with open(base + ending, "a", encoding="ascii") as flow:
-            flow.write("".join("^%s\n" % path for path in paths))
+        yield base
         os.remove(base + ".bsy")
+
+    def name_in_flow(self, paths, ending, to=None):
+        """Adds lines of files to be sent and removed to a flow file, under the tosser's mark."""
+        with self.marked(to or self.other) as base, open(base + ending, "a", encoding="ascii") as flow:
+            flow.write("".join("^%s\n" % path for path in paths))
 
     def found(self):
         """What stands in its inbound."""
