@@ -12,7 +12,7 @@ use Rattle.turn_gate.specs.Passes.{IsFree, view}
 use Rattle.turn_gate.specs.Views.{new_view}
 use Rattle.shared_desk.specs.Seen.{Sight}
 use Rattle.test_shared.specs.Resting.{IsFresh, Rests, nobody}
-use Rattle.test_shared.specs.Sights.{sight_by}
+use Rattle.mem_shared.specs.Sights.{sight_by}
 
 part_of_two : (settings : Settings) (k : ℕ) → k < 2 → seat_part (with_seat (with_seat (no_seats settings))) k ≡ nobody
 part_of_two settings zero l = refl

@@ -1,4 +1,2 @@
 pub mod Fitting
 pub mod Resting
-pub mod SightLaws
-pub mod Sights

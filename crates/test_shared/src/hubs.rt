@@ -6,11 +6,11 @@ ghost use Rattle.mem_store.specs.ListStates.{stand_of};
 ghost use Rattle.node_model.specs.StoreWords.{FitsQueue, entry_of};
 ghost use Rattle.test_shared.specs.Fitting.{FitsHub, StaysFit};
 ghost use Rattle.test_shared.specs.Resting.{IsFresh, Rests};
-ghost use Rattle.test_shared.specs.Sights.{sight_by};
+ghost use Rattle.mem_shared.specs.Sights.{sight_by};
 
-use crate::round_desk::RoundDesk;
 use ftn_addr::{Action, Addr, Bytes, FileKey, NoMemory};
 use hub_core::{Hub, HubConf, HubDesk};
+use mem_shared::RoundDesk;
 use mem_store::ListStore;
 use node_model::{Flavour, NewFile, Slot, Store, StoreFault};
 use std::alloc::Global;

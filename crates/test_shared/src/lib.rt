@@ -5,5 +5,3 @@
 mod hubs;
 #[cfg(test)]
 mod offers;
-#[cfg(test)]
-mod round_desk;

@@ -6,11 +6,11 @@ ghost use Rattle.mem_store.specs.ListStates.{stand_of};
 ghost use Rattle.turn_gate.specs.Passes.{view};
 ghost use Rattle.shared_desk.specs.AtGate.{IsAtGate};
 ghost use Rattle.test_shared.specs.Resting.{IsFresh, nobody};
-ghost use Rattle.test_shared.specs.Sights.{sight_by};
+ghost use Rattle.mem_shared.specs.Sights.{sight_by};
 
 use crate::hubs::{peer, shared_hub};
-use crate::round_desk::RoundDesk;
 use ftn_addr::Addr;
+use mem_shared::RoundDesk;
 use node_model::{Desk, Offer, Role};
 use shared_desk::{GateDesk, GateName, Roams};
 use std::alloc::Global;

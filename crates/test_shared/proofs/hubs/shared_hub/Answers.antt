@@ -2,7 +2,7 @@ use Rattle.std.proofs.Common.{sym, subst}
 use Rattle.mem_store.specs.ListStates.{stand_of}
 use Rattle.hub_core.specs.Hubs.{hub_state}
 use Rattle.test_shared.specs.Resting.{Rests}
-use Rattle.test_shared.specs.Sights.{sight_by}
+use Rattle.mem_shared.specs.Sights.{sight_by}
 use Rattle.test_shared.proofs.Seats.{fresh}
 use Rattle.test_shared.proofs.hubs.shared_hub.Goals as goal
 

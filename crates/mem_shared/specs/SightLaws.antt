@@ -8,7 +8,7 @@ use Rattle.hub_core.specs.HubCalls.{OwnCall}
 use Rattle.hub_core.specs.HubLaws.{seat_tied}
 use Rattle.turn_gate.specs.Turns.{IsTurn}
 use Rattle.shared_desk.specs.Seen.{Alike, IsOwn, OneHub, SameOwn, SitsAt, Within}
-use Rattle.test_shared.specs.Sights.{sight_by, knows_at, ready_at, part_at}
+use Rattle.mem_shared.specs.Sights.{sight_by, knows_at, ready_at, part_at}
 
 alike_over : (c : Option Stored) (s : StoreState) (h : HubState) (i k : ℕ) → Alike (knows_over c s h i) (knows_over c s h k)
 alike_over None s h i k = refl

@@ -1,10 +1,11 @@
+//! A desk that goes from seat to seat of its hub.
 ghost use Rattle.std.specs.Prelude.{◌≡◌, ℕ, [], Option, Some, None, true};
 ghost use Rattle.hub_core.specs.HubCalls.{OwnCall};
 ghost use Rattle.hub_core.specs.HubLaws.{seat_tied};
 ghost use Rattle.hub_core.specs.Hubs.{IsReady, hub_stand, hub_state, seat_part};
 ghost use Rattle.mem_store.specs.ListStates.{stand_of};
 ghost use Rattle.shared_desk.specs.Seen.{SeatTurn};
-ghost use Rattle.test_shared.specs.Sights.{sight_by};
+ghost use Rattle.mem_shared.specs.Sights.{sight_by};
 
 use ftn_addr::{Addr, FileKey};
 use hub_core::{DataIn, Desk, DeskFault, FileIn, Hub, HubDesk, Knock, Offer};
@@ -14,7 +15,7 @@ use shared_desk::Roams;
 use std::alloc::Global;
 use turn_gate::Grows;
 
-// The desk of a hub over a store in memory, which goes from seat to seat.
+/// The desk of a hub over a store in memory, which goes from seat to seat.
 #[derive(Drop)]
 pub struct RoundDesk {
     pub desk: HubDesk<ListStore>,
@@ -80,7 +81,7 @@ impl Desk for RoundDesk {
 // The list isn't told: what the sessions recorded is read from their turns.
 impl Grows for RoundDesk {
     ghost use Rattle.std.proofs.Common.{inl, refl};
-    ghost use Rattle.test_shared.specs.SightLaws.{turn_of_nothing};
+    ghost use Rattle.mem_shared.specs.SightLaws.{turn_of_nothing};
 
     type State = Option<Hub<ListStore>>;
 
@@ -113,7 +114,7 @@ impl Grows for RoundDesk {
 
 impl Roams for RoundDesk {
     ghost use Rattle.std.proofs.Common.{refl};
-    ghost use Rattle.test_shared.specs.SightLaws.{one_hub_by, own_by, sits_by, tied_by};
+    ghost use Rattle.mem_shared.specs.SightLaws.{one_hub_by, own_by, sits_by, tied_by};
 
     ghost sight = { sight_by (λ h. stand_of h.store) (λ h. hub_state h.seats) };
 

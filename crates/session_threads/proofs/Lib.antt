@@ -1,0 +1,4 @@
+pub mod AtClose
+pub mod Places
+pub mod Promising
+pub mod Seats
